@@ -1,0 +1,9 @@
+pub mod Lists
+pub mod ConnectionLemmas
+pub mod AfterLemmas
+pub mod Apart
+pub mod Ends
+pub mod Solve
+pub mod Bounds
+pub mod AlongTrains
+pub mod InOrder

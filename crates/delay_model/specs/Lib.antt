@@ -1,0 +1,16 @@
+pub mod Cuts
+pub mod Overrides
+pub mod Changes
+pub mod Waits
+pub mod Events
+pub mod Edges
+pub mod Timing
+pub mod Valid
+pub mod Effect
+pub mod Refusals
+pub mod After
+pub mod Touched
+pub mod Journeys
+pub mod Windows
+pub mod Messages
+pub mod Names

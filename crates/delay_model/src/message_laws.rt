@@ -1,0 +1,29 @@
+//! Laws of messages: the state is a function of the list of accepted messages alone.
+
+ghost use Rattle.std.specs.Prelude.{◌≡◌, ◌↔◌, ◌++◌, ℕ, List, true, length, Contains, Err, Ok};
+ghost use Rattle.mt_base.specs.declared.plans.NewCall.{NewCall as ANewCall};
+ghost use Rattle.delay_model.specs.declared.state.State.{State as AState};
+ghost use Rattle.delay_model.specs.declared.messages.Message.{Message as AMessage};
+ghost use Rattle.delay_model.specs.Refusals.{is_known};
+ghost use Rattle.delay_model.specs.After.{after, accepted, AreAccepted, Reading};
+ghost use Rattle.delay_model.specs.Names.{TrainName, IsExtraNumber};
+
+use crate::messages::Message;
+use crate::network::Network;
+use crate::state::State;
+
+/// The accepted messages of a list of lines are accepted without the other lines too, and two lists of lines with the same
+/// accepted messages leave the same state. Lines are of type `X`, and what is known of names is of type `N`.
+pub fn accepted_messages_decide<X, N>(nw: &Network, st: &State)
+    ensures accepted { (reading : Reading X N) (names : N) (lines : List X) →
+        AreAccepted nw.now st.now (accepted nw.now reading st.now names lines) }
+    ensures alone { (ms ns : List AMessage) → AreAccepted nw.now st.now ms → AreAccepted nw.now st.now ns → ms ≡ ns →
+        after st.now ms ≡ after st.now ns }
+{}
+
+/// Where the names of all trains stand in the order of their numbers, an extra train is known already exactly where a train
+/// has its name.
+pub fn extra_trains_are_known_by_name(st: &State)
+    ensures { (names : List TrainName) (name : TrainName) (n day route : ℕ) (calls : List ANewCall) → length names ≡ length st.now.trains →
+        IsExtraNumber names name n → (is_known st.now (Message.Extra n day route calls) ≡ true) ↔ Contains names name }
+{}

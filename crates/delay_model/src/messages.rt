@@ -1,0 +1,83 @@
+//! Messages about trains, and why one is refused.
+
+use mt_base::keys::Node;
+use mt_base::numbers::{Day, Label, RouteNo, Time, TrainNo};
+use mt_base::plans::NewCall;
+use mt_base::rows::Rows;
+
+/// What a message says about trains, which it names by number.
+#[derive(Drop)]
+pub enum Message {
+    /// The event took place at this time.
+    Report {
+        node: Node,
+        time: Time,
+    },
+    /// The event is expected at this time.
+    Forecast {
+        node: Node,
+        time: Time,
+    },
+    /// The train does not run from the departure of one call to the arrival of a later one.
+    Cancel {
+        train: TrainNo,
+        from: Label,
+        to: Label,
+    },
+    /// Between two of its calls the train makes these calls, and not those that it made so far.
+    Reroute {
+        train: TrainNo,
+        from: Label,
+        to: Label,
+        via: Rows<NewCall>,
+    },
+    /// One more train runs. Its number is the number of trains so far, or that of the train which has its name already.
+    Extra {
+        train: TrainNo,
+        day: Day,
+        route: RouteNo,
+        calls: Rows<NewCall>,
+    },
+    /// The departure waits for the arrival, however late that is.
+    Keep {
+        feeder: Node,
+        train: Node,
+    },
+    /// The departure does not wait for the arrival.
+    Drop {
+        feeder: Node,
+        train: Node,
+    },
+    /// The waiting rules hold again for the arrival and the departure.
+    Rule {
+        feeder: Node,
+        train: Node,
+    },
+}
+
+/// Of what too little is spare.
+#[derive(Clone, Copy, Debug, PartialEq, Eq)]
+pub enum Short {
+    Trains,
+    Calls,
+    Overrides,
+}
+
+/// Why a message is refused.
+#[derive(Clone, Copy, Debug, PartialEq, Eq)]
+pub enum Refusal {
+    /// A train, stop, call or live event that it names is not there, the one call does not stand before the other, or the number of
+    /// an extra train is too great.
+    Unknown,
+    /// The extra train is there already.
+    Known,
+    /// The two calls are of one train, or no change is possible between their stops.
+    NoConnection,
+    /// The event was reported at a time that the message contradicts.
+    Contradiction { event: Node, reported: Time },
+    /// The new timetable would have an edge to an event that is scheduled before the least time of the edge is over, or that is not
+    /// after its origin in the order of keys.
+    AgainstRank { from: Node, to: Node },
+    /// Too little is spare.
+    Full { what: Short },
+}

@@ -1,0 +1,92 @@
+//! The state of the trains, and its events and edges as lists.
+
+use crate::overrides::Overrides;
+use mt_base::keys::Key;
+use mt_base::numbers::{Day, Label, RouteNo, StopNo, Time};
+use mt_base::rows::Rows;
+
+/// What is known of one arrival or departure.
+#[derive(Clone, Copy, Debug)]
+pub struct EventValues {
+    pub scheduled: Time,
+    /// Whether it takes place. A train does not arrive at its first call nor depart from its last, and what is cancelled does not take
+    /// place.
+    pub live: bool,
+    pub forecast: Option<Time>,
+    pub report: Option<Time>,
+}
+
+/// A train's call at a stop.
+#[derive(Clone, Copy, Debug)]
+pub struct Call {
+    pub label: Label,
+    pub stop: StopNo,
+    pub arrival: EventValues,
+    pub departure: EventValues,
+    /// Whether passengers may board.
+    pub board: bool,
+    /// Whether passengers may alight.
+    pub alight: bool,
+}
+
+/// A train on its service day. Its number is its place among the trains.
+#[derive(Drop)]
+pub struct Train {
+    pub day: Day,
+    pub route: RouteNo,
+    /// The label of the next call that a rerouting makes.
+    pub next_label: Label,
+    pub calls: Rows<Call>,
+}
+
+/// The trains, the overrides, and how much room is left for messages to come.
+#[derive(Drop)]
+pub struct State {
+    pub trains: Rows<Train>,
+    pub overrides: Overrides,
+    /// How many more extra trains may be accepted.
+    pub spare_trains: u32,
+    /// How many more calls extra trains and reroutings may make.
+    pub spare_calls: u32,
+    /// How many more connections may be kept or dropped.
+    pub spare_overrides: u32,
+}
+
+/// An arrival or a departure of a train at a stop, as an entry of the list of all events.
+#[derive(Clone, Copy, Debug)]
+pub struct Event {
+    /// The event's train, call and kind, and its scheduled time.
+    pub key: Key,
+    pub stop: StopNo,
+    pub route: RouteNo,
+    pub live: bool,
+    pub forecast: Option<Time>,
+    pub report: Option<Time>,
+}
+
+/// What an edge of the dependency graph stands for.
+#[derive(Clone, Copy, Debug)]
+pub enum EdgeKind {
+    /// The train travels from one stop to the next, or stands at a stop.
+    Train,
+    /// The departure waits for the feeding arrival, but at most so many seconds past its schedule.
+    Planned { wait: u32 },
+    /// A dispatcher keeps the connection: the departure waits without limit.
+    Kept,
+}
+
+/// An edge of the dependency graph: it asks that `to` takes place `weight` seconds after `from` or later, as far as its kind says.
+#[derive(Clone, Copy, Debug)]
+pub struct Edge {
+    pub from: Key,
+    pub to: Key,
+    pub weight: u32,
+    pub kind: EdgeKind,
+}
+
+/// An event's time.
+#[derive(Clone, Copy, Debug)]
+pub struct Timed {
+    pub key: Key,
+    pub time: Time,
+}

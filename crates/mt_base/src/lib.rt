@@ -1,0 +1,24 @@
+//! Plain data of the service: numbers, keys, options, queries, rows of tables, and civil dates.
+#![tactic(auto)]
+
+pub mod calendar;
+pub mod keys;
+pub mod memory;
+pub mod names;
+pub mod numbers;
+pub mod options;
+pub mod plans;
+pub mod rows;
+pub mod tables;
+
+pub use calendar::civil;
+pub use keys::{Key, Node};
+pub use memory::OutOfMemory;
+pub use names::Name;
+pub use numbers::{Day, Label, RouteNo, StopNo, Time, TrainNo};
+pub use options::Opts;
+pub use plans::{Entry, NewCall, PlanRide, Query};
+pub use rows::Rows;
+pub use tables::{
+    CalendarRow, CallRow, DateRow, RuleRow, StopRow, Tables, TransferRow, TripRow, What,
+};

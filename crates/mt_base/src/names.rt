@@ -1,0 +1,52 @@
+//! Names of stops, trips, routes and services.
+
+ghost use Rattle.std.specs.Prelude.{◌≡◌, ◌↔◌, List, ℕ, IfOk, IsTrue, bytes_eq, string_bytes};
+
+use crate::memory::OutOfMemory;
+use std::alloc::Global;
+use std::marker::Model;
+
+/// A name, seen as its bytes in UTF-8.
+#[derive(Drop)]
+pub struct Name {
+    text: String,
+}
+
+impl Model for Name {
+    ghost Value = { List ℕ };
+
+    ghost view = { λ n. string_bytes n.text };
+}
+
+impl Name {
+    /// The name with this text.
+    pub fn build(alloc: Global, t: &str) -> Result<Name, OutOfMemory>
+        ensures { IfOk result (λ n. n ≡ t.now) }
+    {
+        Ok(Name {
+            text: String::from_str(alloc, t)?,
+        })
+    }
+
+    /// Its text.
+    pub fn text(&self) -> &str
+        ensures { result.now ≡ self.now }
+    {
+        self.text.as_str()
+    }
+
+    /// Whether the two names are the same byte for byte.
+    pub fn is_same(&self, other: &Name) -> bool
+        ensures same { IsTrue result ↔ (self.now ≡ other.now) }
+        ensures tested { result ≡ bytes_eq self.now other.now }
+    {
+        self.text() == other.text()
+    }
+
+    /// A second name with the same text.
+    pub fn copy(&self, alloc: Global) -> Result<Name, OutOfMemory>
+        ensures { IfOk result (λ n. n ≡ self.now) }
+    {
+        Name::build(alloc, self.text())
+    }
+}

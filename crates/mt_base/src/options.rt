@@ -1,0 +1,46 @@
+//! The options of the command.
+
+ghost use Rattle.std.specs.Prelude.{◌↔◌, IsTrue};
+
+/// The options, read from the command's words.
+#[derive(Clone, Copy, Debug, PartialEq, Eq)]
+pub struct Opts {
+    /// How much of a scheduled running time a late train can make up, in per cent: 0 to 50.
+    pub slack: u32,
+
+    /// The least time that a late train stands at a stop where it is scheduled to stand that long or longer, in seconds: 0 to 3,600.
+    pub stop: u32,
+
+    /// The change time where no row of `transfers.txt` gives one, in seconds: 1 to 3,600.
+    pub change: u32,
+
+    /// How long after the least change a departure may lie that a train is still planned to feed, in seconds: 0 to 3,600.
+    pub window: u32,
+
+    /// How many extra trains may be accepted: 0 to 2,000.
+    pub spare_trains: u32,
+
+    /// How many calls extra trains and reroutings may make: 0 to 40,000.
+    pub spare_calls: u32,
+
+    /// How many connections may be kept or dropped at a time: 0 to 100,000.
+    pub overrides: u32,
+}
+
+impl Opts {
+    ghost use Rattle.mt_base.specs.Options.{IsInRange};
+
+    /// Whether every option is in its range.
+    pub fn is_in_range(&self) -> bool
+        ensures { IsTrue result ↔ IsInRange self.now }
+    {
+        self.slack <= 50
+            && self.stop <= 3_600
+            && self.change >= 1
+            && self.change <= 3_600
+            && self.window <= 3_600
+            && self.spare_trains <= 2_000
+            && self.spare_calls <= 40_000
+            && self.overrides <= 100_000
+    }
+}
