@@ -42,3 +42,10 @@ accepted nw reading st names [] = []
 accepted nw reading st names (x ∷ xs) =
     option_map_or (λ m. m ∷ accepted nw reading (effect st m) (reading.known names x) xs)
     (accepted_message nw st (reading.message names x)) (accepted nw reading st names xs)
+
+-- the names that are known after these lines
+abbrev pub known_after : {X N : Type 0} → Network → Reading X N → State → N → List X → N
+known_after nw reading st names [] = names
+known_after nw reading st names (x ∷ xs) =
+    option_map_or (λ m. known_after nw reading (effect st m) (reading.known names x) xs)
+    (accepted_message nw st (reading.message names x)) (known_after nw reading st names xs)

@@ -14,8 +14,8 @@ ghost use Rattle.delay_model.specs.Valid.{IsTrain, IsValid};
 use crate::network::Network;
 use crate::state::State;
 
-/// The shown times follow the rule: each live event takes place at its report or, if it has none, as early as its schedule,
-/// its forecast and the trains before it allow. No other times of the live events follow it.
+/// The event times follow the local rule at every live event: its report or, if it has none, as early as its schedule, its forecast
+/// and the trains that feed it allow, but not after a later report of the train. No other times of the live events follow it.
 pub fn event_times_follow_the_rule(nw: &Network, st: &State)
     requires { IsValid nw.now st.now }
     ensures rule { IsTiming nw.now st.now (event_time nw.now st.now) }
@@ -23,8 +23,8 @@ pub fn event_times_follow_the_rule(nw: &Network, st: &State)
         → (v : AnEvent) → Contains (events st.now) v → v.live ≡ true → t v.key ≡ event_time nw.now st.now v.key }
 {}
 
-/// What happens before a point of the schedule is decided by what is before it: whatever follows the rule at each live
-/// event before a key gives these the shown times.
+/// The times before a point of the schedule hang on no time after it: whatever follows the local rule at each live event before
+/// a key gives these their event times.
 pub fn earlier_events_decide(nw: &Network, st: &State)
     requires { IsValid nw.now st.now }
     ensures { (t : AKey → ℕ) (k : AKey)
@@ -41,7 +41,8 @@ pub fn event_times_are_small(nw: &Network, st: &State)
     ensures late { All (λ v. event_time nw.now st.now v.key ≤ v.key.time + 2 ^ 24) (events st.now) }
 {}
 
-/// A train does not leave before it has arrived, and does not arrive before it has left the stop before.
+/// Along a train edge the time does not fall: a train does not leave a stop before it has arrived there, nor arrive before it has
+/// left the stop before, as far as both events are live.
 pub fn times_do_not_fall_along_trains(nw: &Network, st: &State)
     requires { IsValid nw.now st.now }
     ensures { All (λ e. event_time nw.now st.now e.from ≤ event_time nw.now st.now e.to) (train_edges nw.now.opts 0 st.now.trains) }

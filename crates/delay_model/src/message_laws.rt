@@ -5,18 +5,23 @@ ghost use Rattle.mt_base.specs.declared.plans.NewCall.{NewCall as ANewCall};
 ghost use Rattle.delay_model.specs.declared.state.State.{State as AState};
 ghost use Rattle.delay_model.specs.declared.messages.Message.{Message as AMessage};
 ghost use Rattle.delay_model.specs.Refusals.{is_known};
-ghost use Rattle.delay_model.specs.After.{after, accepted, AreAccepted, Reading};
+ghost use Rattle.delay_model.specs.After.{after, accepted, known_after, AreAccepted, Reading};
 ghost use Rattle.delay_model.specs.Names.{TrainName, IsExtraNumber};
 
 use crate::messages::Message;
 use crate::network::Network;
 use crate::state::State;
 
-/// The accepted messages of a list of lines are accepted without the other lines too, and two lists of lines with the same
-/// accepted messages leave the same state. Lines are of type `X`, and what is known of names is of type `N`.
+/// The accepted messages of a list of lines are accepted without the other lines too. The accepted messages of more lines begin
+/// with those of the first lines, and the rest depends on the first lines only by the state and the names that they left. Two lists
+/// with the same messages leave the same state. Lines are of type `X`, and what is known of names is of type `N`.
 pub fn accepted_messages_decide<X, N>(nw: &Network, st: &State)
     ensures accepted { (reading : Reading X N) (names : N) (lines : List X) →
         AreAccepted nw.now st.now (accepted nw.now reading st.now names lines) }
+    ensures more { (reading : Reading X N) (names : N) (lines others : List X) →
+        accepted nw.now reading st.now names (lines ++ others)
+        ≡ accepted nw.now reading st.now names lines
+        ++ accepted nw.now reading (after st.now (accepted nw.now reading st.now names lines)) (known_after nw.now reading st.now names lines) others }
     ensures alone { (ms ns : List AMessage) → AreAccepted nw.now st.now ms → AreAccepted nw.now st.now ns → ms ≡ ns →
         after st.now ms ≡ after st.now ns }
 {}

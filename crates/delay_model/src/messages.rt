@@ -38,7 +38,7 @@ pub enum Message {
         route: RouteNo,
         calls: Rows<NewCall>,
     },
-    /// The departure waits for the arrival, however late that is.
+    /// The departure is to wait for the arrival, without the limit of a waiting rule.
     Keep {
         feeder: Node,
         train: Node,

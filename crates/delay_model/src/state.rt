@@ -71,7 +71,7 @@ pub enum EdgeKind {
     Train,
     /// The departure waits for the feeding arrival, but at most so many seconds past its schedule.
     Planned { wait: u32 },
-    /// A dispatcher keeps the connection: the departure waits without limit.
+    /// A dispatcher keeps the connection: the departure is to wait, without the limit of a waiting rule.
     Kept,
 }
 

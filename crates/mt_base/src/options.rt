@@ -11,7 +11,7 @@ pub struct Opts {
     /// The least time that a late train stands at a stop where it is scheduled to stand that long or longer, in seconds: 0 to 3,600.
     pub stop: u32,
 
-    /// The change time where no row of `transfers.txt` gives one, in seconds: 1 to 3,600.
+    /// The change time where `transfers.txt` gives no seconds, in seconds: 1 to 3,600.
     pub change: u32,
 
     /// How long after the least change a departure may lie that a train is still planned to feed, in seconds: 0 to 3,600.

@@ -1,0 +1,2 @@
+pub mod Compute
+pub mod Rides

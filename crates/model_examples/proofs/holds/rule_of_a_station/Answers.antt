@@ -1,0 +1,9 @@
+use Rattle.std.proofs.Common.{refl}
+use Rattle.delay_model.specs.Changes.{change}
+use Rattle.delay_model.specs.Waits.{wait}
+use Rattle.delay_model.specs.Edges.{transfer}
+use Rattle.model_examples.proofs.holds.rule_of_a_station.Goals as goal
+
+pub returns : goal.returns
+unfolding transfer change wait
+returns c = record { station = refl; elsewhere = refl; other_route = refl }

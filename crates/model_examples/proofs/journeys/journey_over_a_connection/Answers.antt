@@ -1,0 +1,24 @@
+use Rattle.std.proofs.Common.{[], refl, sym, lit≤}
+use Rattle.mt_base.specs.Order.{is_same, is_same_node, is_before}
+use Rattle.delay_model.specs.Changes.{change}
+use Rattle.delay_model.specs.Waits.{wait}
+use Rattle.delay_model.specs.Events.{events}
+use Rattle.delay_model.specs.Edges.{transfer}
+use Rattle.delay_model.specs.Effect.{effect}
+use Rattle.delay_model.specs.Timing.{time, time_within, local, incoming, cap}
+use Rattle.model_examples.specs.TwoTrains.{clock, opts, start}
+use Rattle.model_examples.proofs.Compute.{no_overrides, time-is}
+use Rattle.model_examples.proofs.Rides.{Sight, sight, passes_none, from_a_to_d}
+use Rattle.model_examples.proofs.journeys.journey_over_a_connection.Goals as goal
+
+seen : Sight (start opts) (clock 8 0 0) (clock 8 30 0) (clock 8 32 0) (clock 9 0 0) (clock 8 36 0) (clock 9 10 0)
+unfolding time time_within local incoming cap transfer change wait events effect is_same is_same_node is_before
+seen = sight _ _ _ _ _ _ _ _ _ _ _ _ _ _ refl refl refl refl refl refl refl refl (time-is _ _ no_overrides _ _ refl) (time-is _ _ no_overrides _ _ refl) (time-is _ _ no_overrides _ _ refl) (time-is _ _ no_overrides _ _ refl) (time-is _ _ no_overrides _ _ refl) (time-is _ _ no_overrides _ _ refl)
+
+pub returns : goal.returns
+unfolding time time_within local incoming cap transfer change wait events effect is_same is_same_node is_before
+returns c =
+    record {
+      journey = (record { by_train = _; calls_before = []; boarded = _; calls_between = []; alighted = _; calls_after = _; is_train = refl; are_calls = refl; board_label = refl; board_stop = refl; board_time = sym (time-is _ _ no_overrides _ _ refl); alight_label = refl; alight_stop = refl; alight_time = sym (time-is _ _ no_overrides _ _ refl); departs = refl; passes = passes_none; arrives = refl; may_board = refl; may_alight = refl }, lit≤ tt, (record { by_train = _; calls_before = []; boarded = _; calls_between = []; alighted = _; calls_after = _; is_train = refl; are_calls = refl; board_label = refl; board_stop = refl; board_time = sym (time-is _ _ no_overrides _ _ refl); alight_label = refl; alight_stop = refl; alight_time = sym (time-is _ _ no_overrides _ _ refl); departs = refl; passes = passes_none; arrives = refl; may_board = refl; may_alight = refl }, (_, refl, lit≤ tt), (refl, refl)));
+      least = λ rides at j. (from_a_to_d seen rides at j).1;
+    }

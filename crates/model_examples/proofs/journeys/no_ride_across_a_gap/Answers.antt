@@ -1,0 +1,9 @@
+use Rattle.std.proofs.Common.{refl, lit<}
+use Rattle.mt_base.specs.Order.{is_same_node}
+use Rattle.delay_model.specs.Effect.{effect}
+use Rattle.model_examples.proofs.Rides.{alights_before_a_gap}
+use Rattle.model_examples.proofs.journeys.no_ride_across_a_gap.Goals as goal
+
+pub returns : goal.returns
+unfolding effect is_same_node
+returns c = alights_before_a_gap _ _ _ _ _ _ _ _ refl refl refl (lit< tt) (lit< tt) (lit< tt)

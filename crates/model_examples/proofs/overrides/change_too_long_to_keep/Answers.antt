@@ -1,0 +1,23 @@
+use Rattle.std.proofs.Common.{[], None, Some, refl}
+use Rattle.mt_base.specs.Order.{is_same, is_same_node, is_before}
+use Rattle.delay_model.specs.declared.messages.Refusal.TheVariants.{AgainstRank}
+use Rattle.delay_model.specs.Changes.{change}
+use Rattle.delay_model.specs.Waits.{wait}
+use Rattle.delay_model.specs.Events.{events}
+use Rattle.delay_model.specs.Edges.{transfer}
+use Rattle.delay_model.specs.Effect.{effect}
+use Rattle.delay_model.specs.After.{after}
+use Rattle.delay_model.specs.Refusals.{refusal}
+use Rattle.delay_model.specs.Timing.{cap}
+use Rattle.model_examples.specs.TwoTrains.{opts, network, start, arrival, departure}
+use Rattle.model_examples.proofs.Compute.{no_overrides, keep-answer, drop-answer}
+use Rattle.model_examples.proofs.overrides.change_too_long_to_keep.Goals as goal
+
+pub returns : goal.returns
+unfolding cap transfer change wait events effect refusal is_same is_same_node is_before
+returns c =
+    record {
+      shortest = keep-answer (network (record opts { change = 360 })) (after (start (record opts { change = 360 })) []) (arrival 0 1) (departure 1 0) no_overrides _ refl None refl;
+      too_long = keep-answer (network (record opts { change = 361 })) (after (start (record opts { change = 361 })) []) (arrival 0 1) (departure 1 0) no_overrides _ refl (Some (AgainstRank (arrival 0 1) (departure 1 0))) refl;
+      to_drop = drop-answer (network (record opts { change = 361 })) (after (start (record opts { change = 361 })) []) (arrival 0 1) (departure 1 0) no_overrides _ refl None refl;
+    }

@@ -1,0 +1,9 @@
+use Rattle.std.proofs.Common.{refl}
+use Rattle.delay_model.specs.Changes.{change}
+use Rattle.delay_model.specs.Waits.{wait}
+use Rattle.delay_model.specs.Edges.{transfer}
+use Rattle.model_examples.proofs.overrides.kept_edge.Goals as goal
+
+pub returns : goal.returns
+unfolding transfer change wait
+returns c = record { planned = refl; no_rule = refl; past_the_window = refl; dropped = refl; not_back = refl }

@@ -1,0 +1,20 @@
+use Rattle.std.proofs.Common.{refl}
+use Rattle.mt_base.specs.Order.{is_same, is_same_node, is_before}
+use Rattle.delay_model.specs.Changes.{change}
+use Rattle.delay_model.specs.Waits.{wait}
+use Rattle.delay_model.specs.Events.{events}
+use Rattle.delay_model.specs.Edges.{transfer}
+use Rattle.delay_model.specs.Effect.{effect}
+use Rattle.delay_model.specs.Refusals.{refusal}
+use Rattle.delay_model.specs.Timing.{time, time_within, local, incoming, cap}
+use Rattle.model_examples.proofs.Compute.{no_overrides, with_override, times-are, count-is, ◌and◌}
+use Rattle.model_examples.proofs.overrides.kept_without_a_rule.Goals as goal
+
+pub returns : goal.returns
+unfolding time time_within local incoming cap transfer change wait events effect refusal is_same is_same_node is_before
+returns c =
+    let k = with_override _ _ no_overrides in
+    record {
+      changed = count-is _ _ _ no_overrides no_overrides _ refl and count-is _ _ _ no_overrides k _ refl and refl;
+      kept = times-are _ _ k _ refl;
+    }

@@ -1,0 +1,14 @@
+use Rattle.std.proofs.Common.{refl}
+use Rattle.mt_base.specs.Order.{is_same, is_same_node, is_before}
+use Rattle.delay_model.specs.Changes.{change}
+use Rattle.delay_model.specs.Waits.{wait}
+use Rattle.delay_model.specs.Events.{events}
+use Rattle.delay_model.specs.Edges.{transfer}
+use Rattle.delay_model.specs.Effect.{effect}
+use Rattle.delay_model.specs.Refusals.{refusal}
+use Rattle.delay_model.specs.Timing.{cap}
+use Rattle.model_examples.proofs.reports.dead_event_is_unknown.Goals as goal
+
+pub returns : goal.returns
+unfolding cap transfer change wait events effect refusal is_same is_same_node is_before
+returns c = record { last_departure = refl; first_arrival = refl; cancelled = refl; no_call = refl; no_train = refl }

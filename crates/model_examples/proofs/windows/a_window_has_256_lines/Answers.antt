@@ -1,0 +1,7 @@
+use Rattle.std.proofs.Common.{refl}
+use Rattle.delay_model.specs.Windows.{windows}
+use Rattle.model_examples.proofs.windows.a_window_has_256_lines.Goals as goal
+
+pub returns : goal.returns
+unfolding windows
+returns c = record { full = refl; just_full = refl; flush = refl; after_a_flush = refl }

@@ -1,0 +1,7 @@
+use Rattle.std.proofs.Common.{refl}
+use Rattle.delay_model.specs.Windows.{windows}
+use Rattle.model_examples.proofs.windows.queries_within_a_window.Goals as goal
+
+pub returns : goal.returns
+unfolding windows
+returns c = refl

@@ -1,0 +1,5 @@
+use Rattle.std.proofs.Common.{refl}
+use Rattle.model_examples.proofs.windows.single_lines.Goals as goal
+
+pub returns : goal.returns
+returns c = refl
