@@ -72,8 +72,9 @@ pub record IsValid (nw : Network) (st : State) : Type 0 where
   pub small : All IsSmall (events st)
 
 -- the numbers of trains, calls and overrides, with those that are spare, are numbers of 32 bits. What is taken from the spare
--- ones is added to the others, so accepted messages are to keep it
+-- ones is added to the others
 pub record HasRoom (st : State) : Type 0 where
   pub trains : length st.trains + st.spare_trains < 2 ^ 32
   pub calls : All (λ t. t.next_label + st.spare_calls < 2 ^ 32) st.trains
+  pub spare : st.spare_calls < 2 ^ 32
   pub overrides : len st.overrides + st.spare_overrides < 2 ^ 32

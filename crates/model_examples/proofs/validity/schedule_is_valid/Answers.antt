@@ -52,5 +52,6 @@ returns-clause-room c =
     record {
       trains = lit< tt;
       calls = All-from_recursion (λ (t : Train). t.next_label + 4000 < 2 ^ 32) (t1 ∷ t2 ∷ []) (lit< tt, (lit< tt, tt));
+      spare = lit< tt;
       overrides = subst (λ n. n + 10000 < 2 ^ 32) (sym (len-empty connection_cmp Override)) (lit< tt);
     }

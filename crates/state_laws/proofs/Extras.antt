@@ -1,0 +1,183 @@
+-- An extra train is good: its events are new, and its edges were tested.
+use Rattle.std.proofs.Common.{◌≡◌, ℕ, Bool, ◌+◌, ◌^◌, ◌<◌, ◌≤◌, true, false, nat_le, List, [], ◌∷◌, ◌++◌, Some, None, length, refl, sym, ◌∙◌, ap, subst, arith, inl, inr}
+use Rattle.std.proofs.Math.Logic.{◌≢◌}
+use Rattle.std.specs.Option.{IfSome, option_map_or}
+use Rattle.std.specs.List.{All, Contains, slice_get}
+use Rattle.std.proofs.lemmas.Bool.{cond_both, and_parts, not-false, ltb-false, leb-true}
+use Rattle.std.proofs.lemmas.List.{append-nil}
+use Rattle.std.proofs.lemmas.List.Elements.{All-cons, All-nil, All-tail, All-head, All-weaker, Contains-append_left, Contains-append_right, Contains-append_cases}
+use Rattle.mt_base.specs.declared.plans.NewCall.{NewCall}
+use Rattle.delay_model.specs.declared.network.Network.{Network}
+use Rattle.delay_model.specs.declared.messages.Message.TheVariants.{Extra}
+use Rattle.delay_model.specs.declared.state.EventValues.{EventValues}
+use Rattle.delay_model.specs.declared.state.Call.{Call}
+use Rattle.delay_model.specs.declared.state.Train.{Train}
+use Rattle.delay_model.specs.declared.state.State.{State}
+use Rattle.delay_model.specs.declared.state.Event.{Event}
+use Rattle.delay_model.specs.Effect.{effect, new_calls, new_call, new_train, begin_run, end_run, change_event, killed}
+use Rattle.delay_model.specs.Events.{events, events_at, events_of, events_from, arrival_of, departure_of, live_report}
+use Rattle.delay_model.specs.Edges.{edges_along}
+use Rattle.delay_model.specs.Messages.{IsSmallCall}
+use Rattle.delay_model.specs.Refusals.{refusal, first_against_rank, are_at_stops}
+use Rattle.delay_model.specs.Valid.{IsForward, IsSmall, IsRun, HasDistinctLabels, HasReportsInOrder, AreReportedFrom, IsValid}
+use Rattle.state_laws.proofs.Parts.{AtEach, each-head, each-tail, each-from, each-none, IsGood, IsUnreported, valid-from, valid-good, valid-carried}
+use Rattle.state_laws.proofs.Accepted.{accepted-by}
+use Rattle.state_laws.proofs.Values.{carried-over}
+use Rattle.state_laws.proofs.Choices.{none-against}
+use Rattle.state_laws.proofs.Stretches.{events_at-each}
+
+-- values with a small time, and with no forecast and no report
+pub record IsFresh (e : EventValues) : Type 0 where
+  pub small : e.scheduled < 2 ^ 24
+  pub forecast : e.forecast ≡ None
+  pub report : e.report ≡ None
+
+-- a call with such values, at a label in a range
+pub record IsFreshCall (low high : ℕ) (c : Call) : Type 0 where
+  pub arrival : IsFresh c.arrival
+  pub departure : IsFresh c.departure
+  pub from : low ≤ c.label
+  pub below : c.label < high
+
+call-fresh : (label high : ℕ) (c : NewCall) → label < high → IsSmallCall c → IsFreshCall label high (new_call label c)
+call-fresh label high c less small =
+    record {
+      arrival = record { small = small.0; forecast = refl; report = refl };
+      departure = record { small = small.1; forecast = refl; report = refl };
+      from = omega arith;
+      below = less;
+    }
+
+from-later : (label high : ℕ) (cs : List Call) → All (IsFreshCall (label + 1) high) cs → All (IsFreshCall label high) cs
+from-later label high cs h =
+    All-weaker (IsFreshCall (label + 1) high) (IsFreshCall label high) (λ d f. record { arrival = f.arrival; departure = f.departure; from = omega (arith, f.from); below = f.below }) cs h
+
+other-later : (label high : ℕ) (cs : List Call) → All (IsFreshCall (label + 1) high) cs → All (λ d. label ≢ d.label) cs
+other-later label high cs h = All-weaker (IsFreshCall (label + 1) high) (λ d. label ≢ d.label) (λ d f e. let le = f.from in absurd (omega arith)) cs h
+
+pub new-fresh : (label high : ℕ) (cs : List NewCall) → label + length cs ≤ high → All IsSmallCall cs → All (IsFreshCall label high) (new_calls label cs)
+new-fresh label high [] le h = All-nil (IsFreshCall label high)
+new-fresh label high (c ∷ cs) le h =
+    All-cons (IsFreshCall label high) (new_call label c) (new_calls (label + 1) cs) (call-fresh label high c (omega arith) (All-head IsSmallCall c cs h))
+    (from-later label high (new_calls (label + 1) cs) (new-fresh (label + 1) high cs (omega arith) (All-tail IsSmallCall c cs h)))
+
+pub new-distinct : (label : ℕ) (cs : List NewCall) → All IsSmallCall cs → HasDistinctLabels (new_calls label cs)
+new-distinct label [] h = tt
+new-distinct label (c ∷ cs) h =
+    let rest = All-tail IsSmallCall c cs h in
+    let high = label + 1 + length cs in
+    (other-later label high (new_calls (label + 1) cs) (new-fresh (label + 1) high cs (omega arith) rest), new-distinct (label + 1) cs rest)
+
+-- the calls of an extra train, from a call that is reached or not
+record IsMade (live : Bool) (low high : ℕ) (cs : List Call) : Type 0 where
+  pub fresh : All (IsFreshCall low high) cs
+  pub labels : HasDistinctLabels cs
+  pub run : IsRun live cs
+
+end-made : (label high : ℕ) (c : NewCall) (cs : List NewCall) → label + 1 + length cs ≤ high → All IsSmallCall (c ∷ cs) → IsMade true label high (end_run (new_calls label (c ∷ cs)))
+end-made label high c [] le h =
+    let f = call-fresh label high c (omega arith) (All-head IsSmallCall c [] h) in
+    let last = change_event true (killed true) (new_call label c) in
+    let fresh : IsFreshCall label high last = record { arrival = f.arrival; departure = record { small = f.departure.small; forecast = refl; report = refl }; from = f.from; below = f.below } in
+    record { fresh = All-cons (IsFreshCall label high) last [] fresh (All-nil (IsFreshCall label high)); labels = (All-nil (λ (d : Call). label ≢ d.label), tt); run = (refl, refl) }
+end-made label high c (d ∷ ds) le h =
+    let rest = end-made (label + 1) high d ds (omega arith) (All-tail IsSmallCall c (d ∷ ds) h) in
+    let cs = end_run (new_calls (label + 1) (d ∷ ds)) in
+    let fresh = call-fresh label high c (omega arith) (All-head IsSmallCall c (d ∷ ds) h) in
+    record {
+      fresh = All-cons (IsFreshCall label high) (new_call label c) cs fresh (from-later label high cs rest.fresh);
+      labels = (other-later label high cs rest.fresh, rest.labels);
+      run = (refl, rest.run);
+    }
+
+begin-made : (low high : ℕ) (cs : List Call) → IsMade true low high cs → IsMade false low high (begin_run cs)
+begin-made low high [] m = let e = m.run in absurd (cc)
+begin-made low high (c ∷ cs) m =
+    let P = IsFreshCall low high in
+    let f = All-head P c cs m.fresh in
+    let first : P (change_event false (killed true) c) =
+    record { arrival = record { small = f.arrival.small; forecast = f.arrival.forecast; report = f.arrival.report }; departure = f.departure; from = f.from; below = f.below }
+    in
+    record { fresh = All-cons P (change_event false (killed true) c) cs first (All-tail P c cs m.fresh); labels = m.labels; run = (refl, m.run.1) }
+
+made : (cs : List NewCall) → All IsSmallCall cs → IsMade false 0 (length cs) (begin_run (end_run (new_calls 0 cs)))
+made [] h = record { fresh = All-nil (IsFreshCall 0 0); labels = tt; run = refl }
+made (c ∷ cs) h = begin-made 0 (length (c ∷ cs)) (end_run (new_calls 0 (c ∷ cs))) (end-made 0 (length (c ∷ cs)) c cs (omega arith) h)
+
+pub none-live : (v : Event) → v.report ≡ None → live_report v ≡ None
+none-live v h = cond_both v.live v.report None (λ o. o ≡ None) (λ _. h) (λ _. refl)
+
+-- events of which none is reported stand before others whose reports are in order
+pub silent-before : (es ys : List Event) → All (λ v. live_report v ≡ None) es → HasReportsInOrder ys → HasReportsInOrder (es ++ ys)
+silent-before [] ys h order = order
+silent-before (v ∷ vs) ys h order =
+    let P : Event → Type 0 = λ v. live_report v ≡ None in
+    (subst (λ o. IfSome o (λ r. AreReportedFrom r (vs ++ ys))) (sym (All-head P v vs h)) tt, silent-before vs ys (All-tail P v vs h) order)
+
+-- what is known of the events of fresh calls
+pub fresh-each : (P : Event → Type 0) → ((v : Event) → v.key.time < 2 ^ 24 → v.forecast ≡ None → v.report ≡ None → P v) → (low high n route : ℕ) (cs : List Call) → All (IsFreshCall low high) cs → All P (events_at n route cs)
+fresh-each P each low high n route cs h =
+    events_at-each P (IsFreshCall low high) n route (λ c f. (each (arrival_of n route c) f.arrival.small f.arrival.forecast f.arrival.report, each (departure_of n route c) f.departure.small f.departure.forecast f.departure.report)) cs h
+
+pub fresh-small : (v : Event) → v.key.time < 2 ^ 24 → v.forecast ≡ None → v.report ≡ None → IsSmall v
+fresh-small v time forecast report =
+    record {
+      scheduled = time;
+      forecast = subst (λ o. IfSome o (λ t. t < 2 ^ 24)) (sym forecast) tt;
+      report = subst (λ o. IfSome o (λ t. t < 2 ^ 24)) (sym report) tt;
+    }
+
+new-good : (nw : Network) (n day route : ℕ) (cs : List NewCall) → All IsSmallCall cs → All IsForward (edges_along nw.opts (events_of n (new_train day route cs))) → IsGood nw n (new_train day route cs)
+new-good nw n day route cs small forward =
+    let l = length cs in
+    let calls = begin_run (end_run (new_calls 0 cs)) in
+    let m = made cs small in
+    record {
+      train = record {
+        labels = m.labels;
+        used = All-weaker (IsFreshCall 0 l) (λ c. c.label < l) (λ c f. f.below) calls m.fresh;
+        run = m.run;
+        reports = λ number.
+            let es = events_at number route calls in
+            subst HasReportsInOrder (append-nil es) (silent-before es [] (fresh-each (λ v. live_report v ≡ None) (λ v _ _ r. none-live v r) 0 l number route calls m.fresh) tt);
+      };
+      forward = forward;
+      unreported = fresh-each IsUnreported (λ v _ _ r _. r) 0 l n route calls m.fresh;
+      small = fresh-each IsSmall fresh-small 0 l n route calls m.fresh;
+    }
+
+each-push : (Q : ℕ → Train → Type 0) (first at : ℕ) (ts : List Train) (t : Train) → at ≡ first + length ts → AtEach Q first ts → Q at t → AtEach Q first (ts ++ t ∷ [])
+each-push Q first at [] t e h q = let same : at ≡ first = omega arith in each-from Q first t [] (subst (λ n. Q n t) same q) (each-none Q (first + 1))
+each-push Q first at (u ∷ us) t e h q =
+    each-from Q first u (us ++ t ∷ []) (each-head Q first u us h) (each-push Q (first + 1) at us t (omega arith) (each-tail Q first u us h) q)
+
+contains-push : (first : ℕ) (ts : List Train) (t : Train) (v : Event) → Contains (events_from first ts) v → Contains (events_from first (ts ++ t ∷ [])) v
+contains-push first [] t v h = let l = h.1 in absurd (omega arith)
+contains-push first (u ∷ us) t v h =
+    let rest = events_from (first + 1) (us ++ t ∷ []) in
+    elim (Contains-append_cases (events_of first u) (events_from (first + 1) us) v h) [
+      | inl here ↦ Contains-append_left (events_of first u) rest v here
+      | inr there ↦ Contains-append_right (events_of first u) rest v (contains-push (first + 1) us t v there)
+    ]
+
+get-push : (ts : List Train) (t : Train) → slice_get (ts ++ t ∷ []) (length ts) ≡ Some t
+get-push [] t = refl
+get-push (u ∷ us) t = get-push us t
+
+pub extra-valid : (nw : Network) (st : State) (n day route : ℕ) (cs : List NewCall) → IsValid nw st → All IsSmallCall cs → refusal nw st (Extra n day route cs) ≡ None → IsValid nw (effect st (Extra n day route cs))
+unfolding effect events
+extra-valid nw st n day route cs valid small h =
+    let a = accepted-by nw st (Extra n day route cs) h in
+    let t = new_train day route cs in
+    let ts = st.trains in
+    let low = leb-true n (length ts) (and_parts (nat_le n (length ts)) (are_at_stops nw cs) (not-false _ a.known)).0 in
+    let high = ltb-false n (length ts) a.new in
+    let at : n ≡ length ts = omega arith in
+    let got : slice_get (ts ++ t ∷ []) n ≡ Some t = ap (slice_get (ts ++ t ∷ [])) at ∙ get-push ts t in
+    let forward = none-against _ (subst (λ o. first_against_rank (edges_along nw.opts (option_map_or (events_of n) o [])) ≡ None) got a.in_rank) in
+    let new = effect st (Extra n day route cs) in
+    valid-from nw new valid.options (each-push (IsGood nw) 0 n ts t (omega arith) (valid-good nw st valid) (new-good nw n day route cs small forward)) (λ p o got.
+    let c = valid-carried nw st valid p o got in
+    let u = c.joins.arrival in
+    let v = c.joins.departure in
+    carried-over nw (events st) (events new) p o c u.forecast u.report v.forecast v.report (contains-push 0 ts t u c.joins.arrival_there) (contains-push 0 ts t v c.joins.departure_there))

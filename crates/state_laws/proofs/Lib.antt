@@ -1,0 +1,11 @@
+pub mod Parts
+pub mod Changed
+pub mod Accepted
+pub mod Values
+pub mod Choices
+pub mod Stretches
+pub mod Cancels
+pub mod Extras
+pub mod Splits
+pub mod Reroutes
+pub mod Room
