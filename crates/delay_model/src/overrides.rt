@@ -1,12 +1,13 @@
 //! The connections that dispatchers keep or drop.
 
-ghost use Rattle.std.specs.Prelude.{◌≡◌, OnOk, OnErr};
+ghost use Rattle.std.specs.Prelude.{◌≡◌, IfOk, OnOk, OnErr};
 ghost use Rattle.std.specs.FinMap as map;
 ghost use Rattle.delay_model.specs.Overrides.{connection_cmp};
 ghost use Rattle.delay_model.specs.declared.overrides.Override.{Override as AnOverride};
 
 use mt_base::keys::Node;
-use std::alloc::{AllocError, Global};
+use mt_base::memory::OutOfMemory;
+use std::alloc::Global;
 use std::collections::BTreeMap;
 use std::marker::Model;
 
@@ -52,6 +53,15 @@ impl Overrides {
         }
     }
 
+    /// The same overrides once more.
+    pub fn copy(&self) -> Result<Overrides, OutOfMemory>
+        ensures { IfOk result (λ copy. copy ≡ self.now) }
+    {
+        Ok(Overrides {
+            rows: self.rows.clone()?,
+        })
+    }
+
     /// The override of a connection.
     pub fn get(&self, connection: &Connection) -> Option<Override>
         ensures { result ≡ map.get self.now connection.now }
@@ -60,7 +70,7 @@ impl Overrides {
     }
 
     /// Keeps or drops a connection, in place of what was chosen before.
-    pub fn set(&mut self, connection: Connection, choice: Override) -> Result<(), AllocError>
+    pub fn set(&mut self, connection: Connection, choice: Override) -> Result<(), OutOfMemory>
         ensures ok { OnOk result (self.new ≡ map.insert self.old connection choice) }
         ensures err { OnErr result (self.new ≡ self.old) }
     {
