@@ -58,8 +58,9 @@ names_of es = map (λ (v : Event). node_of v.key) es
 abbrev pub new_events : State → ℕ → List NewCall → List Event
 new_events st train via = of_train st train (λ t. events_at train t.route (new_calls t.next_label via))
 
--- the events whose own values, cap or edges a message changes. Of a report: the event, and the live events of the train
--- before it back to the last reported one, that one excluded. Of a rerouting the new events and the arrival they lead to
+-- the events that a message bears on by itself. Of a report: the event, and the live events of the train before it back to
+-- the last reported one, that one excluded, since the report caps them. Of a rerouting: the new events and the arrival that
+-- they lead to. Of a kept, dropped or freed connection: the departure
 abbrev pub named : State → Message → List Node
 named st (Report n t) = names_of (live_events (since_report (before (is_event n) (train_events st n.train)))) ++ (n ∷ [])
 named st (Forecast n t) = n ∷ []

@@ -40,17 +40,17 @@ override-left m es p o h =
     cond_both (test p) (get m p) None (λ c. c ≡ Some o → (get m p ≡ Some o) × (is_among es p.arrival ≡ false) × (is_among es p.departure ≡ false)) (λ free old.
     let parts = or_parts (is_among es p.arrival) (is_among es p.departure) (not-true _ free) in (old, parts.0, parts.1)) (λ _ none. absurd (cc)) there
 
-abbrev no_more : Event → Event
+abbrev pub no_more : Event → Event
 no_more v = record v { live = false }
 
-abbrev kill_at : List Event → Event → Event
+abbrev pub kill_at : List Event → Event → Event
 kill_at es v = cond (is_among es (node_of v.key)) (no_more v) v
 
 killed-event : (train route label stop : ℕ) (dep b : Bool) (e : EventValues) → event_by train route label stop dep (killed b e) ≡ cond b (no_more (event_by train route label stop dep e)) (event_by train route label stop dep e)
 killed-event train route label stop dep true e = refl
 killed-event train route label stop dep false e = refl
 
-kill-mapped : (n : ℕ) (es : List Event) → IsMapped n (kill_in es n) (kill_at es)
+pub kill-mapped : (n : ℕ) (es : List Event) → IsMapped n (kill_in es n) (kill_at es)
 kill-mapped n es =
     record {
       arrivals = λ route c. killed-event n route c.label c.stop false (is_among es (node_at n c.label false)) c.arrival;
@@ -59,7 +59,7 @@ kill-mapped n es =
       lives = λ v. cond_both (is_among es (node_of v.key)) (no_more v) v (λ w. w.live ≡ true → v.live ≡ true) (λ _ h. absurd (cc)) (λ _ h. h);
     }
 
-no-report : (o : Option ℕ) → IfSome o (λ r. true ≡ false) → o ≡ None
+pub no-report : (o : Option ℕ) → IfSome o (λ r. true ≡ false) → o ≡ None
 no-report None h = refl
 no-report (Some r) h = absurd (cc)
 

@@ -24,7 +24,7 @@ use Rattle.delay_model.proofs.Apart.{events_at-train}
 use Rattle.state_laws.proofs.Parts.{AtEach, each-head, each-tail, each-from, each-none, events-from_each, events-each, valid-good, IsGood, IsUnreported, All-left, All-right}
 
 -- a mapped list contains what its elements are mapped to
-Contains-map : {X Y : Type 0} (f : X → Y) (xs : List X) (x : X) → Contains xs x → Contains (map f xs) (f x)
+pub Contains-map : {X Y : Type 0} (f : X → Y) (xs : List X) (x : X) → Contains xs x → Contains (map f xs) (f x)
 Contains-map f [] x h = let l = h.1 in absurd (omega arith)
 Contains-map f (y ∷ ys) x h =
     elim (Contains-cases y ys x h) [
@@ -46,7 +46,7 @@ each-change Q f first (suc n) (t ∷ ts) h k =
     each-from Q first t (change_train n f ts) (each-head Q first t ts h)
     (each-change Q f (first + 1) n ts (each-tail Q first t ts h) (λ at u e s. k at u (omega arith) s))
 
-later-trains : (first : ℕ) (ts : List Train) → All (λ v. first ≤ v.key.train) (events_from first ts)
+pub later-trains : (first : ℕ) (ts : List Train) → All (λ v. first ≤ v.key.train) (events_from first ts)
 later-trains first ts = events-from_each (λ v. first ≤ v.key.train) first ts (λ k at t e s.
     All-weaker (λ v. v.key.train ≡ at) (λ v. first ≤ v.key.train) (λ v same. omega arith) (events_of at t) (events_at-train at t.route t.calls))
 
@@ -98,7 +98,7 @@ pub record IsMapped (n : ℕ) (g : Call → Call) (h : Event → Event) : Type 0
   pub keys : (v : Event) → (h v).key ≡ v.key
   pub lives : (v : Event) → (h v).live ≡ true → v.live ≡ true
 
-events_at-mapped : (n : ℕ) (g : Call → Call) (h : Event → Event) (route : ℕ) (cs : List Call) → IsMapped n g h → events_at n route (map g cs) ≡ map h (events_at n route cs)
+pub events_at-mapped : (n : ℕ) (g : Call → Call) (h : Event → Event) (route : ℕ) (cs : List Call) → IsMapped n g h → events_at n route (map g cs) ≡ map h (events_at n route cs)
 events_at-mapped n g h route [] m = refl
 events_at-mapped n g h route (c ∷ cs) m =
     let a = m.arrivals route c in let b = m.departures route c in let d = events_at-mapped n g h route cs m in cc
@@ -133,7 +133,7 @@ edge_by : Opts → Key → Key → Edge
 edge_by o k l =
     let d = l.time - k.time in record { from = k; to = l; weight = cond k.dep (minimum_running o d) (minimum_dwell o d); kind = AlongTrain }
 
-along-mapped : (n : ℕ) (g : Call → Call) (h : Event → Event) → IsMapped n g h → (o : Opts) (P : Edge → Type 0) (es : List Event) → All P (edges_along o es) → All P (edges_along o (map h es))
+pub along-mapped : (n : ℕ) (g : Call → Call) (h : Event → Event) → IsMapped n g h → (o : Opts) (P : Edge → Type 0) (es : List Event) → All P (edges_along o es) → All P (edges_along o (map h es))
 unfolding edge_by
 along-mapped n g h m o P [] all = All-nil P
 along-mapped n g h m o P (u ∷ []) all = All-nil P

@@ -102,7 +102,7 @@ pair-carried nw st feeder train o valid kinds known connects in_rank =
       forward = λ kept. subst (All IsForward) edge (none-against (kept_edge nw st feeder train) (in_rank kept));
     }
 
-eq-Equal : (o : Ordering) → is_eq o ≡ true → o ≡ Equal
+pub eq-Equal : (o : Ordering) → is_eq o ≡ true → o ≡ Equal
 eq-Equal Less h = absurd (cc)
 eq-Equal Equal h = refl
 eq-Equal Greater h = absurd (cc)

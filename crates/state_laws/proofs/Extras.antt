@@ -69,7 +69,7 @@ new-distinct label (c ∷ cs) h =
     (other-later label high (new_calls (label + 1) cs) (new-fresh (label + 1) high cs (omega arith) rest), new-distinct (label + 1) cs rest)
 
 -- the calls of an extra train, from a call that is reached or not
-record IsMade (live : Bool) (low high : ℕ) (cs : List Call) : Type 0 where
+pub record IsMade (live : Bool) (low high : ℕ) (cs : List Call) : Type 0 where
   pub fresh : All (IsFreshCall low high) cs
   pub labels : HasDistinctLabels cs
   pub run : IsRun live cs
@@ -100,7 +100,7 @@ begin-made low high (c ∷ cs) m =
     in
     record { fresh = All-cons P (change_event false (killed true) c) cs first (All-tail P c cs m.fresh); labels = m.labels; run = (refl, m.run.1) }
 
-made : (cs : List NewCall) → All IsSmallCall cs → IsMade false 0 (length cs) (begin_run (end_run (new_calls 0 cs)))
+pub made : (cs : List NewCall) → All IsSmallCall cs → IsMade false 0 (length cs) (begin_run (end_run (new_calls 0 cs)))
 made [] h = record { fresh = All-nil (IsFreshCall 0 0); labels = tt; run = refl }
 made (c ∷ cs) h = begin-made 0 (length (c ∷ cs)) (end_run (new_calls 0 (c ∷ cs))) (end-made 0 (length (c ∷ cs)) c cs (omega arith) h)
 
@@ -160,7 +160,7 @@ contains-push first (u ∷ us) t v h =
       | inr there ↦ Contains-append_right (events_of first u) rest v (contains-push (first + 1) us t v there)
     ]
 
-get-push : (ts : List Train) (t : Train) → slice_get (ts ++ t ∷ []) (length ts) ≡ Some t
+pub get-push : (ts : List Train) (t : Train) → slice_get (ts ++ t ∷ []) (length ts) ≡ Some t
 get-push [] t = refl
 get-push (u ∷ us) t = get-push us t
 

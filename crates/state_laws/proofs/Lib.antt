@@ -9,3 +9,16 @@ pub mod Extras
 pub mod Splits
 pub mod Reroutes
 pub mod Room
+pub mod Untouched
+pub mod Joined
+pub mod Caps
+pub mod Mappings
+pub mod Placed
+pub mod Settings
+pub mod Reports
+pub mod Chosen
+pub mod Cancelled
+pub mod Added
+pub mod Swapped
+pub mod Left
+pub mod Stays

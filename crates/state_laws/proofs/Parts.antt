@@ -38,7 +38,7 @@ All-left P xs ys h = All-weaker (Contains xs) P (λ x c. All-contains P (xs ++ y
 pub All-right : {X : Type 0} (P : X → Type 0) (xs ys : List X) → All P (xs ++ ys) → All P ys
 All-right P xs ys h = All-weaker (Contains ys) P (λ x c. All-contains P (xs ++ ys) x h (Contains-append_right xs ys x c)) ys (All-contains_itself ys)
 
-All-part : {X Y : Type 0} (P : Y → Type 0) (f : X → List Y) (xs : List X) → All P (flat_map f xs) → All (λ x. All P (f x)) xs
+pub All-part : {X Y : Type 0} (P : Y → Type 0) (f : X → List Y) (xs : List X) → All P (flat_map f xs) → All (λ x. All P (f x)) xs
 All-part P f [] h = All-nil (λ x. All P (f x))
 All-part P f (x ∷ xs) h =
     All-cons (λ x. All P (f x)) x xs (All-left P (f x) (flat_map f xs) h) (All-part P f xs (All-right P (f x) (flat_map f xs) h))

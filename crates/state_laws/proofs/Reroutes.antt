@@ -33,7 +33,7 @@ use Rattle.state_laws.proofs.Extras.{IsFreshCall, new-fresh, new-distinct, none-
 use Rattle.state_laws.proofs.Splits.{split-at, from-skip, pairs-across, Differ, distinct-pairs, pairs-distinct, events_at-append, All-swap, order-swap, RunsTo, run-split, run-join, run-end, run-new}
 
 -- the calls of a train at two of them, of which the one stands before the other
-record IsCut (from to : ℕ) (cs : List Call) : Type 0 where
+pub record IsCut (from to : ℕ) (cs : List Call) : Type 0 where
   pub before : List Call
   pub first : Call
   pub mid : List Call
@@ -46,7 +46,7 @@ record IsCut (from to : ℕ) (cs : List Call) : Type 0 where
   pub tail : Cuts.from (is_call to) cs ≡ last ∷ rest
   pub inner : calls_between from to cs ≡ mid
 
-cut : (from to : ℕ) (cs : List Call) → stands_before from to cs ≡ true → HasDistinctLabels cs → IsCut from to cs
+pub cut : (from to : ℕ) (cs : List Call) → stands_before from to cs ≡ true → HasDistinctLabels cs → IsCut from to cs
 cut from to cs stands labels =
     let both = and_parts (has_call from cs) (has_call to (Cuts.after (is_call from) cs)) stands in
     let a = split-at Call (is_call from) cs both.0 in
@@ -82,17 +82,17 @@ get-change f zero (u ∷ us) t h = ap (λ o. Some (f o)) (let e : u ≡ t = cc i
 get-change f (suc n) (u ∷ us) t h = get-change f n us t h
 
 module _ (from to : ℕ) (t : Train) (c : IsCut from to t.calls) (via : List NewCall) where
-  head : List Call
+  unfoldable pub head : List Call
   head = c.before ++ c.first ∷ []
 
-  tail : List Call
+  unfoldable pub tail : List Call
   tail = c.last ∷ c.rest
 
-  fresh : List Call
+  unfoldable pub fresh : List Call
   fresh = new_calls t.next_label via
 
   -- the events before, between and after
-  old-events : (n : ℕ) → events_of n t ≡ events_at n t.route head ++ (events_at n t.route c.mid ++ events_at n t.route tail)
+  pub old-events : (n : ℕ) → events_of n t ≡ events_at n t.route head ++ (events_at n t.route c.mid ++ events_at n t.route tail)
   unfolding head tail
   old-events n =
       ap (events_at n t.route) c.parts ∙ events_at-append n t.route head (c.mid ++ tail)
@@ -102,7 +102,7 @@ module _ (from to : ℕ) (t : Train) (c : IsCut from to t.calls) (via : List New
   unfolding head tail fresh
   new-calls = ap (λ xs. (xs ++ fresh) ++ Cuts.from (is_call to) t.calls) c.head ∙ ap (λ xs. (head ++ fresh) ++ xs) c.tail ∙ append_assoc head fresh tail
 
-  new-events : (n : ℕ) → events_of n (rerouted from to via t) ≡ events_at n t.route head ++ (events_at n t.route fresh ++ events_at n t.route tail)
+  pub new-events : (n : ℕ) → events_of n (rerouted from to via t) ≡ events_at n t.route head ++ (events_at n t.route fresh ++ events_at n t.route tail)
   new-events n =
       ap (events_at n t.route) new-calls ∙ events_at-append n t.route head (fresh ++ tail)
       ∙ ap (λ es. events_at n t.route head ++ es) (events_at-append n t.route fresh tail)

@@ -55,7 +55,7 @@ pairs-each R first (t ∷ ts) h =
     each-from (λ n t. AllPairs R (events_of n t)) first t ts (pairs-left R (events_of first t) (events_from (first + 1) ts) h)
     (pairs-each R (first + 1) ts (pairs-right R (events_of first t) (events_from (first + 1) ts) h))
 
-train-apart : (st : State) → All IsTrain st.trains → AtEach (λ n t. AllPairs AreApart (events_of n t)) 0 st.trains
+pub train-apart : (st : State) → All IsTrain st.trains → AtEach (λ n t. AllPairs AreApart (events_of n t)) 0 st.trains
 unfolding events
 train-apart st trains = pairs-each AreApart 0 st.trains (events-apart st trains)
 
@@ -85,11 +85,11 @@ abbrev pub set_at : Node → (Event → Event) → Event → Event
 set_at n k v = cond (is_event n v) (k v) v
 
 -- f changes values as k changes events, which stay as they are but for their values
-record IsSetting (f : EventValues → EventValues) (k : Event → Event) : Type 0 where
+pub record IsSetting (f : EventValues → EventValues) (k : Event → Event) : Type 0 where
   pub by : (train route label stop : ℕ) (dep : Bool) (e : EventValues) → event_by train route label stop dep (f e) ≡ k (event_by train route label stop dep e)
   pub shape : (v : Event) → k v ≡ with_values v (k v).forecast (k v).report
 
-set-shape : (n : Node) (f : EventValues → EventValues) (k : Event → Event) → IsSetting f k → (v : Event) → set_at n k v ≡ with_values v (set_at n k v).forecast (set_at n k v).report
+pub set-shape : (n : Node) (f : EventValues → EventValues) (k : Event → Event) → IsSetting f k → (v : Event) → set_at n k v ≡ with_values v (set_at n k v).forecast (set_at n k v).report
 set-shape n f k s v = cond_both (is_event n v) (k v) v (λ w. w ≡ with_values v w.forecast w.report) (λ _. s.shape v) (λ _. refl)
 
 set-arrival : (f : EventValues → EventValues) (k : Event → Event) → IsSetting f k → (train route : ℕ) (b dep : Bool) (c : Call) → arrival_of train route (cond b (change_event dep f c) c) ≡ cond (b && beq false dep) (k (arrival_of train route c)) (arrival_of train route c)
@@ -107,7 +107,7 @@ pub named-at : (n : Node) (label : ℕ) (dep : Bool) → is_same_node (record { 
 unfolding is_same_node
 named-at n label dep = ap (λ b. b && (nat_eq label n.label && beq dep n.dep)) (eq-eqb n.train n.train refl)
 
-set-mapped : (n : Node) (f : EventValues → EventValues) (k : Event → Event) → IsSetting f k → IsMapped n.train (change_labelled n.label (change_event n.dep f)) (set_at n k)
+pub set-mapped : (n : Node) (f : EventValues → EventValues) (k : Event → Event) → IsSetting f k → IsMapped n.train (change_labelled n.label (change_event n.dep f)) (set_at n k)
 set-mapped n f k s =
     record {
       arrivals = λ route c.
@@ -164,10 +164,10 @@ live-named st n trains h v hv named =
     let same : u ≡ v = events-unique st trains u v hu hv (same_node-is _ _ both.0 ∙ sym (same_node-is _ _ named)) in
     sym (ap (λ w. w.live) same) ∙ both.1
 
-abbrev put_report : ℕ → Event → Event
+abbrev pub put_report : ℕ → Event → Event
 put_report t v = record v { report = Some t }
 
-abbrev put_forecast : ℕ → Event → Event
+abbrev pub put_forecast : ℕ → Event → Event
 put_forecast t v = record v { forecast = Some t }
 
 both-some : {X : Type 0} (o : Option X) (P Q R : X → Type 0) → IfSome o P → IfSome o Q → ((x : X) → P x → Q x → R x) → IfSome o R

@@ -1,6 +1,8 @@
 //! What accepted messages keep.
 #![tactic(auto)]
 
+pub mod touched;
+
 ghost use Rattle.std.specs.Prelude.{◌≡◌, List, None, All};
 ghost use Rattle.delay_model.specs.declared.messages.Message.{Message as AMessage};
 ghost use Rattle.delay_model.specs.After.{after, AreAccepted};

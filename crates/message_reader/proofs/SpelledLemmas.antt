@@ -1,0 +1,126 @@
+-- What is spelled is read back.
+use Rattle.std.proofs.Common.{◌≡◌, ℕ, suc, ◌+◌, ◌*◌, ◌/◌, ◌%◌, ◌^◌, ◌<◌, ◌≤◌, Bool, true, false, Some, Ok, List, [], ◌∷◌, length, All, refl, ap, arith}
+use Rattle.std.specs.List.{AllByRecursion}
+use Rattle.std.proofs.lemmas.Bool.{le-leb}
+use Rattle.std.proofs.lemmas.Bool.Decides.{nat_tests}
+use Rattle.std.proofs.lemmas.List.Elements.{recursion_from_All}
+use Rattle.std.proofs.lemmas.Int.{ints}
+use Rattle.mt_base.specs.Civil.{IsCivil, is_civil}
+use Rattle.message_reader.specs.declared.wire.WireCall.{WireCall}
+use Rattle.message_reader.specs.declared.wire.WireRef.{WireRef}
+use Rattle.message_reader.specs.declared.wire.Connect.{Connect as AConnect}
+use Rattle.message_reader.specs.declared.wire.Connect.TheVariants as connects
+use Rattle.message_reader.specs.declared.wire.Wire.{Wire}
+use Rattle.message_reader.specs.declared.wire.Wire.TheVariants.{Event, Cancel, Reroute, Extra, Connect}
+use Rattle.message_reader.specs.declared.wire.WireLine.TheVariants.{Message}
+use Rattle.message_reader.specs.Fields.{digit, two, below, clock, seconds_of, eight_digits, date_of}
+use Rattle.message_reader.specs.Kinds.{kind_of}
+use Rattle.message_reader.specs.Lines.{head_of, message_of, said_by}
+use Rattle.message_reader.specs.Messages.{event_of, cancel_of, ref_texts, ref_of, connect_of, call_texts, call_of, calls_shape, calls_of, count, reroute_of, extra_of}
+use Rattle.message_reader.specs.Spelled.{time_text, date_text, ref_object, call_object, call_objects, object_of, HasLabels}
+use Rattle.message_reader.specs.Wires.{IsWireCall, IsWire}
+
+digit_back : (k : ℕ) → k < 10 → digit (48 + k) ≡ Some k
+digit_back k lt = grind (arith, nat_tests)
+
+two_back : (n : ℕ) → n < 100 → two (48 + n / 10) (48 + n % 10) ≡ Some n
+two_back n lt =
+    let sum : 10 * (n / 10) + n % 10 ≡ n = omega arith in
+    rw (digit_back (n / 10) (omega arith), digit_back (n % 10) (omega arith)) (ap (λ (m : ℕ). Some m) sum)
+
+below_back : (n : ℕ) → n < 60 → below 60 n ≡ Some n
+below_back n lt = grind (arith, nat_tests)
+
+pub times_back : (s : ℕ) → s ≤ 359999 → seconds_of (time_text s) ≡ Some s
+unfolding seconds_of clock time_text
+times_back s le =
+    let sum : 3600 * (s / 3600) + 60 * (s / 60 % 60) + s % 60 ≡ s = omega arith in
+    rw (two_back (s / 3600) (omega arith), two_back (s / 60 % 60) (omega arith), below_back (s / 60 % 60) (omega arith), two_back (s % 60) (omega arith), below_back (s % 60) (omega arith)) (ap (λ (m : ℕ). Some m) sum)
+
+year_below : (date : ℕ) → IsCivil date → date < 100000000
+year_below date civil = omega (arith, ints)
+
+civil_tested : (date : ℕ) → IsCivil date → is_civil date ≡ true
+civil_tested date civil =
+    let small = year_below date civil in
+    grind (arith, nat_tests, ints)
+
+pub dates_back : (date : ℕ) → IsCivil date → date_of (date_text date) ≡ Some date
+unfolding date_of eight_digits date_text
+dates_back date civil =
+    let small = year_below date civil in
+    let sum : 1000000 * (date / 1000000) + 10000 * (date / 10000 % 100) + 100 * (date / 100 % 100) + date % 100 ≡ date = omega arith in
+    rw (two_back (date / 1000000) (omega arith), two_back (date / 10000 % 100) (omega arith), two_back (date / 100 % 100) (omega arith), two_back (date % 100) (omega arith), sum, civil_tested date civil) refl
+
+label_back : (n : ℕ) → n < 2 ^ 32 → below (2 ^ 32) n ≡ Some n
+label_back n lt = grind (arith, nat_tests)
+
+-- ---- messages
+
+event_back : (report : Bool) (trip : List ℕ) (date call : ℕ) (dep : Bool) (secs : ℕ) → IsCivil date → secs ≤ 359999 → call < 2 ^ 32
+    → said_by (object_of (Event report trip date call dep secs)) ≡ Ok (Message (Event report trip date call dep secs))
+unfolding said_by head_of kind_of message_of event_of
+event_back true trip date call true secs civil le lt = rw (label_back call lt, dates_back date civil, times_back secs le) refl
+event_back true trip date call false secs civil le lt = rw (label_back call lt, dates_back date civil, times_back secs le) refl
+event_back false trip date call true secs civil le lt = rw (label_back call lt, dates_back date civil, times_back secs le) refl
+event_back false trip date call false secs civil le lt = rw (label_back call lt, dates_back date civil, times_back secs le) refl
+
+cancel_back : (trip : List ℕ) (date from to : ℕ) → IsCivil date → from < 2 ^ 32 → to < 2 ^ 32
+    → said_by (object_of (Cancel trip date from to)) ≡ Ok (Message (Cancel trip date from to))
+unfolding said_by head_of kind_of message_of cancel_of
+cancel_back trip date from to civil lt lt' = rw (label_back from lt, label_back to lt', dates_back date civil) refl
+
+ref_texts_back : (r : WireRef) → r.call < 2 ^ 32 → ref_texts (ref_object r) ≡ Ok (record { trip = r.trip; date = date_text r.date; call = r.call })
+unfolding ref_texts
+ref_texts_back r lt = rw (label_back r.call lt) refl
+
+ref_back : (r : WireRef) → IsCivil r.date → ref_of (record { trip = r.trip; date = date_text r.date; call = r.call }) ≡ Ok r
+unfolding ref_of
+ref_back r civil = rw (dates_back r.date civil) refl
+
+connect_back : (kind : AConnect) (feeder train : WireRef) → IsCivil feeder.date → IsCivil train.date → feeder.call < 2 ^ 32 → train.call < 2 ^ 32
+    → said_by (object_of (Connect kind feeder train)) ≡ Ok (Message (Connect kind feeder train))
+unfolding said_by head_of kind_of message_of connect_of
+connect_back connects.Keep feeder train c c' lt lt' = rw (ref_texts_back feeder lt, ref_texts_back train lt', ref_back feeder c, ref_back train c') refl
+connect_back connects.Drop feeder train c c' lt lt' = rw (ref_texts_back feeder lt, ref_texts_back train lt', ref_back feeder c, ref_back train c') refl
+connect_back connects.Rule feeder train c c' lt lt' = rw (ref_texts_back feeder lt, ref_texts_back train lt', ref_back feeder c, ref_back train c') refl
+
+-- ---- lists of calls
+
+shapes_back : (cs : List WireCall) → calls_shape (call_objects cs) ≡ Ok tt
+unfolding calls_shape call_objects call_texts
+shapes_back [] = refl
+shapes_back (c ∷ cs) = shapes_back cs
+
+call_back : (c : WireCall) → IsWireCall c → call_of (call_object c) ≡ Ok c
+unfolding call_of call_texts
+call_back c is = rw (times_back c.arr is.0, times_back c.dep is.1) refl
+
+calls_back : (cs : List WireCall) → AllByRecursion IsWireCall cs → calls_of (call_objects cs) ≡ Ok cs
+unfolding calls_of call_objects
+calls_back [] is = refl
+calls_back (c ∷ cs) is = rw (call_back c is.0, calls_back cs is.1) refl
+
+counts_back : (cs : List WireCall) → count (call_objects cs) ≡ length cs
+unfolding count call_objects
+counts_back [] = refl
+counts_back (c ∷ cs) = ap suc (counts_back cs)
+
+reroute_back : (trip : List ℕ) (date from to : ℕ) (via : List WireCall) → IsCivil date → All IsWireCall via → from < 2 ^ 32 → to < 2 ^ 32
+    → said_by (object_of (Reroute trip date from to via)) ≡ Ok (Message (Reroute trip date from to via))
+unfolding said_by head_of kind_of message_of reroute_of
+reroute_back trip date from to via civil each lt lt' =
+    rw (label_back from lt, label_back to lt', shapes_back via, dates_back date civil, calls_back via (recursion_from_All IsWireCall via each)) refl
+
+extra_back : (trip : List ℕ) (date : ℕ) (route : List ℕ) (calls : List WireCall) → IsCivil date → All IsWireCall calls → 2 ≤ length calls
+    → said_by (object_of (Extra trip date route calls)) ≡ Ok (Message (Extra trip date route calls))
+unfolding said_by head_of kind_of message_of extra_of
+extra_back trip date route calls civil each le =
+    rw (shapes_back calls, counts_back calls, le-leb 2 (length calls) le, dates_back date civil, calls_back calls (recursion_from_All IsWireCall calls each)) refl
+
+pub messages_back : (w : Wire) → IsWire w → HasLabels w → said_by (object_of w) ≡ Ok (Message w)
+messages_back (Event report trip date call dep secs) is labels = event_back report trip date call dep secs is.0 is.1 labels
+messages_back (Cancel trip date from to) is labels = cancel_back trip date from to is labels.0 labels.1
+messages_back (Reroute trip date from to via) is labels = reroute_back trip date from to via is.0 is.1 labels.0 labels.1
+messages_back (Extra trip date route calls) is labels = extra_back trip date route calls is.0 is.1 is.2
+messages_back (Connect kind feeder train) is labels = connect_back kind feeder train is.0 is.1 labels.0 labels.1

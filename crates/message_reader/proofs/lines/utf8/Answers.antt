@@ -1,0 +1,17 @@
+use Rattle.std.proofs.Common.{◌≡◌, false, ap, sym, inl, inr, Ok, refl}
+use Rattle.std.proofs.lemmas.Str.{is_utf8-from_IsUtf8, IsUtf8-from_is_utf8}
+use Rattle.std.proofs.lemmas.Bool.{cases_Bool}
+use Rattle.std.specs.Str.{is_utf8}
+use Rattle.message_reader.proofs.lines.utf8.Goals as goal
+
+pub returns-in-Ok : goal.returns-in-Ok
+returns-in-Ok c = rw (is_utf8-from_IsUtf8 c.args.bytes.now c.in-Ok.ensures.cases.1) (ap Ok (sym c.in-Ok.ensures.cases.0))
+
+pub returns-in-Err : goal.returns-in-Err
+returns-in-Err c =
+    let refused : is_utf8 c.args.bytes.now ≡ false =
+    elim (cases_Bool (is_utf8 c.args.bytes.now)) [
+      | inl good ↦ absurd (c.in-Err.ensures.cases.0 (IsUtf8-from_is_utf8 c.args.bytes.now good))
+      | inr bad ↦ bad
+    ] in
+    rw refused refl

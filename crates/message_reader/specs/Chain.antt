@@ -1,0 +1,39 @@
+-- Steps of reading of which the first that fails names the fault.
+use Rattle.std.specs.Prelude.{◌≡◌, Bool, true, false, Some, None, Result, Ok, Err}
+use Rattle.std.specs.declared.option.Option.{Option}
+use Rattle.message_reader.specs.declared.bad.Bad.{Bad}
+use Rattle.message_reader.specs.declared.bad.Bad.TheVariants.{Utf8, Json, Shape, Time, OutOfMemory}
+
+infixl 10 ◌>>=◌
+-- the next step, unless there was a fault
+abbrev pub ◌>>=◌ : {A B : Type 0} → Result A Bad → (A → Result B Bad) → Result B Bad
+(Ok x) >>= f = f x
+(Err e) >>= f = Err e
+
+-- the value, or this fault where there is none
+abbrev pub need : {A : Type 0} → Bad → Option A → Result A Bad
+need bad None = Err bad
+need bad (Some x) = Ok x
+
+-- this fault, unless the test holds
+abbrev pub unless : Bool → Bad → Result (Unit {0}) Bad
+unless true bad = Ok tt
+unless false bad = Err bad
+
+-- a fault is the one that reading gives; memory may run out whatever is read
+abbrev pub Fails : {Y : Type 0} → Bad → Result Y Bad → Type 0
+Fails OutOfMemory read = Unit {0}
+Fails Utf8 read = read ≡ Err Utf8
+Fails Json read = read ≡ Err Json
+Fails Shape read = read ≡ Err Shape
+Fails Time read = read ≡ Err Time
+
+-- what a function returned, seen by `seen`, is what reading gives, unless memory ran out
+abbrev pub GivesAs : {X Y : Type 0} → (X → Y) → Result X Bad → Result Y Bad → Type 0
+GivesAs seen (Ok x) read = read ≡ Ok (seen x)
+GivesAs seen (Err e) read = Fails e read
+
+-- what a function returned is what reading gives, unless memory ran out
+abbrev pub Gives : {X : Type 0} → Result X Bad → Result X Bad → Type 0
+Gives (Ok x) read = read ≡ Ok x
+Gives (Err e) read = Fails e read

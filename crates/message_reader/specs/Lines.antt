@@ -1,0 +1,64 @@
+-- What a line says, or its first fault. A line is one object of JSON, as
+--   {"v":1,"type":"forecast","trip":"T1","date":"20260105","call":1,"event":"arr","time":"08:36:00"}
+--   {"v":1,"type":"keep","feeder":{"trip":"T1","date":"20260105","call":1},"train":{"trip":"T2","date":"20260105","call":0}}
+-- Members that are not named here are passed over, and of two members of one name the last counts. The faults, in order:
+--   Utf8   the bytes are no text
+--   Json   the text is no JSON, or nests deeper than `serde_json` reads
+--   Shape  the value is no object with `v` and `type`, or a member that its type needs is absent or of another kind
+--   Time   a date is not eight digits that name a civil date, or a time is not H:MM:SS or HH:MM:SS
+use Rattle.std.specs.Prelude.{ℕ, ◌==◌, List, if◌then◌else◌, true, false, Result, Ok, Err, codes}
+use Rattle.std.specs.Str.{is_utf8}
+use Rattle.serde_json.specs.Data.{Data}
+use Rattle.serde_json.specs.Read.{read}
+use Rattle.message_reader.specs.declared.bad.Bad.{Bad}
+use Rattle.message_reader.specs.declared.bad.Bad.TheVariants.{Utf8, Json, Shape}
+use Rattle.message_reader.specs.declared.kinds.Kind.{Kind}
+use Rattle.message_reader.specs.declared.kinds.Kind.TheVariants as kinds
+use Rattle.message_reader.specs.declared.wire.Connect.TheVariants as connects
+use Rattle.message_reader.specs.declared.wire.WireLine.{WireLine}
+use Rattle.message_reader.specs.declared.wire.WireLine.TheVariants.{Message, Flush}
+use Rattle.message_reader.specs.Chain.{◌>>=◌, need, unless}
+use Rattle.message_reader.specs.Fields.{text_at, number_at}
+use Rattle.message_reader.specs.Kinds.{kind_of}
+use Rattle.message_reader.specs.Messages.{event_of, cancel_of, reroute_of, extra_of, connect_of}
+
+-- the bytes are a text in UTF-8
+abbrev pub utf8_of : List ℕ → Result (List ℕ) Bad
+utf8_of bytes = if is_utf8 bytes then Ok bytes else Err Utf8
+
+-- the text is a value of JSON
+abbrev pub json_of : List ℕ → Result Data Bad
+json_of text = need Json (read text)
+
+-- the object has `v`, the whole number 1, and `type`, the name of a type of line
+unfoldable pub head_of : Data → Result Kind Bad
+head_of d = do
+  v ← need Shape (number_at (codes "v") d)
+  _ ← unless (v == 1) Shape
+  name ← need Shape (text_at (codes "type") d)
+  need Shape (kind_of name)
+
+-- what the object of a message says
+unfoldable pub message_of : Kind → Data → Result WireLine Bad
+message_of kinds.Forecast d = event_of false d >>= λ w. Ok (Message w)
+message_of kinds.Report d = event_of true d >>= λ w. Ok (Message w)
+message_of kinds.Cancel d = cancel_of d >>= λ w. Ok (Message w)
+message_of kinds.Reroute d = reroute_of d >>= λ w. Ok (Message w)
+message_of kinds.Extra d = extra_of d >>= λ w. Ok (Message w)
+message_of kinds.Keep d = connect_of connects.Keep d >>= λ w. Ok (Message w)
+message_of kinds.Drop d = connect_of connects.Drop d >>= λ w. Ok (Message w)
+message_of kinds.Rule d = connect_of connects.Rule d >>= λ w. Ok (Message w)
+message_of kinds.Flush d = Ok Flush
+
+-- what the value of a line says
+unfoldable pub said_by : Data → Result WireLine Bad
+said_by d = do
+  kind ← head_of d
+  message_of kind d
+
+-- the first fault that holds, or what the line says
+unfoldable pub line_of : List ℕ → Result WireLine Bad
+line_of bytes = do
+  text ← utf8_of bytes
+  d ← json_of text
+  said_by d

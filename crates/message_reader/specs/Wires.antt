@@ -1,0 +1,25 @@
+-- What is true of each message that was read.
+use Rattle.std.specs.Prelude.{◌≤◌, All, length}
+use Rattle.mt_base.specs.Civil.{IsCivil}
+use Rattle.message_reader.specs.declared.wire.WireCall.{WireCall}
+use Rattle.message_reader.specs.declared.wire.Wire.{Wire}
+use Rattle.message_reader.specs.declared.wire.Wire.TheVariants.{Event, Cancel, Reroute, Extra, Connect}
+use Rattle.message_reader.specs.declared.wire.WireLine.{WireLine}
+use Rattle.message_reader.specs.declared.wire.WireLine.TheVariants.{Message, Flush}
+
+-- both times are at most 99:59:59
+abbrev pub IsWireCall : WireCall → Type 0
+IsWireCall c = (c.arr ≤ 359999) × (c.dep ≤ 359999)
+
+-- every date is civil, every time is at most 99:59:59, and an extra train has at least two calls
+abbrev pub IsWire : Wire → Type 0
+IsWire (Event report trip date call dep secs) = IsCivil date × (secs ≤ 359999)
+IsWire (Cancel trip date from to) = IsCivil date
+IsWire (Reroute trip date from to via) = IsCivil date × All IsWireCall via
+IsWire (Extra trip date route calls) = IsCivil date × All IsWireCall calls × (2 ≤ length calls)
+IsWire (Connect kind feeder train) = IsCivil feeder.date × IsCivil train.date
+
+-- the message of the line is such a one
+abbrev pub IsWireLine : WireLine → Type 0
+IsWireLine (Message w) = IsWire w
+IsWireLine Flush = Unit {0}

@@ -1,0 +1,73 @@
+//! Lists of calls.
+
+ghost use Rattle.std.specs.Prelude.{◌≡◌, IfOk, All, length};
+ghost use Rattle.serde_json.specs.View.{view, items_view};
+ghost use Rattle.message_reader.specs.Chain.{Gives, GivesAs};
+ghost use Rattle.message_reader.specs.Messages.{call_texts, call_of, calls_shape, calls_of};
+ghost use Rattle.message_reader.specs.Wires.{IsWireCall};
+
+use crate::bad::Bad;
+use crate::fields::{seconds, text_at};
+use crate::wire::WireCall;
+use mt_base::names::Name;
+use mt_base::rows::Rows;
+use serde_json::Value;
+use std::alloc::Global;
+
+/// A call as an object of a list names it.
+#[derive(Clone, Copy)]
+struct CallTexts<'v> {
+    stop: &'v str,
+    arr: &'v str,
+    dep: &'v str,
+}
+
+#[tactic(auto, unfolding(crate::specs::Messages::call_texts))]
+fn texts_at<'v>(value: &'v Value) -> Result<CallTexts<'v>, Bad>
+    ensures { GivesAs (λ r. record { stop = r.stop.now; arr = r.arr.now; dep = r.dep.now })
+        result (call_texts (view value.now)) }
+{
+    let stop = text_at(value, "stop").ok_or(Bad::Shape)?;
+    let arr = text_at(value, "arr").ok_or(Bad::Shape)?;
+    let dep = text_at(value, "dep").ok_or(Bad::Shape)?;
+    Ok(CallTexts { stop, arr, dep })
+}
+
+#[tactic(auto, unfolding(crate::specs::Messages::call_of))]
+fn call_at(alloc: Global, value: &Value) -> Result<WireCall, Bad>
+    ensures exact { Gives result (call_of (view value.now)) }
+    ensures kept { IfOk result IsWireCall }
+{
+    let texts = texts_at(value)?;
+    let arr = seconds(texts.arr.as_bytes()).ok_or(Bad::Time)?;
+    let dep = seconds(texts.dep.as_bytes()).ok_or(Bad::Time)?;
+    Ok(WireCall {
+        stop: Name::build(alloc, texts.stop)?,
+        arr,
+        dep,
+    })
+}
+
+/// Whether each value names a call.
+pub fn check_calls(values: &[Value]) -> Result<(), Bad>
+    ensures { Gives result (calls_shape (items_view values.now)) }
+{
+    for value in values {
+        let _texts = texts_at(value)?;
+    }
+    Ok(())
+}
+
+/// The calls that the values name.
+pub fn read_calls(alloc: Global, values: &[Value]) -> Result<Rows<WireCall>, Bad>
+    ensures exact { Gives result (calls_of (items_view values.now)) }
+    ensures kept { IfOk result (λ calls. All IsWireCall calls) }
+    ensures all { IfOk result (λ calls. length calls ≡ length values.now) }
+{
+    let mut calls = Vec::new(alloc);
+    for value in values {
+        let call = call_at(alloc, value)?;
+        calls.push(call)?;
+    }
+    Ok(Rows::build(calls))
+}

@@ -1,0 +1,72 @@
+//! Messages about connections.
+
+ghost use Rattle.std.specs.Prelude.{IfOk};
+ghost use Rattle.serde_json.specs.View.{view};
+ghost use Rattle.mt_base.specs.Civil.{IsCivil};
+ghost use Rattle.message_reader.specs.Chain.{Gives, GivesAs};
+ghost use Rattle.message_reader.specs.Messages.{ref_texts, ref_of, connect_of};
+ghost use Rattle.message_reader.specs.Wires.{IsWire};
+
+use crate::bad::Bad;
+use crate::fields::{date, label_at, text_at};
+use crate::wire::{Connect, Wire, WireRef};
+use mt_base::names::Name;
+use mt_base::numbers::Label;
+use serde_json::Value;
+use std::alloc::Global;
+
+/// A call of a train as an object names it.
+#[derive(Clone, Copy)]
+struct RefTexts<'v> {
+    trip: &'v str,
+    date: &'v str,
+    call: u32,
+}
+
+#[tactic(auto, unfolding(crate::specs::Messages::ref_texts))]
+fn reference_texts<'v>(value: &'v Value) -> Result<RefTexts<'v>, Bad>
+    ensures { GivesAs (λ r. record { trip = r.trip.now; date = r.date.now; call = r.call })
+        result (ref_texts (view value.now)) }
+{
+    let trip = text_at(value, "trip").ok_or(Bad::Shape)?;
+    let date = text_at(value, "date").ok_or(Bad::Shape)?;
+    let call = label_at(value, "call").ok_or(Bad::Shape)?;
+    Ok(RefTexts {
+        trip,
+        date,
+        call: call.get(),
+    })
+}
+
+#[tactic(auto, unfolding(crate::specs::Messages::ref_of))]
+fn reference(alloc: Global, texts: &RefTexts) -> Result<WireRef, Bad>
+    ensures exact { let r = texts.now in
+        Gives result (ref_of (record { trip = r.trip.now; date = r.date.now; call = r.call })) }
+    ensures kept { IfOk result (λ r. IsCivil r.date) }
+{
+    let date = date(texts.date.as_bytes()).ok_or(Bad::Time)?;
+    Ok(WireRef {
+        trip: Name::build(alloc, texts.trip)?,
+        date,
+        call: Label::new(texts.call),
+    })
+}
+
+/// A connection that is kept or dropped, or to which the rules apply again.
+#[tactic(auto, unfolding(crate::specs::Messages::connect_of))]
+pub fn connect(alloc: Global, kind: Connect, value: &Value) -> Result<Wire, Bad>
+    ensures exact { Gives result (connect_of kind (view value.now)) }
+    ensures kept { IfOk result IsWire }
+{
+    let feeder = value.get("feeder").ok_or(Bad::Shape)?;
+    let train = value.get("train").ok_or(Bad::Shape)?;
+    let feeder = reference_texts(feeder)?;
+    let train = reference_texts(train)?;
+    let feeder = reference(alloc, &feeder)?;
+    let train = reference(alloc, &train)?;
+    Ok(Wire::Connect {
+        kind,
+        feeder,
+        train,
+    })
+}

@@ -1,0 +1,57 @@
+//! Messages about one train's events.
+
+ghost use Rattle.std.specs.Prelude.{IfOk};
+ghost use Rattle.serde_json.specs.View.{view};
+ghost use Rattle.message_reader.specs.Chain.{Gives};
+ghost use Rattle.message_reader.specs.Messages.{event_of, cancel_of};
+ghost use Rattle.message_reader.specs.Wires.{IsWire};
+
+use crate::bad::Bad;
+use crate::fields::{date, departure, label_at, seconds, text_at};
+use crate::wire::Wire;
+use mt_base::names::Name;
+use serde_json::Value;
+use std::alloc::Global;
+
+/// A report or a forecast.
+#[tactic(auto, unfolding(crate::specs::Messages::event_of))]
+pub fn event(alloc: Global, report: bool, value: &Value) -> Result<Wire, Bad>
+    ensures exact { Gives result (event_of report (view value.now)) }
+    ensures kept { IfOk result IsWire }
+{
+    let trip = text_at(value, "trip").ok_or(Bad::Shape)?;
+    let day = text_at(value, "date").ok_or(Bad::Shape)?;
+    let call = label_at(value, "call").ok_or(Bad::Shape)?;
+    let event = text_at(value, "event").ok_or(Bad::Shape)?;
+    let dep = departure(event).ok_or(Bad::Shape)?;
+    let time = text_at(value, "time").ok_or(Bad::Shape)?;
+    let date = date(day.as_bytes()).ok_or(Bad::Time)?;
+    let secs = seconds(time.as_bytes()).ok_or(Bad::Time)?;
+    Ok(Wire::Event {
+        report,
+        trip: Name::build(alloc, trip)?,
+        date,
+        call,
+        dep,
+        secs,
+    })
+}
+
+/// A cancelled stretch.
+#[tactic(auto, unfolding(crate::specs::Messages::cancel_of))]
+pub fn cancel(alloc: Global, value: &Value) -> Result<Wire, Bad>
+    ensures exact { Gives result (cancel_of (view value.now)) }
+    ensures kept { IfOk result IsWire }
+{
+    let trip = text_at(value, "trip").ok_or(Bad::Shape)?;
+    let day = text_at(value, "date").ok_or(Bad::Shape)?;
+    let from = label_at(value, "from").ok_or(Bad::Shape)?;
+    let to = label_at(value, "to").ok_or(Bad::Shape)?;
+    let date = date(day.as_bytes()).ok_or(Bad::Time)?;
+    Ok(Wire::Cancel {
+        trip: Name::build(alloc, trip)?,
+        date,
+        from,
+        to,
+    })
+}

@@ -1,0 +1,21 @@
+//! From the bytes of an input line to what it says, or to its first fault.
+#![tactic(auto)]
+
+mod bad;
+mod calls;
+mod connections;
+mod events;
+mod fields;
+mod kinds;
+mod laws;
+mod lines;
+mod routes;
+mod wire;
+
+pub use bad::Bad;
+pub use laws::{dates_are_read_back, messages_are_read_back, times_are_read_back};
+pub use lines::read_wire;
+pub use wire::{Connect, Wire, WireCall, WireLine, WireRef};
+
+#[cfg(test)]
+mod tests;

@@ -1,0 +1,87 @@
+//! A line: its text, its value, its type, and what it says.
+
+ghost use Rattle.std.specs.Prelude.{IfOk};
+ghost use Rattle.serde_json.specs.View.{view};
+ghost use Rattle.message_reader.specs.Chain.{Gives, GivesAs};
+ghost use Rattle.message_reader.specs.Lines.{utf8_of, json_of, head_of, message_of, said_by, line_of};
+ghost use Rattle.message_reader.specs.Wires.{IsWireLine};
+
+use crate::bad::Bad;
+use crate::connections::connect;
+use crate::events::{cancel, event};
+use crate::fields::{number_at, text_at};
+use crate::kinds::{Kind, kind_named};
+use crate::routes::{extra, reroute};
+use crate::wire::{Connect, WireLine};
+use serde_json::Value;
+use std::alloc::Global;
+
+fn utf8(bytes: &[u8]) -> Result<&str, Bad>
+    ensures { GivesAs (λ s. s.now) result (utf8_of bytes.now) }
+{
+    match str::from_utf8(bytes) {
+        Ok(text) => Ok(text),
+        Err(_) => Err(Bad::Utf8),
+    }
+}
+
+fn json(alloc: Global, text: &str) -> Result<Value, Bad>
+    ensures { GivesAs view result (json_of text.now) }
+{
+    match Value::from_str(alloc, text) {
+        Ok(value) => Ok(value),
+        Err(e) if e.is_memory() => Err(Bad::OutOfMemory),
+        Err(_) => Err(Bad::Json),
+    }
+}
+
+#[tactic(auto, unfolding(crate::specs::Lines::head_of))]
+fn head(value: &Value) -> Result<Kind, Bad>
+    ensures { Gives result (head_of (view value.now)) }
+{
+    let version = number_at(value, "v").ok_or(Bad::Shape)?;
+    if version != 1 {
+        return Err(Bad::Shape);
+    }
+    let name = text_at(value, "type").ok_or(Bad::Shape)?;
+    kind_named(name).ok_or(Bad::Shape)
+}
+
+#[tactic(auto, unfolding(crate::specs::Lines::message_of))]
+fn message(alloc: Global, kind: Kind, value: &Value) -> Result<WireLine, Bad>
+    ensures exact { Gives result (message_of kind (view value.now)) }
+    ensures kept { IfOk result IsWireLine }
+{
+    let wire = match kind {
+        Kind::Forecast => event(alloc, false, value)?,
+        Kind::Report => event(alloc, true, value)?,
+        Kind::Cancel => cancel(alloc, value)?,
+        Kind::Reroute => reroute(alloc, value)?,
+        Kind::Extra => extra(alloc, value)?,
+        Kind::Keep => connect(alloc, Connect::Keep, value)?,
+        Kind::Drop => connect(alloc, Connect::Drop, value)?,
+        Kind::Rule => connect(alloc, Connect::Rule, value)?,
+        Kind::Flush => return Ok(WireLine::Flush),
+    };
+    Ok(WireLine::Message(wire))
+}
+
+#[tactic(auto, unfolding(crate::specs::Lines::said_by))]
+fn said(alloc: Global, value: &Value) -> Result<WireLine, Bad>
+    ensures exact { Gives result (said_by (view value.now)) }
+    ensures kept { IfOk result IsWireLine }
+{
+    let kind = head(value)?;
+    message(alloc, kind, value)
+}
+
+/// What a line says, or its first fault. Memory may run out at any line.
+#[tactic(auto, unfolding(crate::specs::Lines::line_of))]
+pub fn read_wire(alloc: Global, bytes: &[u8]) -> Result<WireLine, Bad>
+    ensures exact { Gives result (line_of bytes.now) }
+    ensures kept { IfOk result IsWireLine }
+{
+    let text = utf8(bytes)?;
+    let value = json(alloc, text)?;
+    said(alloc, &value)
+}

@@ -1,0 +1,115 @@
+//! What a line says, with the names that stand in it.
+
+use mt_base::names::Name;
+use mt_base::numbers::Label;
+use mt_base::rows::Rows;
+
+/// A call of a rerouted or an extra train.
+#[derive(Drop)]
+pub struct WireCall {
+    /// The id of the stop.
+    pub stop: Name,
+
+    /// The scheduled arrival, in seconds on the service day.
+    pub arr: u32,
+
+    /// The scheduled departure, in seconds on the service day.
+    pub dep: u32,
+}
+
+/// A call of a train.
+#[derive(Drop)]
+pub struct WireRef {
+    /// The id of the trip.
+    pub trip: Name,
+
+    /// The service day as the number YYYYMMDD.
+    pub date: u32,
+
+    /// The label of the call.
+    pub call: Label,
+}
+
+/// What is said of a connection.
+#[derive(Clone, Copy, Debug, PartialEq, Eq)]
+pub enum Connect {
+    /// The train waits for the feeder, without a limit.
+    Keep,
+    /// The train does not wait for the feeder.
+    Drop,
+    /// The waiting rules hold again.
+    Rule,
+}
+
+/// What a message says.
+#[derive(Drop)]
+pub enum Wire {
+    /// An event took place or is expected at a time.
+    Event {
+        /// Whether it took place.
+        report: bool,
+        /// The id of the trip.
+        trip: Name,
+        /// The service day as the number YYYYMMDD.
+        date: u32,
+        /// The label of the call.
+        call: Label,
+        /// Whether it is the departure, and not the arrival.
+        dep: bool,
+        /// The time, in seconds on the service day.
+        secs: u32,
+    },
+    /// A train does not run from the departure of one call to the arrival of a later one.
+    Cancel {
+        /// The id of the trip.
+        trip: Name,
+        /// The service day as the number YYYYMMDD.
+        date: u32,
+        /// The label of the one call.
+        from: Label,
+        /// The label of the later call.
+        to: Label,
+    },
+    /// Between two of its calls a train makes these calls, and not those that it made so far.
+    Reroute {
+        /// The id of the trip.
+        trip: Name,
+        /// The service day as the number YYYYMMDD.
+        date: u32,
+        /// The label of the call before the new ones.
+        from: Label,
+        /// The label of the call after them.
+        to: Label,
+        /// The new calls.
+        via: Rows<WireCall>,
+    },
+    /// One more train runs.
+    Extra {
+        /// The id of the new trip.
+        trip: Name,
+        /// The service day as the number YYYYMMDD.
+        date: u32,
+        /// The id of the route.
+        route: Name,
+        /// Its calls.
+        calls: Rows<WireCall>,
+    },
+    /// A train waits or does not wait for a feeder: the feeder's arrival and the train's departure are named.
+    Connect {
+        /// What is said of it.
+        kind: Connect,
+        /// The call at which the feeder arrives.
+        feeder: WireRef,
+        /// The call at which the train departs.
+        train: WireRef,
+    },
+}
+
+/// What a line says.
+#[derive(Drop)]
+pub enum WireLine {
+    /// A message.
+    Message(Wire),
+    /// The wish that all replies so far be written.
+    Flush,
+}

@@ -1,0 +1,26 @@
+-- A valid state stays valid, whichever message is accepted.
+use Rattle.std.proofs.Common.{◌≡◌, None}
+use Rattle.delay_model.specs.declared.network.Network.{Network}
+use Rattle.delay_model.specs.declared.messages.Message.{Message}
+use Rattle.delay_model.specs.declared.messages.Message.TheVariants.{Report, Forecast, Cancel, Reroute, Extra, Keep, Drop, Rule}
+use Rattle.delay_model.specs.declared.state.State.{State}
+use Rattle.delay_model.specs.Effect.{effect}
+use Rattle.delay_model.specs.Messages.{IsWellFormed}
+use Rattle.delay_model.specs.Refusals.{refusal}
+use Rattle.delay_model.specs.Valid.{IsValid}
+use Rattle.state_laws.proofs.Values.{report-valid, forecast-valid}
+use Rattle.state_laws.proofs.Choices.{keep-valid, drop-valid, free-valid}
+use Rattle.state_laws.proofs.Cancels.{cancel-valid}
+use Rattle.state_laws.proofs.Extras.{extra-valid}
+use Rattle.state_laws.proofs.Reroutes.{reroute-valid}
+
+-- the state after an accepted message that is well formed is valid
+pub stays-valid : (nw : Network) (st : State) (m : Message) → IsValid nw st → IsWellFormed m → refusal nw st m ≡ None → IsValid nw (effect st m)
+stays-valid nw st (Report n t) valid well h = report-valid nw st n t valid well h
+stays-valid nw st (Forecast n t) valid well h = forecast-valid nw st n t valid well
+stays-valid nw st (Cancel n from to) valid well h = cancel-valid nw st n from to valid h
+stays-valid nw st (Reroute n from to via) valid well h = reroute-valid nw st n from to via valid well h
+stays-valid nw st (Extra n day route calls) valid well h = extra-valid nw st n day route calls valid well.1 h
+stays-valid nw st (Keep feeder train) valid well h = keep-valid nw st feeder train valid well h
+stays-valid nw st (Drop feeder train) valid well h = drop-valid nw st feeder train valid well h
+stays-valid nw st (Rule feeder train) valid well h = free-valid nw st feeder train valid
