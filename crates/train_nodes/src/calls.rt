@@ -1,0 +1,135 @@
+//! Calls as the timetable gives them, and as they are stored.
+
+ghost use Rattle.std.specs.Prelude.{◌≡◌, ◌+◌, ◌<◌, ◌≤◌, ◌^◌, [], ◌∷◌, ◌++◌, true, length, vec_len, vec_capacity};
+ghost use Rattle.delay_model.specs.Effect.{change_event};
+ghost use Rattle.train_nodes.specs.Edits.{edited};
+ghost use Rattle.train_nodes.specs.Loaded.{event_by_table, call_at, loaded_from};
+ghost use Rattle.train_nodes.specs.Calls.{values_of};
+
+use delay_model::state::{Call, EventValues};
+use mt_base::numbers::{Label, StopNo, Time};
+
+/// A train's call as the timetable has it.
+#[derive(Clone, Copy, Debug, PartialEq, Eq)]
+pub struct TableCall {
+    /// Where the train calls.
+    pub stop: StopNo,
+
+    /// The scheduled time of the arrival, in seconds from the base of day 0.
+    pub arr: Time,
+
+    /// The scheduled time of the departure, in seconds from the base of day 0.
+    pub dep: Time,
+
+    /// Whether passengers may board.
+    pub board: bool,
+
+    /// Whether passengers may alight.
+    pub alight: bool,
+}
+
+fn table_event(scheduled: Time, live: bool) -> EventValues
+    ensures { result ≡ event_by_table scheduled live }
+{
+    EventValues {
+        scheduled,
+        live,
+        forecast: None,
+        report: None,
+    }
+}
+
+/// The call at a place among so many.
+fn stored_call(count: usize, place: u32, call: &TableCall) -> Call
+    requires { place < count }
+    ensures { result ≡ call_at count place call.now }
+{
+    Call {
+        label: Label::new(place),
+        stop: call.stop,
+        arrival: table_event(call.arr, place != 0),
+        departure: table_event(call.dep, place as usize + 1 < count),
+        board: call.board,
+        alight: call.alight,
+    }
+}
+
+fn push_call(all: &mut Vec<Call>, call: Call)
+    requires { vec_len all.old < vec_capacity all.old }
+    ensures items { all.new.items ≡ all.old.items ++ call ∷ [] }
+    ensures capacity { vec_capacity all.new ≡ vec_capacity all.old }
+{
+    // The borrow checker asks that a function which moves the call names its `Option`.
+    let _ = call.arrival.forecast.is_none();
+    all.push_reserved(call);
+}
+
+/// Appends the calls of a train, labelled from 0 on.
+pub(crate) fn push_calls(all: &mut Vec<Call>, calls: &[TableCall])
+    requires room { vec_len all.old + length calls.now ≤ vec_capacity all.old }
+    requires labels { length calls.now < 2 ^ 32 }
+    ensures items { all.new.items ≡ all.old.items ++ loaded_from (length calls.now) 0 calls.now }
+    ensures capacity { vec_capacity all.new ≡ vec_capacity all.old }
+{
+    for place in 0..calls.len() {
+        push_call(all, stored_call(calls.len(), place as u32, &calls[place]));
+    }
+}
+
+/// What is known of a call's arrival or departure.
+pub(crate) fn values(call: &Call, dep: bool) -> &EventValues
+    ensures { result.now ≡ values_of dep call.now }
+{
+    if dep { &call.departure } else { &call.arrival }
+}
+
+fn with_values(call: Call, dep: bool, values: EventValues) -> Call
+    ensures { result ≡ change_event dep (λ _. values) call }
+{
+    if dep {
+        Call {
+            departure: values,
+            ..call
+        }
+    } else {
+        Call {
+            arrival: values,
+            ..call
+        }
+    }
+}
+
+/// A change of what is known of an event.
+#[derive(Clone, Copy, Debug)]
+pub(crate) enum Edit {
+    Forecast(Time),
+    Report(Time),
+    Kill,
+}
+
+fn edit_values(values: EventValues, edit: Edit) -> EventValues
+    ensures { result ≡ edited edit values }
+{
+    match edit {
+        Edit::Forecast(time) => EventValues {
+            forecast: Some(time),
+            ..values
+        },
+        Edit::Report(time) => EventValues {
+            report: Some(time),
+            ..values
+        },
+        Edit::Kill => EventValues {
+            live: false,
+            ..values
+        },
+    }
+}
+
+/// The call with a change of one of its events.
+pub(crate) fn edit_call(call: Call, dep: bool, edit: Edit) -> Call
+    ensures { result ≡ change_event dep (edited edit) call }
+{
+    let old = *values(&call, dep);
+    with_values(call, dep, edit_values(old, edit))
+}

@@ -1,0 +1,16 @@
+//! Trains, their calls and their events' values, and the kept times of events, in flat storage that is filled once.
+#![tactic(auto)]
+
+pub mod calls;
+mod room;
+pub mod steps;
+pub mod times;
+pub mod trains;
+
+pub use calls::TableCall;
+pub use steps::Steps;
+pub use times::NodeTimes;
+pub use trains::Trains;
+
+#[cfg(test)]
+mod tests;

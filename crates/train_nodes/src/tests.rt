@@ -1,0 +1,139 @@
+ghost use Rattle.std.specs.Prelude.{◌≡◌};
+
+use crate::{TableCall, Trains};
+use mt_base::keys::Node;
+use mt_base::memory::OutOfMemory;
+use mt_base::numbers::{Day, Label, RouteNo, StopNo, Time, TrainNo};
+use std::alloc::Global;
+use std::test::Fail;
+
+fn node(train: u32, label: u32, dep: bool) -> Node
+    ensures { result ≡ record { train = train; label = label; dep = dep } }
+{
+    Node {
+        train: TrainNo::new(train),
+        label: Label::new(label),
+        dep,
+    }
+}
+
+/// What is known of an event: whether it is live, its scheduled time, its forecast and its report.
+fn seconds(trains: &Trains, n: &Node) -> Option<(bool, u32, Option<u32>, Option<u32>)> {
+    if !trains.has(n.train, n.label) {
+        return None;
+    }
+    Some((
+        trains.live(*n),
+        trains.scheduled(*n).seconds(),
+        trains.forecast(*n).map(|time| time.seconds()),
+        trains.report(*n).map(|time| time.seconds()),
+    ))
+}
+
+/// The stop of a call, whether passengers may board and alight, and the labels before and after.
+fn call(
+    trains: &Trains,
+    train: u32,
+    label: u32,
+) -> Option<(u32, bool, bool, Option<u32>, Option<u32>)> {
+    let (t, l) = (TrainNo::new(train), Label::new(label));
+    if !trains.has(t, l) {
+        return None;
+    }
+    Some((
+        trains.stop(t, l).get(),
+        trains.boards(t, l),
+        trains.alights(t, l),
+        trains.prev_call(t, l).map(|label| label.get()),
+        trains.next_call(t, l).map(|label| label.get()),
+    ))
+}
+
+/// The day, the route, the next label and the first call of a train.
+fn train(trains: &Trains, number: u32) -> Option<(u32, u32, u32, u32)> {
+    if number >= trains.count() {
+        return None;
+    }
+    let t = TrainNo::new(number);
+    Some((
+        trains.day(t).get(),
+        trains.route(t).get(),
+        trains.next_label(t).get(),
+        trains.first_call(t).get(),
+    ))
+}
+
+/// One train of two calls.
+fn loaded(alloc: Global) -> Result<Trains, OutOfMemory> {
+    let mut trains = Trains::with_room(alloc, 2, 5, 7)?;
+    let first = TableCall {
+        stop: StopNo::new(3),
+        arr: Time::new(100),
+        dep: Time::new(100),
+        board: true,
+        alight: false,
+    };
+    let last = TableCall {
+        stop: StopNo::new(5),
+        arr: Time::new(900),
+        dep: Time::new(930),
+        board: false,
+        alight: true,
+    };
+    let _ = trains.push_train(Day::new(1), RouteNo::new(4), &[first, last]);
+    Ok(trains)
+}
+
+#[test]
+fn a_train_of_the_timetable(rt: HostRuntime) -> Result<(), Fail> {
+    let trains = loaded(rt.alloc())?;
+    assert_eq!(rt; train(&trains, 0), Some((1, 4, 2, 0)));
+    assert_eq!(rt; train(&trains, 1), None);
+    assert_eq!(rt; call(&trains, 0, 0), Some((3, true, false, None, Some(1))));
+    assert_eq!(rt; call(&trains, 0, 1), Some((5, false, true, Some(0), None)));
+    assert_eq!(rt; call(&trains, 0, 2), None);
+    Ok(())
+}
+
+#[test]
+fn the_ends_are_not_live(rt: HostRuntime) -> Result<(), Fail> {
+    let trains = loaded(rt.alloc())?;
+    assert_eq!(rt;
+        seconds(&trains, &node(0, 0, false)),
+        Some((false, 100, None, None))
+    );
+    assert_eq!(rt;
+        seconds(&trains, &node(0, 0, true)),
+        Some((true, 100, None, None))
+    );
+    assert_eq!(rt;
+        seconds(&trains, &node(0, 1, false)),
+        Some((true, 900, None, None))
+    );
+    assert_eq!(rt;
+        seconds(&trains, &node(0, 1, true)),
+        Some((false, 930, None, None))
+    );
+    Ok(())
+}
+
+#[test]
+fn values_of_an_event(rt: HostRuntime) -> Result<(), Fail> {
+    let mut trains = loaded(rt.alloc())?;
+    if trains.live(node(0, 1, false)) {
+        trains.set_forecast(node(0, 1, false), Time::new(950));
+    }
+    if trains.live(node(0, 1, false)) {
+        trains.set_report(node(0, 1, false), Time::new(960));
+    }
+    let copy = trains.copy(rt.alloc())?;
+    assert_eq!(rt;
+        seconds(&copy, &node(0, 1, false)),
+        Some((true, 900, Some(950), Some(960)))
+    );
+    assert_eq!(rt;
+        seconds(&copy, &node(0, 1, true)),
+        Some((false, 930, None, None))
+    );
+    Ok(())
+}
