@@ -1,0 +1,8 @@
+mod Cuts
+mod Fills
+mod Finish
+pub mod Gives
+pub mod LineFacts
+pub mod Runs
+mod Searches
+mod Slices

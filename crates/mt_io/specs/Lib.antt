@@ -1,0 +1,9 @@
+pub mod Answers
+pub mod Causes
+pub mod Lines
+pub mod Memory
+pub mod Shelves
+pub mod Steps
+pub mod Tables
+pub mod Reader
+pub mod Runs

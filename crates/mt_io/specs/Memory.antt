@@ -1,0 +1,57 @@
+-- What a source, a sink and a feed in memory are, and what their calls do to them.
+use Rattle.std.specs.Prelude.{ℕ, List, ◌++◌, drop}
+use Rattle.mt_io.specs.Causes.{counted}
+use Rattle.mt_io.specs.Tables.{Shelved}
+
+-- Bytes that are left, the most that a read gives, the numbers of the calls that fail, and how many calls and faults
+-- there were.
+pub record MemoryReader : Type 0 where
+  pub left : List ℕ
+  pub piece : ℕ
+  pub failing : List ℕ
+  pub calls : ℕ
+  pub faults : ℕ
+
+-- it was read from
+abbrev pub after_read : MemoryReader → ℕ → MemoryReader
+after_read s n = record s { left = drop n s.left; calls = counted s.calls }
+
+-- a read of it failed
+abbrev pub after_read_fault : MemoryReader → MemoryReader
+after_read_fault s = record s { calls = counted s.calls; faults = counted s.faults }
+
+-- Bytes that are held, how many can be, the numbers of the calls that fail, and how many calls and faults there were.
+pub record MemoryWriter : Type 0 where
+  pub held : List ℕ
+  pub room : ℕ
+  pub failing : List ℕ
+  pub calls : ℕ
+  pub faults : ℕ
+
+-- these bytes were written to it
+abbrev pub after_write : MemoryWriter → List ℕ → MemoryWriter
+after_write s bytes = record s { held = s.held ++ bytes; calls = counted s.calls }
+
+-- a write to it failed
+abbrev pub after_write_fault : MemoryWriter → MemoryWriter
+after_write_fault s = record s { calls = counted s.calls; faults = counted s.faults }
+
+-- Tables, the numbers of the calls that fail, and how many calls and faults there were.
+pub record MemoryTables : Type 0 where
+  pub tables : List Shelved
+  pub failing : List ℕ
+  pub calls : ℕ
+  pub faults : ℕ
+
+-- it was asked for a table
+abbrev pub after_table : MemoryTables → MemoryTables
+after_table s = record s { calls = counted s.calls }
+
+-- it was asked for a table, and failed
+abbrev pub after_table_fault : MemoryTables → MemoryTables
+after_table_fault s = record s { calls = counted s.calls; faults = counted s.faults }
+
+-- Bytes that are left, and the most that a read gives.
+pub record SureReader : Type 0 where
+  pub left : List ℕ
+  pub piece : ℕ
