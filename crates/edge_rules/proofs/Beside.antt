@@ -1,0 +1,78 @@
+-- What stands beside a call among its train's calls, and beside an event among its events.
+use Rattle.std.proofs.Common.{◌≡◌, ℕ, Bool, true, false, cond, ◌&&◌, ◌||◌, List, [], ◌∷◌, ◌++◌, refl, sym, ◌∙◌, ap, Option, Some, None, find, is_some, nat_eq}
+use Rattle.std.specs.List.{list_any}
+use Rattle.std.proofs.lemmas.Bool.{cond_both}
+use Rattle.delay_model.specs.declared.state.Call.{Call}
+use Rattle.delay_model.specs.declared.state.Event.{Event}
+use Rattle.delay_model.specs.Cuts.{before, after}
+use Rattle.delay_model.specs.Effect.{is_call}
+use Rattle.delay_model.specs.Events.{events_at, arrival_of, departure_of}
+use Rattle.train_nodes.specs.Calls.{first_label, last_label}
+use Rattle.train_nodes.proofs.Numbered.{nat_eq-from}
+
+cut-step : (b : Bool) (d c : Call) (ds front rest : List Call) (o : Option Call) → cond b (Some d) o ≡ Some c → (o ≡ Some c → ds ≡ front ++ c ∷ rest) → d ∷ ds ≡ cond b [] (d ∷ front) ++ c ∷ cond b ds rest
+cut-step true d c ds front rest o h k = let same : d ≡ c = cc in ap (λ e. e ∷ ds) same
+cut-step false d c ds front rest o h k = ap (λ es. d ∷ es) (k h)
+
+-- the calls are cut at the one that is found
+pub cut-at : (cs : List Call) (l : ℕ) (c : Call) → find (is_call l) cs ≡ Some c → cs ≡ before (is_call l) cs ++ c ∷ after (is_call l) cs
+cut-at [] l c h = absurd (cc)
+cut-at (d ∷ ds) l c h =
+    cut-step (is_call l d) d c ds (before (is_call l) ds) (after (is_call l) ds) (find (is_call l) ds) h (cut-at ds l c)
+
+-- what is found has the label
+pub label-of-found : (cs : List Call) (l : ℕ) (c : Call) → find (is_call l) cs ≡ Some c → c.label ≡ l
+label-of-found [] l c h = absurd (cc)
+label-of-found (d ∷ ds) l c h =
+    cond_both (nat_eq d.label l) (Some d) (find (is_call l) ds) (λ o. o ≡ Some c → c.label ≡ l)
+    (λ e k. let same : d ≡ c = cc in ap (λ (c : Call). c.label) (sym same) ∙ nat_eq-from d.label l e)
+    (λ _ k. label-of-found ds l c k)
+    h
+
+-- the last of these calls, with those before it
+pub record IsLast (cs : List Call) (label : ℕ) : Type 0 where
+  pub front : List Call
+  pub last : Call
+  pub whole : cs ≡ front ++ last ∷ []
+  pub is : last.label ≡ label
+
+pub last-is : (cs : List Call) (l : ℕ) → last_label cs ≡ Some l → IsLast cs l
+last-is [] l h = absurd (cc)
+last-is (c ∷ []) l h = record { front = []; last = c; whole = refl; is = cc }
+last-is (c ∷ d ∷ ds) l h =
+    let r = last-is (d ∷ ds) l h in
+    record { front = c ∷ r.front; last = r.last; whole = ap (λ xs. c ∷ xs) r.whole; is = r.is }
+
+pub last-none : (cs : List Call) → last_label cs ≡ None → cs ≡ []
+last-none [] h = refl
+last-none (c ∷ []) h = absurd (cc)
+last-none (c ∷ d ∷ ds) h = let e = last-none (d ∷ ds) h in absurd (cc)
+
+-- the first of these calls, with those after it
+pub record IsFirst (cs : List Call) (label : ℕ) : Type 0 where
+  pub first : Call
+  pub rest : List Call
+  pub whole : cs ≡ first ∷ rest
+  pub is : first.label ≡ label
+
+pub first-is : (cs : List Call) (l : ℕ) → first_label cs ≡ Some l → IsFirst cs l
+first-is [] l h = absurd (cc)
+first-is (c ∷ cs) l h = record { first = c; rest = cs; whole = refl; is = cc }
+
+pub first-none : (cs : List Call) → first_label cs ≡ None → cs ≡ []
+first-none [] h = refl
+first-none (c ∷ cs) h = absurd (cc)
+
+-- the events of calls that follow one another
+pub events-append : (train route : ℕ) (cs ds : List Call) → events_at train route (cs ++ ds) ≡ events_at train route cs ++ events_at train route ds
+events-append train route [] ds = refl
+events-append train route (c ∷ cs) ds = ap (λ es. arrival_of train route c ∷ departure_of train route c ∷ es) (events-append train route cs ds)
+
+live-step : (b l r : Bool) (e : Event) (o : Option Event) → ((b && l) || r) ≡ true → (r ≡ true → is_some o ≡ true) → is_some (cond b (Some e) o) ≡ true
+live-step true l r e o h k = refl
+live-step false l r e o h k = k h
+
+-- what has a live event is there
+pub found-of-live : (p : Event → Bool) (es : List Event) → list_any (λ v. p v && v.live) es ≡ true → is_some (find p es) ≡ true
+found-of-live p [] h = absurd (cc)
+found-of-live p (e ∷ es) h = live-step (p e) e.live (list_any (λ v. p v && v.live) es) e (find p es) h (found-of-live p es)

@@ -1,0 +1,33 @@
+use Rattle.std.proofs.Common.{map, sym, ◌∙◌, ap}
+use Rattle.edge_rules.specs.AtEvent.{given}
+use Rattle.edge_rules.proofs.Neighbours.{named-there, live-named, before-next, without-next}
+use Rattle.edge_rules.proofs.along.edge_out.Goals as goal
+
+pub next-requires : goal.next-requires
+next-requires c =
+    let st = c.args.trains.now in
+    let n = c.args.n.now in
+    let named = live-named st n c.requires.live in
+    named-there st n named.0 named.1
+
+pub edge_between-requires-clause-from_there : goal.edge_between-requires-clause-from_there
+edge_between-requires-clause-from_there c =
+    let st = c.args.trains.now in
+    let n = c.args.n.now in
+    let named = live-named st n c.requires.live in
+    named-there st n named.0 named.1
+
+pub edge_between-requires-clause-to_there : goal.edge_between-requires-clause-to_there
+edge_between-requires-clause-to_there c =
+    let st = c.args.trains.now in
+    let f = before-next c.args.opts.now st c.requires.overrides c.requires.trains c.args.n.now c.in-Some.to c.requires.live (sym c.next.ensures ∙ c.in-Some.is) in
+    named-there st c.in-Some.to f.v f.to_named
+
+pub returns-in-None-clause-edge : goal.returns-in-None-clause-edge
+returns-in-None-clause-edge c =
+    sym (ap (map given) (without-next c.args.opts.now c.args.trains.now c.requires.overrides c.requires.trains c.args.n.now c.requires.live (sym c.next.ensures ∙ c.in-None.is)))
+
+pub returns-in-Some-clause-edge : goal.returns-in-Some-clause-edge
+returns-in-Some-clause-edge c =
+    let f = before-next c.args.opts.now c.args.trains.now c.requires.overrides c.requires.trains c.args.n.now c.in-Some.to c.requires.live (sym c.next.ensures ∙ c.in-Some.is) in
+    c.edge_between.ensures.edge f.u f.v f.from_named f.to_named f.from_live f.to_live ∙ sym (ap (map given) f.out)

@@ -1,0 +1,4 @@
+pub mod Timetabled
+pub mod AtEvent
+pub mod Held
+pub mod Neighbours
