@@ -1,0 +1,7 @@
+use Rattle.std.proofs.Common.{◌≡◌, ◌++◌, take, map}
+use Rattle.csv.specs.Records.{fields_of}
+use Rattle.gtfs_tables.specs.Columns.{place_of}
+use Rattle.gtfs_tables.proofs.sheets.push_places.Given as goal
+
+abbrev pub invariant-loop-column : goal.invariant-loop-column
+invariant-loop-column l = l.places.items ≡ l.initial.places.items ++ map (place_of (fields_of l.header)) (take l.column-index l.columns)

@@ -1,0 +1,82 @@
+-- What the bytes of a field mean: numbers, times of day and dates.
+use Rattle.std.specs.Prelude.{ℕ, ◌+◌, ◌*◌, ◌-◌, ◌&&◌, ◌==◌, List, [], ◌∷◌, Bool, true, nat_lt, nat_le, length, reverse, if◌then◌else◌, Some, None, option_and_then, option_map}
+use Rattle.std.specs.declared.option.Option.{Option}
+use Rattle.mt_base.specs.Civil.{is_civil}
+
+-- a space or a tab
+abbrev pub is_blank : ℕ → Bool
+is_blank byte = if byte == 32 then true else byte == 9
+
+-- the bytes from the first that is no blank
+abbrev pub trim_start : List ℕ → List ℕ
+trim_start [] = []
+trim_start (byte ∷ bytes) = if is_blank byte then trim_start bytes else byte ∷ bytes
+
+-- the bytes up to the last that is no blank
+abbrev pub trim_end : List ℕ → List ℕ
+trim_end bytes = reverse (trim_start (reverse bytes))
+
+-- the bytes without the blanks at both ends
+abbrev pub trimmed : List ℕ → List ℕ
+trimmed bytes = trim_end (trim_start bytes)
+
+-- the number, if it is below the bound
+abbrev pub below : ℕ → ℕ → Option ℕ
+below bound n = if nat_lt n bound then Some n else None
+
+-- a digit; 48 is `0`
+abbrev pub digit : ℕ → Option ℕ
+digit byte = if nat_le 48 byte && nat_le byte 57 then Some (byte - 48) else None
+
+-- the number that digits spell behind the digits of an earlier number
+unfoldable pub digits_after : ℕ → List ℕ → Option ℕ
+digits_after n [] = Some n
+digits_after n (byte ∷ bytes) = option_and_then (λ d. digits_after (10 * n + d) bytes) (digit byte)
+
+-- a number of one to nine digits
+abbrev pub number_of : List ℕ → Option ℕ
+number_of bytes = if nat_le 1 (length bytes) && nat_le (length bytes) 9 then digits_after 0 bytes else None
+
+-- a number of one to nine digits, 0 where the field is empty
+abbrev pub number_or_zero : List ℕ → Option ℕ
+number_or_zero [] = Some 0
+number_or_zero (byte ∷ bytes) = number_of (byte ∷ bytes)
+
+-- one digit from the least to the most
+unfoldable pub digit_within : ℕ → ℕ → List ℕ → Option ℕ
+digit_within least most (byte ∷ []) = option_and_then (λ d. if nat_le least d && nat_le d most then Some d else None) (digit byte)
+digit_within least most bytes = None
+
+-- a kind of location: one digit from 0 to 4, and 0 where the field is empty
+abbrev pub location_kind : List ℕ → Option ℕ
+location_kind [] = Some 0
+location_kind (byte ∷ bytes) = digit_within 0 4 (byte ∷ bytes)
+
+-- two digits
+abbrev pub two : ℕ → ℕ → Option ℕ
+two a b = option_and_then (λ tens. option_and_then (λ ones. Some (10 * tens + ones)) (digit b)) (digit a)
+
+-- `:MM:SS` behind the hours, in seconds, with minutes and seconds below 60; 58 is `:`
+unfoldable pub clock : ℕ → List ℕ → Option ℕ
+clock hours (x ∷ a ∷ b ∷ y ∷ c ∷ d ∷ []) = if (x == 58) && (y == 58) then option_and_then (λ m. option_and_then (λ s. Some (3600 * hours + 60 * m + s)) (option_and_then (below 60) (two c d))) (option_and_then (below 60) (two a b)) else None
+clock hours bytes = None
+
+-- `H:MM:SS` or `HH:MM:SS`, in seconds
+unfoldable pub seconds_of : List ℕ → Option ℕ
+seconds_of [] = None
+seconds_of (h ∷ []) = None
+seconds_of (g ∷ h ∷ rest) = if length rest == 5 then option_and_then (λ hours. clock hours (h ∷ rest)) (digit g) else option_and_then (λ hours. clock hours rest) (two g h)
+
+-- a time: no time where the field is empty, else the seconds of `H:MM:SS` or `HH:MM:SS`
+abbrev pub time_of : List ℕ → Option (Option ℕ)
+time_of [] = Some None
+time_of (byte ∷ bytes) = option_map (λ seconds. Some seconds) (seconds_of (byte ∷ bytes))
+
+-- eight digits, as the number YYYYMMDD
+unfoldable pub eight_digits : List ℕ → Option ℕ
+eight_digits (a ∷ b ∷ c ∷ d ∷ e ∷ f ∷ g ∷ h ∷ []) = option_and_then (λ century. option_and_then (λ year. option_and_then (λ month. option_and_then (λ day. Some (1000000 * century + 10000 * year + 100 * month + day)) (two g h)) (two e f)) (two c d)) (two a b)
+eight_digits bytes = None
+
+-- eight digits that name a civil date
+unfoldable pub date_of : List ℕ → Option ℕ
+date_of bytes = option_and_then (λ date. if is_civil date then Some date else None) (eight_digits bytes)

@@ -1,0 +1,10 @@
+pub mod Names
+pub mod Fields
+pub mod Columns
+pub mod Checks
+pub mod Texts
+pub mod Sheets
+pub mod Numbers
+pub mod Numberings
+pub mod StopTimes
+pub mod Tables

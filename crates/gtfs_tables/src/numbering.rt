@@ -1,0 +1,60 @@
+//! Names by number, in the order in which they first appear.
+
+ghost use Rattle.std.specs.Prelude.{◌≡◌, [], IfOk, IfErr, OnOk};
+ghost use Rattle.gtfs_tables.specs.declared.faults.TableError.TheVariants.{OutOfMemory};
+ghost use Rattle.gtfs_tables.specs.Numbers.{number_in, names_with};
+
+use crate::faults::TableError;
+use mt_base::names::Name;
+use std::alloc::Global;
+use std::collections::BTreeMap;
+
+/// Names by number. After an error it is of no more use.
+#[derive(Drop)]
+pub struct Numbering {
+    names: Vec<Name>,
+    numbers: BTreeMap<String, u32>,
+}
+
+impl Numbering {
+    ghost use Rattle.gtfs_tables.specs.Numberings.{IsNumbered};
+
+    /// No name.
+    pub fn new(alloc: Global) -> Numbering
+        ensures names { result.names.items ≡ [] }
+        ensures numbered { IsNumbered result }
+    {
+        Numbering {
+            names: Vec::new(alloc),
+            numbers: BTreeMap::new(alloc),
+        }
+    }
+
+    /// The number of a name. A new name gets the next number.
+    pub fn number(&mut self, alloc: Global, name: &str) -> Result<u32, TableError>
+        requires { IsNumbered self.old }
+        ensures number { IfOk result (λ n. n ≡ number_in name.now self.old.names.items) }
+        ensures names { OnOk result (self.new.names.items ≡ names_with name.now self.old.names.items) }
+        ensures numbered { OnOk result (IsNumbered self.new) }
+        ensures memory { IfErr result (λ e. e ≡ OutOfMemory) }
+    {
+        if let Some(number) = self.numbers.get(name) {
+            return Ok(*number);
+        }
+        let Ok(number) = u32::try_from(self.names.len()) else {
+            return Err(TableError::OutOfMemory);
+        };
+        let key = String::from_str(alloc, name)?;
+        let text = Name::build(alloc, name)?;
+        self.numbers.insert(key, number)?;
+        self.names.push(text)?;
+        Ok(number)
+    }
+
+    /// The names in order.
+    pub fn into_names(self) -> Vec<Name>
+        ensures { result.items ≡ self.names.items }
+    {
+        self.names
+    }
+}
