@@ -1,0 +1,6 @@
+use Rattle.std.proofs.Common.{◌≡◌, ◌++◌, drop}
+use Rattle.schedule_build.specs.TripCalls.{timed_calls}
+use Rattle.schedule_build.proofs.trip_calls.timed_calls.Given as goal
+
+abbrev pub invariant-loop-row : goal.invariant-loop-row
+invariant-loop-row l = l.calls.items ++ timed_calls l.day (drop l.row-index l.rows) ≡ timed_calls l.day l.rows

@@ -1,0 +1,9 @@
+pub mod Dates
+pub mod Faults
+pub mod Groups
+pub mod InOrder
+pub mod Lawful
+pub mod Runs
+pub mod Schedule
+pub mod Services
+pub mod TripCalls
