@@ -1,7 +1,8 @@
 -- The runs of lawful tables can be loaded.
 use Rattle.std.proofs.Common.{rules, ◌≡◌, ℕ, zero, suc, ◌+◌, ◌<◌, ◌≤◌, List, [], ◌∷◌, Bool, true, false, ◌&&◌, cond, All, sym, ap, subst, arith, inl, inr}
 use Rattle.std.proofs.lemmas.Bool.{cases_Bool}
-use Rattle.std.proofs.lemmas.List.Elements.{All-nil, All-cons, All-append}
+use Rattle.std.proofs.lemmas.List.Elements.{All-nil, All-cons, All-append, All-head, All-tail}
+use Rattle.mt_base.specs.declared.tables.CallRow.{CallRow}
 use Rattle.mt_base.specs.declared.tables.TripRow.{TripRow}
 use Rattle.mt_base.specs.declared.tables.Tables.{Tables}
 use Rattle.schedule_build.specs.declared.runs.Run.{Run}
@@ -46,3 +47,9 @@ days-fit t first day (suc days) h l =
 -- the runs of up to 31 days
 pub runs-fit : (t : Tables) (first days : ℕ) → IsLawful t → days ≤ 31 → All (IsFit t.calls) (all_runs t first days)
 runs-fit t first days h l = days-fit t first 0 days h (omega arith)
+
+-- runs that fit are of loaded days
+pub days-loaded : (calls : List CallRow) (runs : List Run) → All (IsFit calls) runs → All (λ (r : Run). r.day < 31) runs
+days-loaded calls [] h = All-nil (λ (r : Run). r.day < 31)
+days-loaded calls (r ∷ runs) h =
+    All-cons (λ (r : Run). r.day < 31) r runs (All-head (IsFit calls) r runs h).day (days-loaded calls runs (All-tail (IsFit calls) r runs h))

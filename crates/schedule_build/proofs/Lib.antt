@@ -1,7 +1,12 @@
 pub mod CallLemmas
 pub mod DateLemmas
 pub mod FitLemmas
+pub mod GoodTrains
 pub mod GroupLemmas
+pub mod NumberLemmas
 pub mod OrderLemmas
 pub mod RunLemmas
+pub mod SmallTimes
 pub mod StateLemmas
+pub mod TrainNameLemmas
+pub mod ValidLemmas

@@ -1,9 +1,13 @@
 pub mod Dates
+pub mod Directory
 pub mod Faults
 pub mod Groups
 pub mod InOrder
 pub mod Lawful
 pub mod Runs
 pub mod Schedule
+pub mod Seen
 pub mod Services
+pub mod Stored
+pub mod StoredTrains
 pub mod TripCalls

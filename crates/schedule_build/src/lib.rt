@@ -2,15 +2,24 @@
 #![tactic(auto)]
 
 pub mod dates;
+pub mod directory;
+mod directory_of;
 pub mod faults;
 mod groups;
+mod name_list;
+mod name_numbers;
+mod places;
 mod running;
 pub mod runs;
 pub mod schedule;
 pub mod services;
+mod train_names;
 pub mod trip_calls;
+pub mod valid;
 
 pub use dates::date_after;
+pub use directory::Directory;
 pub use faults::ExpandFault;
 pub use schedule::expand;
 pub use services::active;
+pub use valid::schedules_are_valid;

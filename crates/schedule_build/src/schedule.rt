@@ -4,6 +4,7 @@ ghost use Rattle.std.specs.Prelude.{◌≡◌, ◌+◌, ◌<◌, ◌≤◌, ◌^
 ghost use Rattle.std.specs.List.Sorted.{IsNonDecreasingBy};
 ghost use Rattle.mt_base.specs.Civil.{IsCivil};
 ghost use Rattle.mt_base.specs.Options.{IsInRange};
+ghost use Rattle.schedule_build.specs.Directory.{names_of};
 ghost use Rattle.schedule_build.specs.Faults.{IsFault};
 ghost use Rattle.schedule_build.specs.Groups.{IsGrouped, trip_of};
 ghost use Rattle.schedule_build.specs.Lawful.{IsLawful};
@@ -11,6 +12,8 @@ ghost use Rattle.schedule_build.specs.Runs.{all_runs};
 ghost use Rattle.schedule_build.specs.Schedule.{IsFit, pushed, run_calls, count_calls, too_many, schedule_of, schedule};
 ghost use Rattle.schedule_build.specs.TripCalls.{IsTimely, timed_calls};
 
+use crate::directory::Directory;
+use crate::directory_of::directory_of;
 use crate::faults::ExpandFault;
 use crate::groups::{grouped, rows_of};
 use crate::runs::{Run, all_runs};
@@ -123,22 +126,24 @@ fn load(
     Ok(trains)
 }
 
-/// The trains of so many service days from the date `first` on, a number YYYYMMDD of a year up to 2100: one for each day and, in
-/// the order of `trips.txt`, each trip whose service is active on that day and which has calls. There is room for what the options
-/// spare. Too many are more than 200,000 trains, or else more than 2,000,000 events, two for each call.
+/// The trains of so many service days from the date `first` on, a number YYYYMMDD of a year up to 2100, and the names of the feed's
+/// timetable of these days. There is a train for each day and, in the order of `trips.txt`, each trip whose service is active on that
+/// day and which has calls. There is room for what the options spare. Too many are more than 200,000 trains, or else more than
+/// 2,000,000 events, two for each call.
 pub fn expand(
     alloc: Global,
     t: &Tables,
     first: u32,
     days: u32,
     opts: &Opts,
-) -> Result<Trains, ExpandFault>
+) -> Result<(Trains, Directory), ExpandFault>
     requires lawful { IsLawful t.now }
     requires civil { IsCivil first }
     requires year { first < 21010000 }
     requires few_days { days ≤ 31 }
     requires options { IsInRange opts.now }
-    ensures schedule { IfOk result (λ trains. trains ≡ schedule t.now first days opts.now) }
+    ensures schedule { IfOk result (λ r. r.0 ≡ schedule t.now first days opts.now) }
+    ensures names { IfOk result (λ r. r.1 ≡ names_of t.now first days) }
     ensures fits { IfOk result (λ _. too_many t.now.calls (all_runs t.now first days) ≡ None) }
     ensures fault { IfErr result (IsFault (too_many t.now.calls (all_runs t.now first days))) }
 {
@@ -148,5 +153,6 @@ pub fn expand(
         return Err(ExpandFault::TooMany { what: What::Nodes });
     };
     let trains = load(alloc, all.as_slice(), runs.as_slice(), calls, opts)?;
-    Ok(trains)
+    let directory = directory_of(alloc, t, runs.as_slice(), first, days)?;
+    Ok((trains, directory))
 }

@@ -2,12 +2,14 @@
 #![tactic(auto)]
 
 pub mod calls;
+pub mod messages;
 mod room;
 pub mod steps;
 pub mod times;
 pub mod trains;
 
 pub use calls::TableCall;
+pub use messages::Msg;
 pub use steps::Steps;
 pub use times::NodeTimes;
 pub use trains::Trains;

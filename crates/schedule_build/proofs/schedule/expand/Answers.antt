@@ -1,10 +1,11 @@
-use Rattle.std.proofs.Common.{◌∙◌, ap, sym, subst, length, arith, All}
+use Rattle.std.proofs.Common.{◌∙◌, ◌<◌, ap, sym, subst, length, arith, All}
 use Rattle.std.proofs.lemmas.List.Sorted.{length_permutation, All-permutation}
 use Rattle.schedule_build.specs.Groups.{IsGrouped}
+use Rattle.schedule_build.specs.declared.runs.Run.{Run}
 use Rattle.schedule_build.specs.Runs.{all_runs}
 use Rattle.schedule_build.specs.Schedule.{IsFit, count_calls, schedule_of}
 use Rattle.schedule_build.specs.TripCalls.{IsTimely}
-use Rattle.schedule_build.proofs.FitLemmas.{runs-fit}
+use Rattle.schedule_build.proofs.FitLemmas.{runs-fit, days-loaded}
 use Rattle.schedule_build.proofs.StateLemmas.{count-same, schedule-same, fit-same, few-enough}
 use Rattle.schedule_build.proofs.schedule.expand.Goals as goal
 
@@ -54,3 +55,9 @@ returns-clause-schedule c =
     ∙ ap (λ rows. schedule_of rows c.as_slice-6.result.now o) c.as_slice-5.ensures.value
     ∙ ap (λ rs. schedule_of c.in_ok-all.all.items rs o) (c.as_slice-6.ensures.value ∙ c.in_ok-runs.ensures.runs)
     ∙ schedule-same t.calls c.in_ok-all.all.items runs o g.same
+
+pub directory_of-requires-clause-loaded : goal.directory_of-requires-clause-loaded
+directory_of-requires-clause-loaded c =
+    let t = c.args.t.now in
+    let days = days-loaded t.calls (all_runs t c.args.first c.args.days) (runs-fit t c.args.first c.args.days c.requires.lawful c.requires.few_days) in
+    subst (All (λ (r : Run). r.day < 31)) (sym (c.as_slice-7.ensures.value ∙ c.in_ok-runs.ensures.runs)) days

@@ -1,0 +1,8 @@
+use Rattle.std.proofs.Common.{◌≡◌, drop}
+use Rattle.schedule_build.specs.Directory.{day_named, number_from}
+use Rattle.std.specs.Prelude.{nat_eq}
+use Rattle.schedule_build.proofs.directory.Directory.day.Given as goal
+
+-- the day is among those that are left
+abbrev pub invariant-loop-day : goal.invariant-loop-day
+invariant-loop-day l = day_named l.fn.self l.date ≡ number_from l.day (λ d. nat_eq d l.date) (drop l.day l.self-inside.dates.items)

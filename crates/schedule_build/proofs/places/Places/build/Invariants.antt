@@ -1,0 +1,12 @@
+use Rattle.std.proofs.Common.{◌≡◌, take, map}
+use Rattle.schedule_build.specs.Directory.{place_of_row}
+use Rattle.schedule_build.specs.Stored.{IsNumbered, seen_place}
+use Rattle.schedule_build.specs.declared.places.StoredPlace.{StoredPlace}
+use Rattle.schedule_build.proofs.places.Places.build.Given as goal
+
+-- the places of the rows so far, and their numbers
+abbrev pub invariant-loop-row : goal.invariant-loop-row
+invariant-loop-row l = record {
+  places : map seen_place l.places.items ≡ map place_of_row (take l.row-index l.rows);
+  numbers : IsNumbered (map (λ (p : StoredPlace). p.id) l.places.items) l.numbers;
+}

@@ -1,0 +1,145 @@
+//! The names of a timetable, and the numbers that they stand for.
+
+ghost use Rattle.std.specs.Prelude.{◌≡◌, ◌<◌, ◌≤◌, IfOk, IfSome, length};
+ghost use Rattle.schedule_build.specs.Directory.{train_named, day_named, place_named, route_named, date_of_day, base_of, trip_of_train, day_of_train, id_of_place, kind_of_place};
+
+use crate::name_list::NameList;
+use crate::places::Places;
+use crate::train_names::TrainNames;
+use mt_base::numbers::{Day, RouteNo, StopNo, Time, TrainNo};
+use std::marker::Model;
+
+/// The names of the trains, places, routes and days of a timetable. It is seen as these names in the order of their numbers.
+#[derive(Drop)]
+pub struct Directory {
+    dates: Vec<u32>,
+    places: Places,
+    routes: NameList,
+    trains: TrainNames,
+}
+
+impl Model for Directory {
+    ghost use Rattle.schedule_build.specs.Directory.{Names};
+
+    ghost Value = { Names };
+
+    ghost use Rattle.std.specs.Prelude.{◌≤◌, length};
+    ghost use Rattle.schedule_build.specs.Seen.{seen};
+
+    ghost view = { seen };
+
+    ghost invariant = { λ a. length a.dates.items ≤ 31 };
+}
+
+impl Directory {
+    /// The directory with the dates of the loaded days, and with these places, routes and trains.
+    pub(crate) fn build(
+        dates: Vec<u32>,
+        places: Places,
+        routes: NameList,
+        trains: TrainNames,
+    ) -> Directory
+        requires { length dates.items ≤ 31 }
+        ensures { result ≡ record { dates = dates.items; places = places; routes = routes; trains = trains } }
+    {
+        Directory {
+            dates,
+            places,
+            routes,
+            trains,
+        }
+    }
+
+    /// The train of a trip on a service day. None exactly where there is none.
+    #[tactic(auto, unfolding(crate::specs::Directory::train_named))]
+    pub fn train(&self, trip: &str, day: Day) -> Option<TrainNo>
+        ensures number { result ≡ train_named self.now trip.now day }
+        ensures there { IfSome result (λ t. t < length self.now.trains) }
+    {
+        let number = self.trains.find(trip, day)?;
+        Some(TrainNo::new(number))
+    }
+
+    /// The loaded day that has a date, a number YYYYMMDD. None exactly where no loaded day has it.
+    #[tactic(auto, unfolding(crate::specs::Directory::day_named))]
+    pub fn day(&self, date: u32) -> Option<Day>
+        ensures number { result ≡ day_named self.now date }
+        ensures there { IfSome result (λ d. d < 31) }
+    {
+        for day in 0..self.dates.len() {
+            if self.dates[day] == date {
+                return Some(Day::new(day as u32));
+            }
+        }
+        None
+    }
+
+    /// The place with this `stop_id`. None exactly where there is none.
+    #[tactic(auto, unfolding(crate::specs::Directory::place_named))]
+    pub fn stop(&self, id: &str) -> Option<StopNo>
+        ensures { result ≡ place_named self.now id.now }
+    {
+        let number = self.places.find(id)?;
+        Some(StopNo::new(number))
+    }
+
+    /// The route with this `route_id`. None exactly where there is none.
+    #[tactic(auto, unfolding(crate::specs::Directory::route_named))]
+    pub fn route(&self, id: &str) -> Option<RouteNo>
+        ensures { result ≡ route_named self.now id.now }
+    {
+        let number = self.routes.find(id)?;
+        Some(RouteNo::new(number))
+    }
+
+    /// The date of a service day as the number YYYYMMDD, or 0 where the day is not loaded.
+    pub fn date(&self, day: Day) -> u32
+        ensures { result ≡ date_of_day self.now day }
+    {
+        self.dates.get(day.get() as usize).copied().unwrap_or(0)
+    }
+
+    /// The base of a service day in seconds from the base of day 0.
+    pub fn base(&self, day: Day) -> Time
+        requires { day < 31 }
+        ensures { result ≡ base_of day }
+    {
+        Time::new(86_400 * day.get())
+    }
+
+    /// How many trains there are.
+    pub fn trains(&self) -> u32
+        ensures { result ≡ length self.now.trains }
+    {
+        self.trains.len()
+    }
+
+    /// The `trip_id` of a train, or the empty text where there is no such train.
+    pub fn trip_name(&self, train: TrainNo) -> &str
+        ensures { result.now ≡ trip_of_train self.now train }
+    {
+        self.trains.trip(train.get())
+    }
+
+    /// The service day of a train, or day 0 where there is no such train.
+    pub fn train_day(&self, train: TrainNo) -> Day
+        ensures day { result ≡ day_of_train self.now train }
+        ensures loaded { result < 31 }
+    {
+        self.trains.day(train.get())
+    }
+
+    /// The `location_type` of a place, or 0 where there is no such place.
+    pub fn stop_kind(&self, stop: StopNo) -> u32
+        ensures { result ≡ kind_of_place self.now stop }
+    {
+        self.places.kind(stop.get())
+    }
+
+    /// The `stop_id` of a place, or the empty text where there is no such place.
+    pub fn stop_name(&self, stop: StopNo) -> &str
+        ensures { result.now ≡ id_of_place self.now stop }
+    {
+        self.places.id(stop.get())
+    }
+}

@@ -1,0 +1,91 @@
+//! The names of a feed's timetable.
+
+ghost use Rattle.std.specs.Prelude.{◌≡◌, ◌<◌, ◌≤◌, All, IfOk, length, map};
+ghost use Rattle.mt_base.specs.Civil.{IsCivil};
+ghost use Rattle.schedule_build.specs.Directory.{dates_from, name_of_run, names_of};
+ghost use Rattle.schedule_build.specs.Runs.{all_runs};
+ghost use Rattle.schedule_build.specs.declared.runs.Run.{Run};
+
+use crate::dates::date_after;
+use crate::directory::Directory;
+use crate::name_list::NameList;
+use crate::places::Places;
+use crate::runs::Run;
+use crate::train_names::TrainNames;
+use mt_base::memory::OutOfMemory;
+use mt_base::names::Name;
+use mt_base::numbers::Day;
+use mt_base::tables::{Tables, TripRow};
+use std::alloc::Global;
+
+/// The dates of so many days from the date `first` on.
+fn dates(alloc: Global, first: u32, days: u32) -> Result<Vec<u32>, OutOfMemory>
+    requires civil { IsCivil first }
+    requires year { first < 21010000 }
+    requires few { days ≤ 31 }
+    ensures dates { IfOk result (λ dates. dates.items ≡ dates_from first 0 days) }
+    ensures few { IfOk result (λ dates. length dates.items ≤ 31) }
+{
+    let mut dates = Vec::new(alloc);
+    for day in 0..days {
+        dates.push(date_after(first, day))?;
+    }
+    Ok(dates)
+}
+
+/// The names in their order.
+fn names(alloc: Global, rows: &[Name]) -> Result<NameList, OutOfMemory>
+    ensures { IfOk result (λ names. names ≡ rows.now) }
+{
+    let mut names = NameList::new(alloc);
+    for row in rows {
+        names.push(alloc, row.text())?;
+    }
+    Ok(names)
+}
+
+/// The `trip_id` of a trip, or the empty text where there is no such row.
+fn trip_id<'t>(trips: &'t [TripRow], run: &Run) -> &'t str
+    ensures { result.now ≡ (name_of_run trips.now run.now).trip }
+{
+    match trips.get(run.trip as usize) {
+        Some(row) => row.id.text(),
+        None => "",
+    }
+}
+
+/// The names of the trains of the runs.
+fn trains(alloc: Global, trips: &[TripRow], runs: &[Run]) -> Result<TrainNames, OutOfMemory>
+    requires few { length runs.now ≤ 200000 }
+    requires loaded { All (λ (r : Run). r.day < 31) runs.now }
+    ensures { IfOk result (λ trains. trains ≡ map (name_of_run trips.now) runs.now) }
+{
+    let mut trains = TrainNames::new(alloc);
+    for run in runs {
+        trains.push(alloc, trip_id(trips, run), Day::new(run.day))?;
+    }
+    Ok(trains)
+}
+
+/// The names of a feed's timetable of so many days from the date `first` on, of which these are the runs.
+pub(crate) fn directory_of(
+    alloc: Global,
+    t: &Tables,
+    runs: &[Run],
+    first: u32,
+    days: u32,
+) -> Result<Directory, OutOfMemory>
+    requires civil { IsCivil first }
+    requires year { first < 21010000 }
+    requires few_days { days ≤ 31 }
+    requires runs { runs.now ≡ all_runs t.now first days }
+    requires few_runs { length runs.now ≤ 200000 }
+    requires loaded { All (λ (r : Run). r.day < 31) runs.now }
+    ensures { IfOk result (λ directory. directory ≡ names_of t.now first days) }
+{
+    let places = Places::build(alloc, t.stops.as_slice())?;
+    let routes = names(alloc, t.routes.as_slice())?;
+    let trains = trains(alloc, t.trips.as_slice(), runs)?;
+    let dates = dates(alloc, first, days)?;
+    Ok(Directory::build(dates, places, routes, trains))
+}
