@@ -31,7 +31,8 @@ use Rattle.edge_rules.proofs.Given.{read}
 abbrev pub IsOpen : Event → Type 0
 IsOpen v = v.report ≡ None
 
-open-at : (train route : ℕ) (cs : List Call) → All IsUnreported cs → All IsOpen (events_at train route cs)
+-- no event of such calls is reported
+pub open-at : (train route : ℕ) (cs : List Call) → All IsUnreported cs → All IsOpen (events_at train route cs)
 open-at train route [] h = All-nil IsOpen
 open-at train route (c ∷ cs) h =
     let here = All-head IsUnreported c cs h in
@@ -50,7 +51,7 @@ after-open k (e ∷ es) h =
     let rest = All-tail IsOpen e es h in
     cond_both (is_same e.key k) es (after_key k es) (All IsOpen) (λ _. rest) (λ _. after-open k es rest)
 
-none-live : (v : Event) → IsOpen v → live_report v ≡ None
+pub none-live : (v : Event) → IsOpen v → live_report v ≡ None
 none-live v h = cond_both v.live v.report None (λ r. r ≡ None) (λ _. h) (λ _. refl)
 
 none-reported : (train : ℕ) (es : List Event) → All IsOpen es → first_report train es ≡ None
@@ -63,7 +64,8 @@ no-cap : (st : State) (v : Event) → All IsUnderWay st.trains → cap (events s
 unfolding cap events
 no-cap st v h = none-reported v.key.train (after_key v.key (events_from 0 st.trains)) (after-open v.key (events_from 0 st.trains) (open-from 0 st.trains h))
 
-found-all : {X : Type 0} (P : X → Type 0) (p : X → Bool) (xs : List X) (x : X) → All P xs → find p xs ≡ Some x → P x
+-- what holds of each element holds of the one that is found
+pub found-all : {X : Type 0} (P : X → Type 0) (p : X → Bool) (xs : List X) (x : X) → All P xs → find p xs ≡ Some x → P x
 found-all P p [] x h e = absurd (cc)
 found-all P p (y ∷ ys) x h e =
     cond_both (p y) (Some y) (find p ys) (λ o. o ≡ Some x → P x) (λ _ k. let same : y ≡ x = cc in subst P same (All-head P y ys h))

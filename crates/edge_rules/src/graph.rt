@@ -52,9 +52,10 @@ impl Graph {
         Graph { trains, opts }
     }
 
-    /// The trains.
+    /// The trains. No two calls of one of them have one label, and nothing is reported.
     pub fn trains(&self) -> &Trains
-        ensures { result.now ≡ self.now.state }
+        ensures trains { result.now ≡ self.now.state }
+        ensures under_way { All IsUnderWay self.now.state.trains }
     {
         &self.trains
     }

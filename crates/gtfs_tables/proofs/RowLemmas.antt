@@ -33,7 +33,7 @@ call_columns = needed_columns ++ other_columns
 
 -- the fields of the current row
 abbrev pub call_at : ℕ → Sheet → Result Call Fault
-call_at row sheet = call_of row (cell sheet 0) (cell sheet 1) (cell sheet 2) (cell sheet 3) (cell sheet 4) (cell sheet 5) (cell sheet 6)
+call_at row sheet = call_of row (cell sheet 0) (cell sheet 1) (cell sheet 2) (cell sheet 3) (cell sheet 4) [] []
 
 -- a table has the same header and columns after a row more
 pub under_kept : (header : List (List ℕ)) (columns : List Column) (old new : Sheet) → new.width ≡ old.width → new.places ≡ old.places → IsUnder header columns old → IsUnder header columns new
@@ -70,7 +70,7 @@ rows_from-taken header row s old new rest others read under there split good is 
     is
     ∙ ap (rows_from call_step header row s) split
     ∙ ap (λ (r : Result (Unit {0}) Fault). r >>= λ _. call_step row (field_in header fields) s >>= λ next. rows_from call_step header (row + 1) next others) checked
-    ∙ sym (ap (λ (ps : List (Option ℕ)). (call_of row (at ps 0) (at ps 1) (at ps 2) (at ps 3) (at ps 4) (at ps 5) (at ps 6) >>= λ call. with_call row call s) >>= λ next. rows_from call_step header (row + 1) next others) there.places)
+    ∙ sym (ap (λ (ps : List (Option ℕ)). (call_of row (at ps 0) (at ps 1) (at ps 2) (at ps 3) (at ps 4) [] [] >>= λ call. with_call row call s) >>= λ next. rows_from call_step header (row + 1) next others) there.places)
 
 -- a table is its header and then its rows
 pub table_from-header : (needed : List Column) (all : List (List (List ℕ))) → table_from needed call_step no_calls all ≡ (header_of needed all >>= λ p. rows_from call_step p.0 2 no_calls p.1)

@@ -7,7 +7,7 @@ use Rattle.std.specs.BTreeMap.{insert_entry, is_at}
 use Rattle.std.specs.Map.{lookup}
 use Rattle.mt_base.specs.declared.tables.CallRow.{CallRow}
 use Rattle.gtfs_tables.specs.declared.columns.Column.{Column}
-use Rattle.gtfs_tables.specs.declared.columns.Column.TheVariants.{TripId, ArrivalTime, DepartureTime, StopId, StopSequence, PickupType, DropOffType}
+use Rattle.gtfs_tables.specs.declared.columns.Column.TheVariants.{TripId, ArrivalTime, DepartureTime, StopId, StopSequence}
 use Rattle.gtfs_tables.specs.declared.faults.Cause.TheVariants.{BadTime, BadNumber, DuplicateKey, TooFewCalls, UntimedEnd, BackwardsTimes}
 use Rattle.gtfs_tables.specs.declared.faults.Fault.{Fault}
 use Rattle.gtfs_tables.specs.declared.calls.CallTimes.{CallTimes}
@@ -19,9 +19,9 @@ use Rattle.gtfs_tables.specs.Numbers.{number_in, names_with}
 abbrev pub needed_columns : List Column
 needed_columns = TripId ∷ ArrivalTime ∷ DepartureTime ∷ StopId ∷ StopSequence ∷ []
 
--- the columns that it may have
+-- the columns that it may have: none is read
 abbrev pub other_columns : List Column
-other_columns = PickupType ∷ DropOffType ∷ []
+other_columns = []
 
 -- the fields of a row
 pub record Call : Type 0 where
@@ -80,10 +80,10 @@ with_call row call s =
       by_key = insert_entry key_cmp s.by_key (trip, call.seq) (record { row = row; arr = call.arr; dep = call.dep });
     })
 
--- what a row makes of the calls so far
+-- what a row makes of the calls so far: where the table stands alone, its `pickup_type` and `drop_off_type` are not read
 abbrev pub call_step : Step Calls
 call_step row field s =
-    call_of row (field TripId) (field ArrivalTime) (field DepartureTime) (field StopId) (field StopSequence) (field PickupType) (field DropOffType)
+    call_of row (field TripId) (field ArrivalTime) (field DepartureTime) (field StopId) (field StopSequence) [] []
     >>= λ call. with_call row call s
 
 -- the call has a time

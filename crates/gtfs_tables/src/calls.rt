@@ -1,16 +1,16 @@
 //! The rows of `stop_times.txt`.
 
-ghost use Rattle.std.specs.Prelude.{◌≡◌, ◌<◌, length, true, OnOk};
+ghost use Rattle.std.specs.Prelude.{◌≡◌, ◌<◌, [], length, true, OnOk};
 ghost use Rattle.csv.specs.Records.{fields_of};
 ghost use Rattle.gtfs_tables.specs.Checks.{Gives, all_utf8, fault, need};
 ghost use Rattle.gtfs_tables.specs.Sheets.{cell};
 ghost use Rattle.gtfs_tables.specs.Tables.{call_view};
-ghost use Rattle.gtfs_tables.specs.Fields.{time_of, number_of, number_or_zero};
+ghost use Rattle.gtfs_tables.specs.Fields.{time_of, number_of};
 ghost use Rattle.gtfs_tables.specs.StopTimes.{call_of, with_call, no_calls};
 ghost use Rattle.gtfs_tables.specs.declared.faults.Cause.TheVariants.{BadTime, BadNumber};
 
 use crate::faults::{Cause, Fault, TableError};
-use crate::fields::{number, number_or_zero, time};
+use crate::fields::{number, time};
 use crate::numbering::Numbering;
 use crate::sheets::Sheet;
 use mt_base::numbers::StopNo;
@@ -67,40 +67,25 @@ fn number_at(sheet: &Sheet<'_>, row: u64, i: usize) -> Result<u32, TableError>
     }
 }
 
-fn number_or_zero_at(sheet: &Sheet<'_>, row: u64, i: usize) -> Result<u32, TableError>
-    requires { i < length sheet.now.places.items }
-    ensures { Gives (λ n. n) result (need (fault row BadNumber) (number_or_zero (cell sheet.now i))) }
-{
-    match number_or_zero(sheet.field(i)) {
-        Some(number) => Ok(number),
-        None => Err(TableError::Bad(Fault {
-            row,
-            cause: Cause::BadNumber,
-        })),
-    }
-}
-
-/// The fields of the current row, or the first fault in them.
+/// The fields of the current row, or the first fault in them. Passengers may board and alight.
 #[tactic(auto, unfolding(crate::specs::StopTimes::call_of))]
 pub fn read_call<'s>(sheet: &'s Sheet<'_>, row: u64) -> Result<CallFields<'s>, TableError>
-    requires columns { length sheet.now.places.items ≡ 7 }
+    requires columns { length sheet.now.places.items ≡ 5 }
     requires text { all_utf8 (fields_of sheet.now.current) ≡ true }
     ensures { Gives call_view result (call_of row (cell sheet.now 0) (cell sheet.now 1) (cell sheet.now 2)
-        (cell sheet.now 3) (cell sheet.now 4) (cell sheet.now 5) (cell sheet.now 6)) }
+        (cell sheet.now 3) (cell sheet.now 4) [] []) }
 {
     let arr = time_at(sheet, row, 1)?;
     let dep = time_at(sheet, row, 2)?;
     let seq = number_at(sheet, row, 4)?;
-    let pickup = number_or_zero_at(sheet, row, 5)?;
-    let drop_off = number_or_zero_at(sheet, row, 6)?;
     Ok(CallFields {
         trip: sheet.text(0),
         stop: sheet.text(3),
         seq,
         arr,
         dep,
-        board: pickup != 1,
-        alight: drop_off != 1,
+        board: true,
+        alight: true,
     })
 }
 

@@ -19,7 +19,7 @@ use std::alloc::Global;
 use std::collections::BTreeMap;
 
 /// The calls of trips, where the table stands alone: trips and stops are any names, numbered in the order in which
-/// they first appear.
+/// they first appear, and passengers may board and alight at every call.
 #[derive(Drop)]
 pub struct StopTimes {
     /// The names of the trips, by number.
@@ -118,7 +118,7 @@ fn check_trips(alloc: Global, by_key: &BTreeMap<(u32, u32), CallTimes>) -> Resul
 // The rows behind the header. No text in memory has so many rows that their numbers run out.
 fn read_calls(alloc: Global, sheet: &mut Sheet<'_>) -> Result<CallTable, TableError>
     requires rests { Rests sheet.old.reader }
-    requires columns { length sheet.old.places.items ≡ 7 }
+    requires columns { length sheet.old.places.items ≡ 5 }
     ensures { (header : List (List ℕ)) (all : List (List (List ℕ))) → IsUnder header (needed_columns ++ other_columns) sheet.old
         → Remains sheet.old.reader all → Gives calls_view result (rows_from call_step header 2 no_calls all) }
 {
@@ -144,8 +144,7 @@ pub fn read_stop_times(alloc: Global, text: &[u8]) -> Result<StopTimes, TableErr
         Column::StopId,
         Column::StopSequence,
     ];
-    let others = [Column::PickupType, Column::DropOffType];
-    let mut sheet = Sheet::open(alloc, text, &needed, &others)?;
+    let mut sheet = Sheet::open(alloc, text, &needed, &[])?;
     let table = read_calls(alloc, &mut sheet)?;
     check_trips(alloc, &table.by_key)?;
     Ok(StopTimes {

@@ -9,13 +9,14 @@ fn fault(alloc: Global, text: &[u8]) -> Option<(u64, Cause)> {
     }
 }
 
-// A byte order mark, columns in another order, one name twice, blanks, quotes, blank lines, and no line end at the end.
+// A byte order mark, columns in another order, one name twice, blanks, quotes, blank lines, no line end at the end,
+// and a pickup_type, which is not read.
 #[test]
 fn reads_a_table(rt: HostRuntime) -> Result<(), Fail> {
     let table = read_stop_times(
         rt.alloc(),
         b"\xEF\xBB\xBFstop_id, trip_id ,departure_time,arrival_time,stop_sequence,trip_id,pickup_type\r\n\
-          \"A, \"\"x\"\"\",T,8:00:00,,2,U,1\r\n\r\nB,T,,08:30:00,010,U,\r\nB,S,25:00:00,24:59:59,2,U,\r\n\tA,S,7:00:00,,1,U,1",
+          \"A, \"\"x\"\"\",T,8:00:00,,2,U,1\r\n\r\nB,T,,08:30:00,010,U,\r\nB,S,25:00:00,24:59:59,2,U,\r\n\tA,S,7:00:00,,1,U,often",
     );
     let Ok(table) = table else {
         assert!(rt; false);
@@ -30,7 +31,7 @@ fn reads_a_table(rt: HostRuntime) -> Result<(), Fail> {
     assert_eq!(rt; stops[0].text(), "A, \"x\"");
     assert_eq!(rt;
         (calls[0].arr, calls[0].dep, calls[0].board),
-        (None, Some(28_800), false)
+        (None, Some(28_800), true)
     );
     assert_eq!(rt;
         (calls[1].seq, calls[1].arr, calls[1].board),

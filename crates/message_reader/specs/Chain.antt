@@ -6,19 +6,19 @@ use Rattle.message_reader.specs.declared.bad.Bad.TheVariants.{Utf8, Json, Shape,
 
 infixl 10 ◌>>=◌
 -- the next step, unless there was a fault
-abbrev pub ◌>>=◌ : {A B : Type 0} → Result A Bad → (A → Result B Bad) → Result B Bad
+abbrev pub ◌>>=◌ : {A B E : Type 0} → Result A E → (A → Result B E) → Result B E
 (Ok x) >>= f = f x
 (Err e) >>= f = Err e
 
 -- the value, or this fault where there is none
-abbrev pub need : {A : Type 0} → Bad → Option A → Result A Bad
-need bad None = Err bad
-need bad (Some x) = Ok x
+abbrev pub need : {A E : Type 0} → E → Option A → Result A E
+need fault None = Err fault
+need fault (Some x) = Ok x
 
 -- this fault, unless the test holds
-abbrev pub unless : Bool → Bad → Result (Unit {0}) Bad
-unless true bad = Ok tt
-unless false bad = Err bad
+abbrev pub unless : {E : Type 0} → Bool → E → Result (Unit {0}) E
+unless true fault = Ok tt
+unless false fault = Err fault
 
 -- a fault is the one that reading gives; memory may run out whatever is read
 abbrev pub Fails : {Y : Type 0} → Bad → Result Y Bad → Type 0

@@ -5,3 +5,4 @@ pub mod Wires
 pub mod Messages
 pub mod Lines
 pub mod Spelled
+pub mod Resolved

@@ -15,6 +15,7 @@ use Rattle.message_reader.specs.declared.bad.Bad.TheVariants.{Utf8, Json, Shape}
 use Rattle.message_reader.specs.declared.kinds.Kind.{Kind}
 use Rattle.message_reader.specs.declared.kinds.Kind.TheVariants as kinds
 use Rattle.message_reader.specs.declared.wire.Connect.TheVariants as connects
+use Rattle.message_reader.specs.declared.wire.Wire.{Wire}
 use Rattle.message_reader.specs.declared.wire.WireLine.{WireLine}
 use Rattle.message_reader.specs.declared.wire.WireLine.TheVariants.{Message, Flush}
 use Rattle.message_reader.specs.Chain.{◌>>=◌, need, unless}
@@ -62,3 +63,16 @@ line_of bytes = do
   text ← utf8_of bytes
   d ← json_of text
   said_by d
+
+-- what the object of a forecast says; the object of every other type has the wrong shape
+unfoldable pub forecast_in : Kind → Data → Result Wire Bad
+forecast_in kinds.Forecast d = event_of false d
+forecast_in _ d = Err Shape
+
+-- the first fault that holds, or the forecast that the line says, where lines of every other type are bad
+unfoldable pub forecast_of : List ℕ → Result Wire Bad
+forecast_of bytes = do
+  text ← utf8_of bytes
+  d ← json_of text
+  kind ← head_of d
+  forecast_in kind d

@@ -1,5 +1,5 @@
 -- What is true of each message that was read.
-use Rattle.std.specs.Prelude.{◌≤◌, All, length}
+use Rattle.std.specs.Prelude.{◌≡◌, ◌≤◌, false, All, length}
 use Rattle.mt_base.specs.Civil.{IsCivil}
 use Rattle.message_reader.specs.declared.wire.WireCall.{WireCall}
 use Rattle.message_reader.specs.declared.wire.Wire.{Wire}
@@ -19,7 +19,12 @@ IsWire (Reroute trip date from to via) = IsCivil date × All IsWireCall via
 IsWire (Extra trip date route calls) = IsCivil date × All IsWireCall calls × (2 ≤ length calls)
 IsWire (Connect kind feeder train) = IsCivil feeder.date × IsCivil train.date
 
--- the message of the line is such a one
+-- the message is a forecast
+abbrev pub IsForecast : Wire → Type 0
+IsForecast (Event report trip date call dep secs) = report ≡ false
+IsForecast _ = ⊥
+
+-- the message of the line keeps what every message that is read keeps
 abbrev pub IsWireLine : WireLine → Type 0
 IsWireLine (Message w) = IsWire w
 IsWireLine Flush = Unit {0}

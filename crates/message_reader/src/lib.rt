@@ -9,12 +9,17 @@ mod fields;
 mod kinds;
 mod laws;
 mod lines;
+mod messages;
+mod numbers;
 mod routes;
+mod unresolved;
 mod wire;
 
 pub use bad::Bad;
 pub use laws::{dates_are_read_back, messages_are_read_back, times_are_read_back};
-pub use lines::read_wire;
+pub use lines::{read_forecast, read_wire};
+pub use messages::resolve;
+pub use unresolved::ResolveFault;
 pub use wire::{Connect, Wire, WireCall, WireLine, WireRef};
 
 #[cfg(test)]

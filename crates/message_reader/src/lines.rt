@@ -3,8 +3,8 @@
 ghost use Rattle.std.specs.Prelude.{IfOk};
 ghost use Rattle.serde_json.specs.View.{view};
 ghost use Rattle.message_reader.specs.Chain.{Gives, GivesAs};
-ghost use Rattle.message_reader.specs.Lines.{utf8_of, json_of, head_of, message_of, said_by, line_of};
-ghost use Rattle.message_reader.specs.Wires.{IsWireLine};
+ghost use Rattle.message_reader.specs.Lines.{utf8_of, json_of, head_of, message_of, said_by, line_of, forecast_in, forecast_of};
+ghost use Rattle.message_reader.specs.Wires.{IsWire, IsWireLine, IsForecast};
 
 use crate::bad::Bad;
 use crate::connections::connect;
@@ -12,7 +12,7 @@ use crate::events::{cancel, event};
 use crate::fields::{number_at, text_at};
 use crate::kinds::{Kind, kind_named};
 use crate::routes::{extra, reroute};
-use crate::wire::{Connect, WireLine};
+use crate::wire::{Connect, Wire, WireLine};
 use serde_json::Value;
 use std::alloc::Global;
 
@@ -84,4 +84,28 @@ pub fn read_wire(alloc: Global, bytes: &[u8]) -> Result<WireLine, Bad>
     let text = utf8(bytes)?;
     let value = json(alloc, text)?;
     said(alloc, &value)
+}
+
+#[tactic(auto, unfolding(crate::specs::Lines::forecast_in))]
+fn forecast(alloc: Global, kind: Kind, value: &Value) -> Result<Wire, Bad>
+    ensures exact { Gives result (forecast_in kind (view value.now)) }
+    ensures kept { IfOk result (λ w. IsForecast w × IsWire w) }
+{
+    match kind {
+        Kind::Forecast => event(alloc, false, value),
+        _ => Err(Bad::Shape),
+    }
+}
+
+/// The forecast that a line says, or the line's first fault. A line of every other type is `Shape`, whatever its members are. Memory
+/// may run out at any line.
+#[tactic(auto, unfolding(crate::specs::Lines::forecast_of))]
+pub fn read_forecast(alloc: Global, bytes: &[u8]) -> Result<Wire, Bad>
+    ensures exact { Gives result (forecast_of bytes.now) }
+    ensures kept { IfOk result (λ w. IsForecast w × IsWire w) }
+{
+    let text = utf8(bytes)?;
+    let value = json(alloc, text)?;
+    let kind = head(&value)?;
+    forecast(alloc, kind, &value)
 }

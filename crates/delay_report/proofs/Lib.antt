@@ -1,0 +1,5 @@
+mod EventRows
+mod ReplyTexts
+mod RowTexts
+mod Texts
+mod Walks

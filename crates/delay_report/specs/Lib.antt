@@ -1,0 +1,5 @@
+pub mod CallsLeft
+pub mod Clocks
+pub mod Replies
+pub mod Table
+pub mod Written

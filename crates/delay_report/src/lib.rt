@@ -1,0 +1,10 @@
+//! The bytes of the replies to lines and of the table of times.
+#![tactic(auto)]
+
+mod clocks;
+mod objects;
+mod replies;
+mod table;
+
+pub use replies::{BadLine, Reply, reply_text};
+pub use table::{times_header, times_rows};

@@ -1,0 +1,114 @@
+//! Replies.
+
+ghost use Rattle.std.specs.Prelude.{◌≡◌, ◌++◌, false, decimal, IfOk, OnOk};
+ghost use Rattle.serde_json.specs.View.{view};
+ghost use Rattle.serde_json.specs.Written.{has_float};
+ghost use Rattle.delay_report.specs.Replies.{accepted_object, line_of, text_of_reply};
+
+use crate::objects::{bad_value, flush_value, refusal_value};
+use delay_model::messages::Refusal;
+use itoa::Buffer;
+use mt_base::memory::OutOfMemory;
+use schedule_build::Directory;
+use serde_json::Value;
+use std::alloc::Global;
+
+/// The most bytes that the reply to an accepted message has, with three numbers of 20 digits.
+const ACCEPTED_ROOM: usize = 93;
+
+/// What is wrong with a line that says nothing.
+#[derive(Clone, Copy, Debug, PartialEq, Eq)]
+pub enum BadLine {
+    /// It has 65,536 bytes or more.
+    Long,
+    /// It is no UTF-8.
+    Utf8,
+    /// It is no JSON.
+    Json,
+    /// Its members are not those of a line.
+    Shape,
+    /// It names no stop.
+    Stop,
+    /// It has a bad time or date.
+    Time,
+}
+
+/// What is answered to a line, which is numbered from 1.
+#[derive(Clone, Copy, Debug, PartialEq, Eq)]
+pub enum Reply {
+    /// The message is the one of this number among those accepted, from 1, and changed the times of so many events.
+    Accepted {
+        line: u64,
+        number: u64,
+        changed: u64,
+    },
+    /// The message is refused.
+    Refused {
+        line: u64,
+        refusal: Refusal,
+    },
+    /// The line says nothing.
+    Bad {
+        line: u64,
+        bad: BadLine,
+    },
+    /// A flush, after so many accepted messages.
+    Flush {
+        line: u64,
+        count: u64,
+    },
+}
+
+/// Appends a text and a number.
+fn push_number(text: &mut Vec<u8>, before: &[u8], number: u64) -> Result<(), OutOfMemory>
+    ensures { OnOk result (text.new.items ≡ text.old.items ++ (before.now ++ decimal number)) }
+{
+    text.extend_from_slice(before)?;
+    text.extend_from_slice(Buffer::new().format(number).as_bytes())
+}
+
+/// The bytes of the reply to an accepted message, which is the most frequent one.
+fn accepted_text(
+    alloc: Global,
+    line: u64,
+    number: u64,
+    changed: u64,
+) -> Result<Vec<u8>, OutOfMemory>
+    ensures { IfOk result (λ b. b.items ≡ line_of (accepted_object line number changed)) }
+{
+    let mut text = Vec::with_capacity(alloc, ACCEPTED_ROOM)?;
+    push_number(&mut text, b"{\"accepted\":", number)?;
+    push_number(&mut text, b",\"changed\":", changed)?;
+    push_number(&mut text, b",\"line\":", line)?;
+    text.extend_from_slice(b"}\n")?;
+    Ok(text)
+}
+
+/// The bytes of any other reply, from its object.
+fn object_text(alloc: Global, value: &Value) -> Result<Vec<u8>, OutOfMemory>
+    requires { has_float (view value.now) ≡ false }
+    ensures { IfOk result (λ b. b.items ≡ line_of (view value.now)) }
+{
+    let mut text = value.to_string(alloc)?.into_bytes();
+    text.push(b'\n')?;
+    Ok(text)
+}
+
+/// The bytes of a reply: a JSON object without blanks, and an LF.
+#[tactic(auto, unfolding(crate::specs::Replies::text_of_reply))]
+pub fn reply_text(alloc: Global, reply: &Reply, dir: &Directory) -> Result<Vec<u8>, OutOfMemory>
+    ensures { IfOk result (λ b. b.items ≡ text_of_reply dir.now reply.now) }
+{
+    match reply {
+        Reply::Accepted {
+            line,
+            number,
+            changed,
+        } => accepted_text(alloc, *line, *number, *changed),
+        Reply::Refused { line, refusal } => {
+            object_text(alloc, &refusal_value(alloc, dir, *line, refusal)?)
+        }
+        Reply::Bad { line, bad } => object_text(alloc, &bad_value(alloc, *line, *bad)?),
+        Reply::Flush { line, count } => object_text(alloc, &flush_value(alloc, *line, *count)?),
+    }
+}

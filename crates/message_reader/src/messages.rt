@@ -1,0 +1,197 @@
+//! Messages by name as messages by number.
+
+ghost use Rattle.std.specs.Prelude.{◌≡◌, ◌≤◌, false, All, IfOk, length};
+ghost use Rattle.delay_model.specs.Messages.{IsWellFormed};
+ghost use Rattle.message_reader.specs.Resolved.{event_resolved, cancel_resolved, reroute_resolved, extra_resolved, connect_resolved, resolved, Resolves, SaysForecast};
+ghost use Rattle.message_reader.specs.Wires.{IsWire, IsWireCall, IsForecast};
+
+use crate::numbers::{new_calls, node, time_on, train_on};
+use crate::unresolved::ResolveFault;
+use crate::wire::{Connect, Wire, WireCall, WireRef};
+use delay_model::messages::Message;
+use mt_base::keys::Node;
+use mt_base::names::Name;
+use mt_base::numbers::{Label, TrainNo};
+use schedule_build::Directory;
+use std::alloc::Global;
+use train_nodes::Msg;
+
+/// A report or a forecast.
+#[tactic(auto, unfolding(crate::specs::Resolved::event_resolved))]
+fn event(
+    dir: &Directory,
+    report: bool,
+    trip: &Name,
+    date: u32,
+    call: Label,
+    dep: bool,
+    secs: u32,
+) -> Result<Message, ResolveFault>
+    requires { secs ≤ 359999 }
+    ensures exact { Resolves result (event_resolved dir.now report trip.now date call dep secs) }
+    ensures kept { IfOk result IsWellFormed }
+    ensures forecast { report ≡ false → IfOk result SaysForecast }
+{
+    let found = train_on(dir, trip, date)?;
+    let node = Node {
+        train: found.train,
+        label: call,
+        dep,
+    };
+    let time = time_on(dir, found.day, secs);
+    if report {
+        Ok(Message::Report { node, time })
+    } else {
+        Ok(Message::Forecast { node, time })
+    }
+}
+
+/// A cancelled stretch.
+#[tactic(auto, unfolding(crate::specs::Resolved::cancel_resolved))]
+fn cancel(
+    dir: &Directory,
+    trip: &Name,
+    date: u32,
+    from: Label,
+    to: Label,
+) -> Result<Message, ResolveFault>
+    ensures exact { Resolves result (cancel_resolved dir.now trip.now date from to) }
+    ensures kept { IfOk result IsWellFormed }
+{
+    let found = train_on(dir, trip, date)?;
+    Ok(Message::Cancel {
+        train: found.train,
+        from,
+        to,
+    })
+}
+
+/// A rerouting.
+#[tactic(auto, unfolding(crate::specs::Resolved::reroute_resolved))]
+fn reroute(
+    alloc: Global,
+    dir: &Directory,
+    trip: &Name,
+    date: u32,
+    from: Label,
+    to: Label,
+    via: &[WireCall],
+) -> Result<Message, ResolveFault>
+    requires { All IsWireCall via.now }
+    ensures exact { Resolves result (reroute_resolved dir.now trip.now date from to via.now) }
+    ensures kept { IfOk result IsWellFormed }
+{
+    let found = train_on(dir, trip, date)?;
+    let via = new_calls(alloc, dir, found.day, via)?;
+    Ok(Message::Reroute {
+        train: found.train,
+        from,
+        to,
+        via,
+    })
+}
+
+/// An extra train.
+#[tactic(auto, unfolding(crate::specs::Resolved::extra_resolved))]
+fn extra(
+    alloc: Global,
+    dir: &Directory,
+    trip: &Name,
+    date: u32,
+    route: &Name,
+    calls: &[WireCall],
+) -> Result<Message, ResolveFault>
+    requires within { All IsWireCall calls.now }
+    requires two { 2 ≤ length calls.now }
+    ensures exact { Resolves result (extra_resolved dir.now trip.now date route.now calls.now) }
+    ensures kept { IfOk result IsWellFormed }
+{
+    let day = dir.day(date).ok_or(ResolveFault::Unknown)?;
+    let route = dir.route(route.text()).ok_or(ResolveFault::Unknown)?;
+    let calls = new_calls(alloc, dir, day, calls)?;
+    if dir.train(trip.text(), day).is_some() {
+        return Err(ResolveFault::Known);
+    }
+    Ok(Message::Extra {
+        train: TrainNo::new(dir.trains()),
+        day,
+        route,
+        calls,
+    })
+}
+
+/// A connection.
+#[tactic(auto, unfolding(crate::specs::Resolved::connect_resolved))]
+fn connect(
+    dir: &Directory,
+    kind: Connect,
+    feeder: &WireRef,
+    train: &WireRef,
+) -> Result<Message, ResolveFault>
+    ensures exact { Resolves result (connect_resolved dir.now kind feeder.now train.now) }
+    ensures kept { IfOk result IsWellFormed }
+{
+    let feeder = node(dir, false, feeder)?;
+    let train = node(dir, true, train)?;
+    Ok(match kind {
+        Connect::Keep => Message::Keep { feeder, train },
+        Connect::Drop => Message::Drop { feeder, train },
+        Connect::Rule => Message::Rule { feeder, train },
+    })
+}
+
+/// The message by number.
+#[tactic(auto, unfolding(crate::specs::Resolved::resolved))]
+fn message(alloc: Global, wire: &Wire, dir: &Directory) -> Result<Message, ResolveFault>
+    requires { IsWire wire.now }
+    ensures exact { Resolves result (resolved dir.now wire.now) }
+    ensures kept { IfOk result IsWellFormed }
+    ensures forecast { IsForecast wire.now → IfOk result SaysForecast }
+{
+    match wire {
+        Wire::Event {
+            report,
+            trip,
+            date,
+            call,
+            dep,
+            secs,
+        } => event(dir, *report, trip, *date, *call, *dep, *secs),
+        Wire::Cancel {
+            trip,
+            date,
+            from,
+            to,
+        } => cancel(dir, trip, *date, *from, *to),
+        Wire::Reroute {
+            trip,
+            date,
+            from,
+            to,
+            via,
+        } => reroute(alloc, dir, trip, *date, *from, *to, via.as_slice()),
+        Wire::Extra {
+            trip,
+            date,
+            route,
+            calls,
+        } => extra(alloc, dir, trip, *date, route, calls.as_slice()),
+        Wire::Connect {
+            kind,
+            feeder,
+            train,
+        } => connect(dir, *kind, feeder, train),
+    }
+}
+
+/// The message with the numbers for which its names stand. `Unknown` exactly where a train of the message, other than the new train
+/// of an extra, or a stop, a route or a service day of it is not there; `Known` exactly where an extra's train is there already and
+/// the message is not `Unknown`. Times are in seconds from the base of day 0. Memory may run out at reroutings and extra trains.
+pub fn resolve(alloc: Global, wire: &Wire, dir: &Directory) -> Result<Msg, ResolveFault>
+    requires kept { IsWire wire.now }
+    ensures exact { Resolves result (resolved dir.now wire.now) }
+    ensures forecast { IsForecast wire.now → IfOk result SaysForecast }
+{
+    let message = message(alloc, wire, dir)?;
+    Ok(Msg::new(message))
+}

@@ -1,0 +1,108 @@
+//! The numbers for which single names stand.
+
+ghost use Rattle.std.specs.Prelude.{◌≡◌, ◌<◌, ◌≤◌, ◌+◌, All, IfOk, length};
+ghost use Rattle.delay_model.specs.Messages.{IsSmallCall};
+ghost use Rattle.schedule_build.specs.Directory.{base_of};
+ghost use Rattle.message_reader.specs.Resolved.{train_on, stop_named, node_named, new_call, new_calls, Resolves};
+ghost use Rattle.message_reader.specs.Wires.{IsWireCall};
+
+use crate::unresolved::ResolveFault;
+use crate::wire::{WireCall, WireRef};
+use mt_base::keys::Node;
+use mt_base::names::Name;
+use mt_base::numbers::{Day, StopNo, Time, TrainNo};
+use mt_base::plans::NewCall;
+use mt_base::rows::Rows;
+use schedule_build::Directory;
+use std::alloc::Global;
+
+/// A train and its service day.
+#[derive(Clone, Copy)]
+pub(crate) struct TrainOnDay {
+    pub train: TrainNo,
+    pub day: Day,
+}
+
+/// The train of a trip on a date.
+#[tactic(auto, unfolding(crate::specs::Resolved::train_on))]
+pub(crate) fn train_on(dir: &Directory, trip: &Name, date: u32) -> Result<TrainOnDay, ResolveFault>
+    ensures exact { Resolves result (train_on dir.now trip.now date) }
+    ensures loaded { IfOk result (λ found. found.day < 31) }
+{
+    let day = dir.day(date).ok_or(ResolveFault::Unknown)?;
+    let train = dir.train(trip.text(), day).ok_or(ResolveFault::Unknown)?;
+    Ok(TrainOnDay { train, day })
+}
+
+/// The time so many seconds after the base of a service day.
+pub(crate) fn time_on(dir: &Directory, day: Day, secs: u32) -> Time
+    requires loaded { day < 31 }
+    requires within { secs ≤ 359999 }
+    ensures { result ≡ base_of day + secs }
+{
+    Time::new(dir.base(day).seconds() + secs)
+}
+
+/// The arrival or the departure of a call.
+#[tactic(auto, unfolding(crate::specs::Resolved::node_named))]
+pub(crate) fn node(dir: &Directory, dep: bool, call: &WireRef) -> Result<Node, ResolveFault>
+    ensures exact { Resolves result (node_named dir.now dep call.now) }
+    ensures kind { IfOk result (λ n. n.dep ≡ dep) }
+{
+    let found = train_on(dir, &call.trip, call.date)?;
+    Ok(Node {
+        train: found.train,
+        label: call.call,
+        dep,
+    })
+}
+
+/// The stop with this id. None where no place has it, and where the place is no stop.
+#[tactic(auto, unfolding(crate::specs::Resolved::stop_named))]
+fn stop(dir: &Directory, id: &str) -> Option<StopNo>
+    ensures { result ≡ stop_named dir.now id.now }
+{
+    let place = dir.stop(id)?;
+    if dir.stop_kind(place) == 0 {
+        Some(place)
+    } else {
+        None
+    }
+}
+
+/// A new call of a train on a service day.
+#[tactic(auto, unfolding(crate::specs::Resolved::new_call))]
+fn new_call(dir: &Directory, day: Day, call: &WireCall) -> Result<NewCall, ResolveFault>
+    requires loaded { day < 31 }
+    requires within { IsWireCall call.now }
+    ensures exact { Resolves result (new_call dir.now day call.now) }
+    ensures small { IfOk result IsSmallCall }
+{
+    let stop = stop(dir, call.stop.text()).ok_or(ResolveFault::Unknown)?;
+    Ok(NewCall {
+        stop,
+        arr: time_on(dir, day, call.arr),
+        dep: time_on(dir, day, call.dep),
+    })
+}
+
+/// New calls of a train on a service day.
+pub(crate) fn new_calls(
+    alloc: Global,
+    dir: &Directory,
+    day: Day,
+    wire_calls: &[WireCall],
+) -> Result<Rows<NewCall>, ResolveFault>
+    requires loaded { day < 31 }
+    requires within { All IsWireCall wire_calls.now }
+    ensures exact { Resolves result (new_calls dir.now day wire_calls.now) }
+    ensures small { IfOk result (λ calls. All IsSmallCall calls) }
+    ensures all { IfOk result (λ calls. length calls ≡ length wire_calls.now) }
+{
+    let mut calls = Vec::new(alloc);
+    for wire_call in wire_calls {
+        let call = new_call(dir, day, wire_call)?;
+        calls.push(call)?;
+    }
+    Ok(Rows::build(calls))
+}

@@ -1,0 +1,89 @@
+-- The live events of a state in the order of their keys.
+use Rattle.std.proofs.Common.{◌≡◌, ℕ, Bool, true, List, ◌∷◌, ◌++◌, Some, get_or, refl, sym, ◌∙◌, ap, subst, inl, inr}
+use Rattle.std.specs.Option.{option_map}
+use Rattle.std.specs.List.{All, AllPairs, Contains, filter}
+use Rattle.std.proofs.lemmas.List.Elements.{All-contains, All-filter, All-contains_itself, filter_passes, Contains-append_cases}
+use Rattle.std.proofs.lemmas.List.Sorted.{Contains-permutation, IsPermutation-sym}
+use Rattle.mt_base.specs.declared.keys.Key.{Key}
+use Rattle.mt_base.specs.declared.keys.Node.{Node}
+use Rattle.mt_base.specs.Order.{is_before, node_of}
+use Rattle.mt_base.proofs.KeyLemmas.{before-itself, before-asymmetric}
+use Rattle.delay_model.specs.declared.network.Network.{Network}
+use Rattle.delay_model.specs.declared.state.State.{State}
+use Rattle.delay_model.specs.declared.state.Event.{Event}
+use Rattle.delay_model.specs.Events.{events, is_live, live_events}
+use Rattle.delay_model.specs.Timing.{event_time}
+use Rattle.delay_model.specs.Touched.{names_of}
+use Rattle.delay_model.proofs.Lists.{AllPairs-after, Contains-cases, Contains-filter}
+use Rattle.delay_model.proofs.Ends.{IsLiveAt}
+use Rattle.state_laws.proofs.Changed.{Contains-map}
+use Rattle.state_laws.proofs.Mappings.{contains-unmap}
+use Rattle.train_nodes.specs.Kept.{Kept, time_of, has_time}
+use Rattle.edge_rules.proofs.InLine.{AllPairs-before}
+use Rattle.timetable.specs.LiveTimes.{live_keys, live_time}
+use Rattle.timetable.specs.Settled.{IsOrderOf, HasItsTime}
+use Rattle.timetable.proofs.Named.{live-event}
+
+-- what an element of a filtered list is
+pub filtered : {X : Type 0} (p : X → Bool) (xs : List X) (x : X) → Contains (filter p xs) x → Contains xs x × (p x ≡ true)
+filtered p xs x h = (
+  All-contains (Contains xs) (filter p xs) x (All-filter p (Contains xs) xs (All-contains_itself xs)) h,
+  All-contains (λ x. p x ≡ true) (filter p xs) x (filter_passes p xs) h,
+)
+
+module _ (es : List Event) (order : List Key) (is : IsOrderOf es order) where
+  -- each key of the order is that of a live event
+  pub key-live : (k : Key) → Contains order k → IsLiveAt es k
+  key-live k h =
+      let r = contains-unmap (λ (v : Event). v.key) (live_events es) k (Contains-permutation order (live_keys es) k (IsPermutation-sym (live_keys es) order is.moved) h) in
+      let both = filtered (λ (v : Event). v.live) es r.0 r.1 in
+      (r.0, both.0, r.2, both.1)
+
+  -- and each live event's key is in the order
+  pub live-ordered : (k : Key) → IsLiveAt es k → Contains order k
+  live-ordered k at =
+      Contains-permutation (live_keys es) order k is.moved
+      (subst (Contains (live_keys es)) at.2 (Contains-map (λ (v : Event). v.key) (live_events es) at.0 (Contains-filter (λ (v : Event). v.live) es at.0 at.1 at.3)))
+
+  module _ (xs : List Key) (k : Key) (ys : List Key) (whole : order ≡ xs ++ k ∷ ys) where
+    ascends : AllPairs (λ a b. is_before a b ≡ true) (xs ++ k ∷ ys)
+    ascends = subst (AllPairs (λ a b. is_before a b ≡ true)) whole is.ascends
+
+    -- those before a key of the order are before it, and those after it after it
+    pub each-before : All (λ a. is_before a k ≡ true) xs
+    each-before = AllPairs-before (λ a b. is_before a b ≡ true) xs k ys ascends
+
+    pub each-after : All (λ b. is_before k b ≡ true) ys
+    each-after = AllPairs-after (λ a b. is_before a b ≡ true) xs k ys ascends
+
+    -- what is before a key stands before it
+    pub stands-before : (q : Key) → IsLiveAt es q → is_before q k ≡ true → Contains xs q
+    stands-before q at sooner =
+        elim (Contains-append_cases xs (k ∷ ys) q (subst (λ zs. Contains zs q) whole (live-ordered q at))) [
+          | inl here ↦ here
+          | inr later ↦ elim (Contains-cases k ys q later) [
+            | inl same ↦ let own : is_before k k ≡ true = ap (λ a. is_before a k) same ∙ sooner in let none = before-itself k in absurd (cc)
+            | inr after ↦
+                let less = All-contains (λ b. is_before k b ≡ true) ys q each-after after in
+                let none = before-asymmetric q k sooner in
+                absurd (cc)
+          ]
+        ]
+
+-- the kept time of a live event is its time
+pub time-kept : (nw : Network) (st : State) (times : Kept) (order : List Key) (n : Node) → IsOrderOf (events st) order → All (HasItsTime nw st times) order → is_live st n ≡ true → (t : ℕ) × (time_of times n ≡ Some t) × (live_time nw st n ≡ Some t)
+time-kept nw st times order n is kept live =
+    let r = live-event st n live in
+    let k = r.event.key in
+    let there = live-ordered (events st) order is k (r.event, r.there, refl, r.live) in (
+      event_time nw st k,
+      ap (time_of times) (sym r.name) ∙ All-contains (HasItsTime nw st times) order k kept there,
+      ap (option_map (λ (v : Event). event_time nw st v.key)) r.found,
+    )
+
+-- a time is kept for each live event, where one is kept for every event
+pub names-held : (st : State) (times : Kept) (order : List Key) (nodes : List Node) → IsOrderOf (events st) order → nodes ≡ names_of (events st) → All (λ n. has_time times n ≡ true) nodes → All (λ k. has_time times (node_of k) ≡ true) order
+names-held st times order nodes is names held = λ i d l.
+    let at = key-live (events st) order is (get_or order i d) (All-contains_itself order i d l) in
+    let there = subst (λ ns. Contains ns (node_of at.0.key)) (sym names) (Contains-map (λ (v : Event). node_of v.key) (events st) at.0 at.1) in
+    ap (λ k. has_time times (node_of k)) (sym at.2) ∙ All-contains (λ n. has_time times n ≡ true) nodes (node_of at.0.key) held there

@@ -1,0 +1,4 @@
+pub mod Running
+pub mod LiveTimes
+pub mod Settled
+pub mod Inside

@@ -1,0 +1,82 @@
+//! The rule for times, evaluated at one event after the other.
+
+ghost use Rattle.std.specs.Prelude.{◌≡◌, ◌+◌, ◌<◌, ◌^◌, ℕ, IsTrue, Some, All, false, not, nat_eq};
+ghost use Rattle.std.specs.List.{count_by};
+ghost use Rattle.mt_base.specs.declared.keys.Node.{Node as ANode};
+ghost use Rattle.mt_base.specs.Order.{node_of, is_same_node};
+ghost use Rattle.delay_model.specs.Events.{events, is_live};
+ghost use Rattle.delay_model.specs.Valid.{IsValid};
+ghost use Rattle.train_nodes.specs.Kept.{time_of, has_time};
+ghost use Rattle.edge_rules.specs.AtEvent.{edges_to, kept_time, local_at};
+ghost use Rattle.timetable.specs.Settled.{IsOrderOf, HasItsTime, has_another};
+
+use edge_rules::Graph;
+use mt_base::keys::{Key, Node};
+use std::sync::ledger::{Blank, Ledger};
+use train_nodes::{NodeTimes, Steps};
+
+/// Keeps the time that the rule gives an event, and answers whether another was kept for it.
+fn settle_one<L: Ledger>(
+    graph: &Graph,
+    n: &Node,
+    times: &mut NodeTimes,
+    steps: &mut Steps<L>,
+) -> bool
+    requires live { IsTrue (is_live graph.now.state n.now) }
+    requires has { IsTrue (has_time times.old n.now) }
+    requires held { All (λ e. IsTrue (has_time times.old (node_of e.from))) (edges_to graph.now n.now) }
+    requires fits { All (λ e. kept_time times.old e.from + e.weight < 2 ^ 25) (edges_to graph.now n.now) }
+    ensures rule { local_at graph.now times.old n.now ≡ time_of times.new n.now }
+    ensures others { (m : ANode) → is_same_node n.now m ≡ false → time_of times.new m ≡ time_of times.old m }
+    ensures changed { (was is : ℕ) → time_of times.old n.now ≡ Some was → time_of times.new n.now ≡ Some is → result ≡ not (nat_eq was is) }
+{
+    let time = graph.local(*n, times, steps);
+    let was = times.read(*n, steps);
+    if was == time {
+        return false;
+    }
+    times.write(*n, time);
+    true
+}
+
+/// Keeps the time of each of these events, which are the live ones in the order of their keys, and answers for how many of them
+/// another was kept.
+pub(crate) fn settle<L: Ledger>(
+    graph: &Graph,
+    order: &[Key],
+    times: &mut NodeTimes,
+    steps: &mut Steps<L>,
+) -> u64
+    requires valid { IsValid graph.now.network graph.now.state }
+    requires order { IsOrderOf (events graph.now.state) order.now }
+    requires held { All (λ k. IsTrue (has_time times.old (node_of k))) order.now }
+    ensures times { All (HasItsTime graph.now.network graph.now.state times.new) order.now }
+    ensures changed { result ≡ count_by (has_another graph.now.network graph.now.state times.old) order.now }
+{
+    let mut changed = 0;
+    for k in order {
+        if settle_one(graph, &k.node(), times, steps) {
+            changed += 1;
+        }
+    }
+    changed
+}
+
+/// Keeps the time of each of these events, and counts no step.
+pub(crate) fn settle_all<L: Ledger>(
+    graph: &Graph,
+    order: &[Key],
+    times: &mut NodeTimes,
+    blank: Blank,
+)
+    requires name { blank.name ≡ L.name }
+    requires parts { blank.parts ≡ L.parts }
+    requires some { 0 < blank.parts }
+    requires valid { IsValid graph.now.network graph.now.state }
+    requires order { IsOrderOf (events graph.now.state) order.now }
+    requires held { All (λ k. IsTrue (has_time times.old (node_of k))) order.now }
+    ensures { All (HasItsTime graph.now.network graph.now.state times.new) order.now }
+{
+    let mut steps = Steps::<L>::open(blank);
+    settle(graph, order, times, &mut steps);
+}

@@ -1,0 +1,131 @@
+//! The timetable.
+
+ghost use Rattle.std.specs.Prelude.{◌≡◌, ◌+◌, ◌*◌, ◌≤◌, None, Some, All, IfOk, IfErr, length};
+ghost use Rattle.std.specs.FinMap as finmap;
+ghost use Rattle.delay_model.specs.Events.{events};
+ghost use Rattle.delay_model.specs.Refusals.{refusal};
+ghost use Rattle.delay_model.specs.Touched.{changed_count};
+ghost use Rattle.delay_model.specs.Valid.{IsValid};
+ghost use Rattle.edge_rules.specs.Held.{bare, IsUnderWay};
+ghost use Rattle.graph_edit.specs.Values.{IsForecast, Answers};
+ghost use Rattle.timetable.specs.LiveTimes.{live_time};
+ghost use Rattle.timetable.specs.Running.{stepped};
+
+use crate::events::{blank_times, key_order, list_nodes};
+use crate::settle::{settle, settle_all};
+use delay_model::messages::Refusal;
+use edge_rules::Graph;
+use graph_edit::{apply_value, check_value};
+use mt_base::keys::{Key, Node};
+use mt_base::memory::OutOfMemory;
+use mt_base::numbers::Time;
+use mt_base::options::Opts;
+use std::alloc::Global;
+use std::marker::{Brand, Model};
+use std::sync::ledger::{Blank, Ledger};
+use train_nodes::{Msg, NodeTimes, Steps, Trains};
+
+/// The trains with the time of each live event, and how many messages were accepted.
+#[derive(Drop)]
+pub struct Timetable {
+    graph: Graph,
+    times: NodeTimes,
+    /// The keys of the live events, in the order in which they are settled.
+    order: Vec<Key>,
+    count: u64,
+}
+
+impl Model for Timetable {
+    ghost use Rattle.timetable.specs.Running.{Running, running_code};
+
+    ghost Value = { Running };
+
+    ghost coded = { running_code };
+
+    ghost use Rattle.timetable.specs.Inside.{seen, IsTimed};
+
+    ghost view = { seen };
+
+    ghost invariant = { IsTimed };
+}
+
+impl Timetable {
+    /// The timetable of these trains, by these options and with no stops, change rows or waiting rules yet. No message was accepted.
+    pub fn build(alloc: Global, trains: Trains, opts: Opts) -> Result<Timetable, OutOfMemory>
+        requires valid { IsValid (bare opts) trains }
+        requires overrides { trains.overrides ≡ finmap.empty }
+        requires trains { All IsUnderWay trains.trains }
+        requires nodes { length (events trains) + 2 * trains.spare_calls ≤ 2097152 }
+        ensures { IfOk result (λ t. t ≡ record { network = bare opts; state = trains; count = 0 }) }
+    {
+        let nodes = list_nodes(alloc, &trains)?;
+        let mut times = blank_times(alloc, &nodes, 2 * trains.spare_calls())?;
+        let order = key_order(alloc, &trains, &nodes)?;
+        let graph = Graph::build(trains, opts);
+        settle_all::<Brand>(&graph, &order, &mut times, Blank::new(1));
+        Ok(Timetable {
+            graph,
+            times,
+            order,
+            count: 0,
+        })
+    }
+
+    /// Whether a forecast is accepted, or why it is refused. It changes nothing.
+    pub fn check(&self, m: &Msg) -> Result<(), Refusal>
+        requires forecast { IsForecast m.now }
+        ensures { Answers result (refusal self.now.network self.now.state m.now) }
+    {
+        check_value(&self.graph, m)
+    }
+
+    /// Takes a message, and answers how many events it changes: those whose time is another after it. A message that is refused
+    /// changes nothing. It takes no memory.
+    pub fn step<L: Ledger>(&mut self, m: &Msg, steps: &mut Steps<L>) -> Result<u64, Refusal>
+        requires forecast { IsForecast m.now }
+        ensures refused { IfErr result (λ r. refusal self.old.network self.old.state m.now ≡ Some r) }
+        ensures kept { IfErr result (λ _. self.new ≡ self.old) }
+        ensures accepted { IfOk result (λ _. refusal self.old.network self.old.state m.now ≡ None) }
+        ensures effect { IfOk result (λ _. self.new ≡ stepped self.old m.now) }
+        ensures changed { IfOk result (λ n. n ≡ changed_count self.old.network self.old.state m.now) }
+    {
+        check_value(&self.graph, m)?;
+        apply_value(&mut self.graph, m);
+        let changed = settle(&self.graph, &self.order, &mut self.times, steps);
+        self.count = self.count.saturating_add(1);
+        Ok(changed)
+    }
+
+    /// How many messages were accepted. Past 2^64 - 1 it stays there.
+    pub fn count(&self) -> u64
+        ensures { result ≡ self.now.count }
+    {
+        self.count
+    }
+
+    /// The time of an event by the definition, in seconds from the base of day 0, over the state as the last step left it. None
+    /// exactly where it is not there or not live.
+    pub fn time<L: Ledger>(&self, n: Node, steps: &mut Steps<L>) -> Option<Time>
+        ensures { result ≡ live_time self.now.network self.now.state n }
+    {
+        self.time_at(&n, steps)
+    }
+
+    fn time_at<L: Ledger>(&self, n: &Node, steps: &mut Steps<L>) -> Option<Time>
+        ensures { result ≡ live_time self.now.network self.now.state n.now }
+    {
+        if self.graph.trains().live(*n) {
+            Some(self.times.read(*n, steps))
+        } else {
+            None
+        }
+    }
+
+    /// The graph over the trains.
+    pub fn graph(&self) -> &Graph
+        ensures network { result.now.network ≡ self.now.network }
+        ensures state { result.now.state ≡ self.now.state }
+    {
+        &self.graph
+    }
+}

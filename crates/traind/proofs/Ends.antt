@@ -1,0 +1,74 @@
+-- How a run ends: what a feed holds, and what the lines leave.
+use Rattle.std.proofs.Common.{◌≡◌, ◌∙◌, ℕ, List, [], ◌++◌, Option, Some, None, Result, Ok, Err, sym, subst, ap, true, false}
+use Rattle.std.proofs.KnownBytes.{Appends-nil, Appends-trans}
+use Rattle.std.proofs.lemmas.List.{append-nil}
+use Rattle.std.proofs.lemmas.Option.{none-some}
+use Rattle.std.specs.Io.KnownBytes.{Appends, Consumes, IsAtEnd}
+use Rattle.std.specs.Prelude.{IfErr, OnOk}
+use Rattle.delay_model.specs.declared.network.Network.{Network}
+use Rattle.delay_model.specs.declared.state.State.{State}
+use Rattle.delay_model.specs.After.{after}
+use Rattle.delay_report.specs.Table.{table}
+use Rattle.mt_io.specs.Lines.{Line, lines_of}
+use Rattle.mt_io.specs.Reader.{Reader, IsDone}
+use Rattle.mt_io.proofs.Gives.{consumes_none}
+use Rattle.mt_io.proofs.Runs.{ends}
+use Rattle.schedule_build.specs.Directory.{Names}
+use Rattle.timetable.specs.Running.{Running}
+use Rattle.traind.specs.declared.status.Fault.{Fault}
+use Rattle.traind.specs.declared.status.Fault.TheVariants.{FeedRefused, ReadFault, WriteFault, Memory, TooLong}
+use Rattle.traind.specs.Causes.{WhereLinesStop}
+use Rattle.traind.proofs.Tables.{some-same}
+use Rattle.traind.specs.Lines.{accepted_of}
+use Rattle.traind.specs.Output.{replies, output}
+use Rattle.traind.specs.Standing.{Answered}
+
+-- all bytes were taken where the source is at its end
+all_taken : (left now : Option (List ℕ)) (bytes all : List ℕ) → Consumes left now all → IsAtEnd now → left ≡ Some bytes → all ≡ bytes
+all_taken None now bytes all source end is = absurd (none-some bytes is)
+all_taken (Some xs) None bytes all source end is = absurd source
+all_taken (Some xs) (Some ys) bytes all source end is =
+    sym (append-nil all) ∙ ap (λ (r : List ℕ). all ++ r) (sym end) ∙ sym source ∙ some-same xs bytes is
+
+-- at the end of the input the replies and the table are the whole output
+pub whole_output : (names : Names) (first now : Running) (r : Reader) (left left_now written between written_now : Option (List ℕ)) (all bytes : List ℕ) (lines : List Line)
+    → IsDone r → Answered names first now r left left_now written between all lines → Appends between written_now (table now.network names now.state) → left ≡ Some bytes
+    → Appends written written_now (output first.network names first.state (lines_of true bytes))
+whole_output names first now r left left_now written between written_now all bytes lines done a wrote told =
+    let these : lines_of true bytes ≡ lines = ap (lines_of true) (sym (all_taken left left_now bytes all a.source (a.end done.ended) told)) ∙ ends all lines r a.lines_so_far done in
+    subst (λ (ls : List Line). Appends written written_now (output first.network names first.state ls)) (sym these)
+    (Appends-trans written between written_now (replies first.network names first.state [] lines) (table first.network names (after first.state (accepted_of first.network names first.state lines))) a.output
+    (subst (λ (t : Running). Appends between written_now (table t.network names t.state)) a.timetable wrote))
+
+-- before the first line nothing was taken, and nothing is written
+pub nothing_yet : (nw : Network) (names : Names) (st : State) (left written : Option (List ℕ))
+    → (bytes : List ℕ) × Consumes left left bytes × Appends written written (replies nw names st [] (lines_of false bytes))
+unfolding replies lines_of
+nothing_yet nw names st left written = ([], consumes_none left, Appends-nil written)
+
+pub wherever : (T : Type 0) (f : Fault) → T → WhereLinesStop T f
+wherever T FeedRefused t = tt
+wherever T ReadFault t = t
+wherever T WriteFault t = tt
+wherever T Memory t = tt
+wherever T TooLong t = t
+
+pub where_also : (T U : Type 0) (f : Fault) → (T → U) → WhereLinesStop T f → WhereLinesStop U f
+where_also T U FeedRefused h t = tt
+where_also T U ReadFault h t = h t
+where_also T U WriteFault h t = tt
+where_also T U Memory h t = tt
+where_also T U TooLong h t = h t
+
+-- what holds wherever a run stops
+pub anywhere : (run : Result (Unit {0}) Fault) (T : Type 0) → T → IfErr run (WhereLinesStop T)
+anywhere (Ok u) T t = tt
+anywhere (Err f) T t = wherever T f t
+
+pub each_fault : (run : Result (Unit {0}) Fault) (P : Fault → Type 0) → ((f : Fault) → P f) → IfErr run P
+each_fault (Ok u) P all = tt
+each_fault (Err f) P all = all f
+
+pub on_ok_also : (run : Result (Unit {0}) Fault) (P Q : Type 0) → (P → Q) → OnOk run P → OnOk run Q
+on_ok_also (Ok u) P Q h p = h p
+on_ok_also (Err f) P Q h p = tt

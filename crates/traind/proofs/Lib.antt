@@ -1,0 +1,5 @@
+pub mod Ends
+pub mod OneMore
+pub mod Rows
+pub mod StatusFacts
+pub mod Tables

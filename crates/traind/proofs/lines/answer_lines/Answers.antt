@@ -1,0 +1,115 @@
+use Rattle.std.proofs.Common.{◌≡◌, ◌<◌, ◌+◌, List, ℕ, [], ◌∷◌, ◌++◌, length, refl, sym, ap, subst, ◌∙◌, arith, Result}
+use Rattle.std.proofs.lemmas.List.{length-append}
+use Rattle.std.specs.Io.KnownBytes.{Appends}
+use Rattle.delay_report.specs.declared.replies.BadLine.{BadLine}
+use Rattle.delay_report.specs.Replies.{text_of_reply}
+use Rattle.message_reader.specs.declared.wire.Wire.{Wire}
+use Rattle.mt_io.specs.Lines.{Line, short, long}
+use Rattle.mt_io.specs.Reader.{Reader, GivesNext}
+use Rattle.mt_io.specs.Answers.{next_lines, LeavesNext}
+use Rattle.mt_io.specs.declared.lines.Next.{Next}
+use Rattle.mt_io.proofs.Runs.{stops}
+use Rattle.timetable.specs.Running.{Running}
+use Rattle.traind.specs.Lines.{said_by}
+use Rattle.traind.specs.Output.{reply_to}
+use Rattle.traind.specs.Standing.{Answered, next_by}
+use Rattle.traind.proofs.OneMore.{nothing_answered, none_more, one_line_more, counts-one}
+use Rattle.traind.proofs.lines.answer_lines.Goals as goal
+use Rattle.traind.proofs.lines.answer_lines.Goals.{in-Line+in_ok-reply-in-Line, in-LongLine}
+
+pub loop-number-init : goal.loop-number-init
+loop-number-init g c =
+    record {
+      answered = ([], [], nothing_answered c.args.directory.now c.args.timetable.now c.args.reader.now.budget c.args.reader.now (g.S.Source.left c.args.input.now) (g.K.Sink.written c.args.out.now) c.requires.reader c.requires.count, refl);
+      count = omega (arith, c.requires.count);
+      budget = refl;
+      read = omega arith;
+      write = omega arith;
+    }
+
+pub returns-in-End-clause-all : goal.returns-in-End-clause-all
+returns-in-End-clause-all g c =
+    let a = c.loop-number.invariant.answered in
+    let old = c.loop-number.reader in
+    let now = c.next.follows.lender-at-none in
+    let l1 = g.S.Source.left c.loop-number.input in
+    let l2 = g.S.Source.left c.next.new.source in
+    let gives = c.next.follows.holds-at-none in
+    let got = none_more c.args.directory.now c.args.timetable.now c.loop-number.timetable old now (g.S.Source.left c.args.input.now) l1 l2 (g.K.Sink.written c.args.out.now) (g.K.Sink.written c.loop-number.out) a.0 a.1 a.2
+    (λ is. ap g.S.Source.left (c.next.ensures.ended is)) (subst (λ (n : Next). GivesNext old now l1 l2 (next_lines n)) c.in-End.is gives.0) in
+    (got.0, a.1, subst (λ (n : Next). LeavesNext n old now) c.in-End.is gives.1, got.1)
+
+pub returns-in-ReadFault-clause-stopped : goal.returns-in-ReadFault-clause-stopped
+returns-in-ReadFault-clause-stopped g c =
+    let a = c.loop-number.invariant.answered in
+    let old = c.loop-number.reader in
+    let now = c.next.follows.lender-at-none in
+    let l1 = g.S.Source.left c.loop-number.input in
+    let l2 = g.S.Source.left c.next.new.source in
+    let gives = c.next.follows.holds-at-none in
+    let leaves = subst (λ (n : Next). LeavesNext n old now) c.in-ReadFault.is gives.1 in
+    let got = none_more c.args.directory.now c.args.timetable.now c.loop-number.timetable old now (g.S.Source.left c.args.input.now) l1 l2 (g.K.Sink.written c.args.out.now) (g.K.Sink.written c.loop-number.out) a.0 a.1 a.2
+    (λ is. ap g.S.Source.left (c.next.ensures.ended is)) (subst (λ (n : Next). GivesNext old now l1 l2 (next_lines n)) c.in-ReadFault.is gives.0) in
+    (got.0, a.1, stops got.0 a.1 now got.1.lines_so_far leaves.ended leaves.none, got.1)
+
+pub returns-in-Budget-clause-stopped : goal.returns-in-Budget-clause-stopped
+returns-in-Budget-clause-stopped g c =
+    let a = c.loop-number.invariant.answered in
+    let old = c.loop-number.reader in
+    let now = c.next.follows.lender-at-none in
+    let l1 = g.S.Source.left c.loop-number.input in
+    let l2 = g.S.Source.left c.next.new.source in
+    let gives = c.next.follows.holds-at-none in
+    let leaves = subst (λ (n : Next). LeavesNext n old now) c.in-Budget.is gives.1 in
+    let got = none_more c.args.directory.now c.args.timetable.now c.loop-number.timetable old now (g.S.Source.left c.args.input.now) l1 l2 (g.K.Sink.written c.args.out.now) (g.K.Sink.written c.loop-number.out) a.0 a.1 a.2
+    (λ is. ap g.S.Source.left (c.next.ensures.ended is)) (subst (λ (n : Next). GivesNext old now l1 l2 (next_lines n)) c.in-Budget.is gives.0) in
+    (got.0, a.1, stops got.0 a.1 now got.1.lines_so_far leaves.ended leaves.none, got.1)
+
+pub returns-in-Budget-clause-fault : goal.returns-in-Budget-clause-fault
+returns-in-Budget-clause-fault g c =
+    let a = c.loop-number.invariant.answered in
+    let old = c.loop-number.reader in
+    let now = c.next.follows.lender-at-none in
+    let l1 = g.S.Source.left c.loop-number.input in
+    let l2 = g.S.Source.left c.next.new.source in
+    let gives = c.next.follows.holds-at-none in
+    let leaves = subst (λ (n : Next). LeavesNext n old now) c.in-Budget.is gives.1 in
+    let got = none_more c.args.directory.now c.args.timetable.now c.loop-number.timetable old now (g.S.Source.left c.args.input.now) l1 l2 (g.K.Sink.written c.args.out.now) (g.K.Sink.written c.loop-number.out) a.0 a.1 a.2
+    (λ is. ap g.S.Source.left (c.next.ensures.ended is)) (subst (λ (n : Next). GivesNext old now l1 l2 (next_lines n)) c.in-Budget.is gives.0) in
+    (got.0, got.1.source, sym got.1.lines_so_far.taken ∙ leaves.taken ∙ gives.0.1.budget ∙ c.loop-number.invariant.budget)
+
+pub loop-number-preserved : goal.loop-number-preserved
+loop-number-preserved g c =
+    let inv = c.loop-number.invariant in
+    let a = inv.answered in
+    let names = c.args.directory.now in
+    let old = c.loop-number.reader in
+    let now : Reader = c.next.follows.lender-at-none in
+    let before : Running = c.loop-number.timetable in
+    let after : Running = c.match-next.timetable in
+    let l1 = g.S.Source.left c.loop-number.input in
+    let l2 = g.S.Source.left c.next.new.source in
+    let o1 = g.K.Sink.written c.loop-number.out in
+    let o2 = g.K.Sink.written c.write_reply.new.out in
+    let gives = c.next.follows.holds-at-none in
+    let same : c.match-next.reader ≡ now = elim c.match-next.branch [ in-Line+in_ok-reply-in-Line w ↦ w.reader-is | in-LongLine w ↦ w.reader-is ] in
+    let wrote : Appends o1 o2 (text_of_reply names c.match-next.reply) = c.in_ok-write_reply.ensures.ok in
+    let one : (x : Line) → GivesNext old now l1 l2 (x ∷ []) → c.match-next.reply ≡ reply_to before.network names before.state before.count c.loop-number.number (said_by x) → after ≡ next_by names before (said_by x)
+    → (bytes : List ℕ) × (lines : List Line) × Answered names c.args.timetable.now after now (g.S.Source.left c.args.input.now) l2 (g.K.Sink.written c.args.out.now) o2 bytes lines × (c.loop-number.number + 1 ≡ length lines + 1) = λ x next says is.
+    let more = one_line_more names c.args.timetable.now before after old now (g.S.Source.left c.args.input.now) l1 l2 (g.K.Sink.written c.args.out.now) o1 o2 a.0 (text_of_reply names c.match-next.reply) a.1 x c.loop-number.number a.2
+    (λ ended. ap g.S.Source.left (c.next.ensures.ended ended)) next a.3 (ap (text_of_reply names) says) wrote is in
+    (more.0, a.1 ++ x ∷ [], more.1, omega (arith, a.3, length-append a.1 (x ∷ []))) in
+    let few : (said : Result Wire BadLine) → after ≡ next_by names before said → after.count < c.loop-number.number + 1 = λ said is. omega (arith, counts-one names before after said is, inv.count) in
+    rw same (record {
+      answered = elim c.match-next.branch [
+        | in-Line+in_ok-reply-in-Line w ↦ one (short w.in-Line.line.now) (subst (λ (n : Next). GivesNext old now l1 l2 (next_lines n)) w.in-Line.is gives.0) (w.reply-is ∙ w.in_ok-reply-in-Line.ensures.reply) (w.timetable-is ∙ w.in_ok-reply-in-Line.ensures.next)
+        | in-LongLine w ↦ one long (subst (λ (n : Next). GivesNext old now l1 l2 (next_lines n)) w.in-LongLine.is gives.0) w.reply-is w.timetable-is
+      ];
+      count = elim c.match-next.branch [
+        | in-Line+in_ok-reply-in-Line w ↦ few (said_by (short w.in-Line.line.now)) (w.timetable-is ∙ w.in_ok-reply-in-Line.ensures.next)
+        | in-LongLine w ↦ few (said_by long) w.timetable-is
+      ];
+      budget = gives.0.1.budget ∙ inv.budget;
+      read = omega (arith, inv.read, c.next.ensures.later);
+      write = omega (arith, inv.write, c.write_reply.ensures.later);
+    })

@@ -1,0 +1,9 @@
+pub mod Asking
+pub mod Causes
+pub mod Feeds
+pub mod Lines
+pub mod Output
+pub mod Runs
+pub mod Standing
+pub mod Statuses
+pub mod Words

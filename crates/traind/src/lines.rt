@@ -1,0 +1,70 @@
+//! The lines of the input, each answered at once.
+
+ghost use Rattle.std.specs.Prelude.{◌≡◌, ◌≤◌, List, ℕ, false, OnOk, IfErr};
+ghost use Rattle.std.specs.Io.KnownBytes.{Appends};
+ghost use Rattle.delay_report.specs.Replies.{text_of_reply};
+ghost use Rattle.mt_io.specs.Causes.{Rose};
+ghost use Rattle.mt_io.specs.Lines.{Line, lines_of};
+ghost use Rattle.mt_io.specs.Reader.{IsDone};
+ghost use Rattle.mt_io.specs.Runs.{fresh};
+ghost use Rattle.traind.specs.Causes.{HasCause, WhereLinesStop, TookAll};
+ghost use Rattle.traind.specs.Standing.{Answered};
+
+use crate::replies::reply_to_line;
+use crate::status::Fault;
+use delay_report::{BadLine, Reply, reply_text};
+use mt_io::{LineReader, Next, Sink, Source, put};
+use schedule_build::Directory;
+use std::alloc::Global;
+use timetable::Timetable;
+
+/// Writes a reply.
+fn write_reply<K: Sink>(
+    alloc: Global,
+    directory: &Directory,
+    out: &mut K,
+    reply: &Reply,
+) -> Result<(), Fault>
+    ensures ok { OnOk result (Appends (K.written out.old) (K.written out.new) (text_of_reply directory.now reply.now)) }
+    ensures fault { IfErr result (HasCause ⊥ ⊥ (Rose (K.faults out.old) (K.faults out.new)) ⊥) }
+    ensures later { K.faults out.old ≤ K.faults out.new }
+{
+    let text = reply_text(alloc, reply, directory)?;
+    put(out, text.as_slice())?;
+    Ok(())
+}
+
+/// Answers each line of the input.
+pub(crate) fn answer_lines<S: Source, K: Sink>(
+    alloc: Global,
+    timetable: &mut Timetable,
+    directory: &Directory,
+    reader: &mut LineReader,
+    input: &mut S,
+    out: &mut K,
+) -> Result<(), Fault>
+    requires reader { reader.old ≡ fresh reader.old.budget }
+    requires count { timetable.old.count ≡ 0 }
+    ensures all { OnOk result ((bytes : List ℕ) × (lines : List Line) × IsDone reader.new
+        × Answered directory.now timetable.old timetable.new reader.new (S.left input.old) (S.left input.new) (K.written out.old) (K.written out.new) bytes lines) }
+    ensures stopped { IfErr result (WhereLinesStop ((bytes : List ℕ) × (lines : List Line) × (lines_of false bytes ≡ lines)
+        × Answered directory.now timetable.old timetable.new reader.new (S.left input.old) (S.left input.new) (K.written out.old) (K.written out.new) bytes lines)) }
+    ensures fault { IfErr result (HasCause ⊥ (Rose (S.faults input.old) (S.faults input.new)) (Rose (K.faults out.old) (K.faults out.new))
+        (TookAll reader.old.budget (S.left input.old) (S.left input.new))) }
+    ensures later { (S.faults input.old ≤ S.faults input.new) × (K.faults out.old ≤ K.faults out.new) }
+{
+    for number in 1..u64::MAX {
+        let reply = match reader.next(input) {
+            Next::Line(line) => reply_to_line(alloc, timetable, directory, number, line)?,
+            Next::LongLine => Reply::Bad {
+                line: number,
+                bad: BadLine::Long,
+            },
+            Next::End => return Ok(()),
+            Next::ReadFault => return Err(Fault::ReadFault),
+            Next::Budget => return Err(Fault::TooLong),
+        };
+        write_reply(alloc, directory, out, &reply)?;
+    }
+    Err(Fault::Memory)
+}

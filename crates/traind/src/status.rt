@@ -1,0 +1,104 @@
+//! How a run ends.
+
+ghost use Rattle.std.specs.Prelude.{◌≡◌};
+ghost use Rattle.traind.specs.Statuses.{error_line, number_of, status_of};
+
+use mt_base::memory::OutOfMemory;
+use mt_io::Failed;
+
+/// How a run ends.
+#[derive(Clone, Copy, Debug, PartialEq, Eq)]
+pub enum Status {
+    /// The input was read to its end, and the whole output was written.
+    Ok,
+    /// The words are none that the program knows.
+    Usage,
+    /// The feed has no table that makes a timetable.
+    FeedRefused,
+    /// The feed or the input failed.
+    ReadFault,
+    /// The output failed.
+    WriteFault,
+    /// There was no memory.
+    Memory,
+    /// The input has more bytes than are taken.
+    TooLong,
+}
+
+impl Status {
+    /// The exit status of the program.
+    pub fn number(self) -> u8
+        ensures { result ≡ number_of self }
+    {
+        match self {
+            Status::Ok => 0,
+            Status::Usage => 2,
+            Status::FeedRefused => 3,
+            Status::ReadFault => 4,
+            Status::WriteFault => 5,
+            Status::Memory => 6,
+            Status::TooLong => 7,
+        }
+    }
+
+    /// The line on the error stream: none where all went well.
+    pub fn error_line(self) -> &'static [u8]
+        ensures { result.now ≡ error_line self }
+    {
+        match self {
+            Status::Ok => b"",
+            Status::Usage => b"traind: usage: traind times FEED --from DATE\n",
+            Status::FeedRefused => b"traind: feed refused: stop_times.txt\n",
+            Status::ReadFault => b"traind: read fault\n",
+            Status::WriteFault => b"traind: write fault\n",
+            Status::Memory => b"traind: out of memory\n",
+            Status::TooLong => b"traind: input too long\n",
+        }
+    }
+}
+
+/// Why a run of the command stops before its end.
+#[derive(Clone, Copy, Debug, PartialEq, Eq)]
+pub(crate) enum Fault {
+    FeedRefused,
+    ReadFault,
+    WriteFault,
+    Memory,
+    TooLong,
+}
+
+/// The status of a run of the command.
+pub(crate) fn status_of(run: Result<(), Fault>) -> Status
+    ensures { result ≡ status_of run }
+{
+    match run {
+        Ok(()) => Status::Ok,
+        Err(Fault::FeedRefused) => Status::FeedRefused,
+        Err(Fault::ReadFault) => Status::ReadFault,
+        Err(Fault::WriteFault) => Status::WriteFault,
+        Err(Fault::Memory) => Status::Memory,
+        Err(Fault::TooLong) => Status::TooLong,
+    }
+}
+
+impl From<OutOfMemory> for Fault {
+    ghost use Rattle.std.specs.Prelude.{◌≡◌};
+    ghost use Rattle.traind.specs.declared.status.Fault.TheVariants.{Memory};
+
+    ghost from_gives = { λ _ e. e ≡ Memory };
+
+    fn from(_want: OutOfMemory) -> Fault {
+        Fault::Memory
+    }
+}
+
+impl From<Failed> for Fault {
+    ghost use Rattle.std.specs.Prelude.{◌≡◌};
+    ghost use Rattle.traind.specs.declared.status.Fault.TheVariants.{WriteFault};
+
+    ghost from_gives = { λ _ e. e ≡ WriteFault };
+
+    fn from(_failed: Failed) -> Fault {
+        Fault::WriteFault
+    }
+}
