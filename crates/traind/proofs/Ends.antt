@@ -17,7 +17,7 @@ use Rattle.schedule_build.specs.Directory.{Names}
 use Rattle.timetable.specs.Running.{Running}
 use Rattle.traind.specs.declared.status.Fault.{Fault}
 use Rattle.traind.specs.declared.status.Fault.TheVariants.{FeedRefused, ReadFault, WriteFault, Memory, TooLong}
-use Rattle.traind.specs.Causes.{WhereLinesStop}
+use Rattle.traind.specs.Causes.{HasCause, WhereLinesStop}
 use Rattle.traind.proofs.Tables.{some-same}
 use Rattle.traind.specs.Lines.{accepted_of}
 use Rattle.traind.specs.Output.{replies, output}
@@ -72,3 +72,11 @@ each_fault (Err f) P all = all f
 pub on_ok_also : (run : Result (Unit {0}) Fault) (P Q : Type 0) → (P → Q) → OnOk run P → OnOk run Q
 on_ok_also (Ok u) P Q h p = h p
 on_ok_also (Err f) P Q h p = tt
+
+-- another cause for a refused feed; nothing else was a cause
+pub cause_also : (T U read : Type 0) (f : Fault) → (T → U) → HasCause T ⊥ ⊥ ⊥ f → HasCause U read ⊥ ⊥ f
+cause_also T U read FeedRefused h t = h t
+cause_also T U read ReadFault h t = absurd t
+cause_also T U read WriteFault h t = absurd t
+cause_also T U read Memory h t = tt
+cause_also T U read TooLong h t = absurd t

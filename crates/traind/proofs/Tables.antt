@@ -1,8 +1,10 @@
 -- What is known of a feed's table once it was read.
-use Rattle.std.proofs.Common.{◌≡◌, ◌≤◌, ◌∙◌, ℕ, List, Option, Some, sym, subst, ap, length, arith, Err}
+use Rattle.std.proofs.Common.{◌≡◌, ◌≤◌, ◌∙◌, ℕ, List, Option, Some, sym, subst, ap, length, arith, Result, Ok, Err}
 use Rattle.std.proofs.lemmas.Option.{none-some}
 use Rattle.std.specs.Prelude.{IfSome, unwrap_or}
 use Rattle.feed_load.specs.declared.faults.LoadFault.{LoadFault}
+use Rattle.delay_model.specs.declared.state.State.{State}
+use Rattle.schedule_build.specs.Directory.{Names}
 use Rattle.feed_load.specs.Loaded.{loaded}
 use Rattle.gtfs_tables.specs.Texts.{AreRecordsOf}
 use Rattle.mt_io.specs.Tables.{IsTooLong}
@@ -26,3 +28,12 @@ pub not_refused : (told : Told) (a : Asked) (bytes : List ℕ) → table_of told
 not_refused told a bytes at small none (absent is) = none-some bytes (sym is ∙ at)
 not_refused told a bytes at small none (too_long is) = let l = subst IsTooLong at is in absurd (omega (arith, small, l))
 not_refused told a bytes at small none (refused others records why there read is) = none records why (records_read told a bytes others records at there read) is
+
+tag : Result (State × Names) LoadFault → ℕ
+tag (Ok loaded) = 0
+tag (Err why) = 1
+
+-- records that give a timetable do not give a cause to refuse it
+pub not_both : (r : Result (State × Names) LoadFault) (timetable : State × Names) (why : LoadFault) → r ≡ Err why → r ≡ Ok timetable → ⊥
+unfolding tag
+not_both r timetable why is_why is = absurd (omega (arith, ap tag (sym is_why ∙ is)))

@@ -14,7 +14,7 @@ HasCause refused read write long WriteFault = write
 HasCause refused read write long Memory = Unit {0}
 HasCause refused read write long TooLong = long
 
--- this holds where the run stopped between two lines: a read failed, or the input is too long
+-- this holds where the run stopped because a read failed or the input is too long
 abbrev pub WhereLinesStop : Type 0 → Fault → Type 0
 WhereLinesStop holds FeedRefused = Unit {0}
 WhereLinesStop holds ReadFault = holds

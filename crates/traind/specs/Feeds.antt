@@ -12,8 +12,9 @@ use Rattle.mt_io.specs.Tables.{IsTooLong}
 use Rattle.schedule_build.specs.Directory.{Names}
 use Rattle.traind.specs.Words.{Asked}
 
--- The options where the words name none: 7 per cent of each run can be made up, a stop takes 60 seconds, a change 180, connections
--- are planned up to 1,800 seconds beyond it, and there is room for 200 extra trains, 4,000 calls and 10,000 overrides.
+-- The options where the words name none: 7 per cent of a late train's run can be made up; it stops for 60 seconds at least, or as
+-- scheduled if that is shorter; a change takes 180 seconds; a connection is planned up to 1,800 seconds after the end of the change;
+-- and there is room for 200 extra trains, 4,000 calls and 10,000 overrides.
 abbrev pub usual : Opts
 usual =
     record { slack = 7; stop = 60; change = 180; window = 1800; spare_trains = 200; spare_calls = 4000; overrides = 10000 }

@@ -16,7 +16,7 @@ use Rattle.message_reader.specs.Resolved.{resolved}
 use Rattle.mt_io.specs.Lines.{Line, short, long}
 use Rattle.schedule_build.specs.Directory.{Names}
 
--- the word for a fault of a line. Want of memory is none of a line
+-- the word for a fault of a line. Reading by definition never wants memory, so the last case is never asked for
 abbrev pub word_of : Bad → BadLine
 word_of faults.Utf8 = words.Utf8
 word_of faults.Json = words.Json

@@ -62,14 +62,16 @@ fn timetable(alloc: Global, bytes: &[u8], first: u32) -> Result<(Timetable, Dire
         → loaded first usual records ≡ Ok (st, names) → (r.0 ≡ record { network = network; state = st; count = 0 }) × (r.1 ≡ names)) }
     ensures exactly { IfOk result (λ r. (records : List (List (List ℕ))) (why : AFault) → AreRecordsOf bytes.now records
         → loaded first usual records ≡ Err why → ⊥) }
-    ensures fault { IfErr result (HasCause ((records : List (List (List ℕ))) (st : AState) (names : Names) → AreRecordsOf bytes.now records
-        → loaded first usual records ≡ Ok (st, names) → ⊥) ⊥ ⊥ ⊥) }
+    ensures fault { IfErr result (HasCause (
+        ((records : List (List (List ℕ))) (st : AState) (names : Names) → AreRecordsOf bytes.now records → loaded first usual records ≡ Ok (st, names) → ⊥)
+        × ((records : List (List (List ℕ))) × (why : AFault) × AreRecordsOf bytes.now records × (loaded first usual records ≡ Err why))) ⊥ ⊥ ⊥) }
 {
     let opts = usual();
     match load_stop_times(alloc, bytes, first, &opts) {
         Ok((trains, directory)) => Ok((Timetable::build(alloc, trains, opts)?, directory)),
         Err(LoadFault::OutOfMemory) => Err(Fault::Memory),
-        Err(LoadFault::Bad(_) | LoadFault::TooMany { .. }) => Err(Fault::FeedRefused),
+        Err(LoadFault::Bad(_)) => Err(Fault::FeedRefused),
+        Err(LoadFault::TooMany { .. }) => Err(Fault::FeedRefused),
     }
 }
 
@@ -85,8 +87,9 @@ pub(crate) fn load<F: Feed>(
     ensures held { IfOk result (λ r. (told : Told) (st : AState) (names : Names) → F.tables feed.old ≡ Some told
         → Holds told (asked_view asked.now) st names → (r.0 ≡ record { network = network; state = st; count = 0 }) × (r.1 ≡ names)) }
     ensures exactly { IfOk result (λ r. (told : Told) → F.tables feed.old ≡ Some told → Refusal told (asked_view asked.now) → ⊥) }
-    ensures fault { IfErr result (HasCause ((told : Told) (st : AState) (names : Names) → F.tables feed.old ≡ Some told
-        → Holds told (asked_view asked.now) st names → ⊥) (Rose (F.faults feed.old) (F.faults feed.new)) ⊥ ⊥) }
+    ensures fault { IfErr result (HasCause (
+        ((told : Told) (st : AState) (names : Names) → F.tables feed.old ≡ Some told → Holds told (asked_view asked.now) st names → ⊥)
+        × ((told : Told) → F.tables feed.old ≡ Some told → Refusal told (asked_view asked.now))) (Rose (F.faults feed.old) (F.faults feed.new)) ⊥ ⊥) }
     ensures later { F.faults feed.old ≤ F.faults feed.new }
 {
     let bytes = table(feed, asked.folder)?;

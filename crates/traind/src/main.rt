@@ -9,9 +9,10 @@ pub mod status;
 mod table;
 mod words;
 
-use mt_io::{FolderFeed, NoGate, StdSink, StdSource};
+use mt_io::{FolderFeed, NoGate, StdSink, StdSource, put};
 use run::traind;
 use status::Status;
+use std::io::ErrorKind;
 use std::process::ExitCode;
 use std::{env, io};
 
@@ -24,12 +25,32 @@ fn given_words(rt: &HostRuntime) -> io::Result<Vec<String>> {
     Ok(words)
 }
 
-fn main(rt: HostRuntime) -> io::Result<ExitCode> {
-    let words = given_words(&rt)?;
-    let mut feed = FolderFeed::build(rt.clone()?, rt.alloc());
+/// The status where the words could not be taken: they are no text, or there was no memory.
+fn status_without_words(error: &io::Error) -> Status {
+    if error.kind() == ErrorKind::OutOfMemory {
+        Status::Memory
+    } else {
+        Status::Usage
+    }
+}
+
+fn main(rt: HostRuntime) -> ExitCode {
+    let mut err = StdSink::build(rt.stderr());
+    let words = match given_words(&rt) {
+        Ok(words) => words,
+        Err(error) => {
+            let status = status_without_words(&error);
+            let _ = put(&mut err, status.error_line());
+            return ExitCode::from(status.number());
+        }
+    };
+    let Ok(files) = rt.clone() else {
+        let _ = put(&mut err, Status::Memory.error_line());
+        return ExitCode::from(Status::Memory.number());
+    };
+    let mut feed = FolderFeed::build(files, rt.alloc());
     let mut input = StdSource::build(rt.stdin());
     let mut out = StdSink::build(rt.stdout());
-    let mut err = StdSink::build(rt.stderr());
     let status = traind(
         &rt,
         rt.alloc(),
@@ -40,5 +61,5 @@ fn main(rt: HostRuntime) -> io::Result<ExitCode> {
         &mut err,
         &NoGate,
     );
-    Ok(ExitCode::from(status.number()))
+    ExitCode::from(status.number())
 }

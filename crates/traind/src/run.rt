@@ -1,7 +1,7 @@
 //! The program as a call: `times` over any feed, input and outputs.
 
 ghost use Rattle.std.specs.Prelude.{◌≡◌, ◌↔◌, ◌<◌, ◌≤◌, ◌⊎◌, List, ℕ, [], map, length, None, Some, OnOk, IfOk, IfErr, true, false, string_bytes};
-ghost use Rattle.std.specs.Io.KnownBytes.{Appends, Consumes};
+ghost use Rattle.std.specs.Io.KnownBytes.{Appends, Consumes, IsAtEnd};
 ghost use Rattle.delay_model.specs.declared.state.State.{State as AState};
 ghost use Rattle.mt_base.specs.Civil.{IsCivil};
 ghost use Rattle.mt_io.specs.Causes.{Rose};
@@ -39,6 +39,7 @@ fn run_lines<S: Source, K: Sink>(
     requires count { timetable.old.count ≡ 0 }
     ensures ok { OnOk result ((bytes : List ℕ) → S.left input.old ≡ Some bytes
         → Appends (K.written out.old) (K.written out.new) (output timetable.old.network directory.now timetable.old.state (lines_of true bytes))) }
+    ensures ended { OnOk result (IsAtEnd (S.left input.new)) }
     ensures stopped { IfErr result (WhereLinesStop ((bytes : List ℕ) × Consumes (S.left input.old) (S.left input.new) bytes
         × Appends (K.written out.old) (K.written out.new) (replies timetable.old.network directory.now timetable.old.state [] (lines_of false bytes)))) }
     ensures fault { IfErr result (HasCause ⊥ (Rose (S.faults input.old) (S.faults input.new)) (Rose (K.faults out.old) (K.faults out.new))
@@ -63,23 +64,28 @@ fn times<F: Feed, S: Source, K: Sink>(
     ensures ok { OnOk result ((told : Told) (st : AState) (names : Names) (bytes : List ℕ) → F.tables feed.old ≡ Some told
         → Holds told (asked_view asked.now) st names → S.left input.old ≡ Some bytes
         → Appends (K.written out.old) (K.written out.new) (output network names st (lines_of true bytes))) }
+    ensures ended { OnOk result (IsAtEnd (S.left input.new)) }
     ensures stopped { IfErr result (WhereLinesStop ((told : Told) (st : AState) (names : Names) → F.tables feed.old ≡ Some told
         → Holds told (asked_view asked.now) st names → (bytes : List ℕ) × Consumes (S.left input.old) (S.left input.new) bytes
         × Appends (K.written out.old) (K.written out.new) (replies network names st [] (lines_of false bytes)))) }
     ensures fault { IfErr result (HasCause
-        ((input.new ≡ input.old) × (out.new ≡ out.old) × ((told : Told) (st : AState) (names : Names) → F.tables feed.old ≡ Some told → Holds told (asked_view asked.now) st names → ⊥))
-        (Rose (F.faults feed.old) (F.faults feed.new) ⊎ Rose (S.faults input.old) (S.faults input.new))
+        ((input.new ≡ input.old) × (out.new ≡ out.old)
+        × ((told : Told) (st : AState) (names : Names) → F.tables feed.old ≡ Some told → Holds told (asked_view asked.now) st names → ⊥)
+        × ((told : Told) → F.tables feed.old ≡ Some told → Refusal told (asked_view asked.now)))
+        (((input.new ≡ input.old) × (out.new ≡ out.old) × Rose (F.faults feed.old) (F.faults feed.new)) ⊎ Rose (S.faults input.old) (S.faults input.new))
         (Rose (K.faults out.old) (K.faults out.new)) (TookAll budget (S.left input.old) (S.left input.new))) }
     ensures exactly_ok { OnOk result ((told : Told) → F.tables feed.old ≡ Some told → Refusal told (asked_view asked.now) → ⊥) }
     ensures exactly { IfErr result (λ f. (told : Told) → F.tables feed.old ≡ Some told → Refusal told (asked_view asked.now)
         → HasCause (Unit {0}) (Rose (F.faults feed.old) (F.faults feed.new)) ⊥ ⊥ f) }
+    ensures untouched { (told : Told) → F.tables feed.old ≡ Some told → Refusal told (asked_view asked.now) → (input.new ≡ input.old) × (out.new ≡ out.old) }
 {
     let (mut timetable, directory) = load(alloc, asked, feed)?;
     run_lines(alloc, &mut timetable, &directory, input, out, budget)
 }
 
 /// All that the program does for `times`. It reads the table of the feed, answers each line of the input at once, and at the end of
-/// the input writes the table of all times. It takes at most `budget` bytes of the input, waits for nobody and returns.
+/// the input writes the table of all times. It stops where `budget` bytes of the input were taken and no end was read. It waits for
+/// nobody and returns.
 pub fn run_times<F: Feed, S: Source, K: Sink, E: Sink>(
     alloc: Global,
     words: &[String],
@@ -92,11 +98,16 @@ pub fn run_times<F: Feed, S: Source, K: Sink, E: Sink>(
     requires budget { 1 ≤ budget }
     ensures usage { (result ≡ Status.Usage) ↔ (asked_of (map string_bytes words.now) ≡ None) }
     ensures ok { result ≡ Status.Ok → WritesAll (map string_bytes words.now) (F.tables feed.old) (S.left input.old) (K.written out.old) (K.written out.new) }
+    ensures ended { result ≡ Status.Ok → IsAtEnd (S.left input.new) }
     ensures refused { result ≡ Status.FeedRefused → HoldsNone (map string_bytes words.now) (F.tables feed.old) }
+    ensures refused_for { result ≡ Status.FeedRefused → (told : Told) → F.tables feed.old ≡ Some told → IsRefused (map string_bytes words.now) (F.tables feed.old) }
     ensures refused_exactly { IsRefused (map string_bytes words.now) (F.tables feed.old)
         → (result ≡ Status.FeedRefused) ⊎ (result ≡ Status.Memory) ⊎ ((result ≡ Status.ReadFault) × Rose (F.faults feed.old) (F.faults feed.new)) }
     ensures untouched { (result ≡ Status.Usage) ⊎ (result ≡ Status.FeedRefused) → (input.new ≡ input.old) × (out.new ≡ out.old) }
-    ensures read_fault { result ≡ Status.ReadFault → Rose (F.faults feed.old) (F.faults feed.new) ⊎ Rose (S.faults input.old) (S.faults input.new) }
+    ensures usage_untouched { result ≡ Status.Usage → feed.new ≡ feed.old }
+    ensures refused_untouched { IsRefused (map string_bytes words.now) (F.tables feed.old) → (input.new ≡ input.old) × (out.new ≡ out.old) }
+    ensures read_fault { result ≡ Status.ReadFault → ((input.new ≡ input.old) × (out.new ≡ out.old) × Rose (F.faults feed.old) (F.faults feed.new))
+        ⊎ Rose (S.faults input.old) (S.faults input.new) }
     ensures write_fault { result ≡ Status.WriteFault → Rose (K.faults out.old) (K.faults out.new) }
     ensures too_long { result ≡ Status.TooLong → TookAll budget (S.left input.old) (S.left input.new) }
     ensures stopped { (result ≡ Status.ReadFault) ⊎ (result ≡ Status.TooLong)
@@ -114,7 +125,7 @@ pub fn run_times<F: Feed, S: Source, K: Sink, E: Sink>(
     status
 }
 
-/// The program, which takes at most `budget` bytes of the input. Its only command is `times`.
+/// The program. It stops where `budget` bytes of the input were taken and no end was read. Its only command is `times`.
 pub fn traind_within<
     R: Threads + Wait + Sync,
     F: Feed,
@@ -136,11 +147,16 @@ pub fn traind_within<
     requires budget { 1 ≤ budget }
     ensures usage { (result ≡ Status.Usage) ↔ (asked_of (map string_bytes words.now) ≡ None) }
     ensures ok { result ≡ Status.Ok → WritesAll (map string_bytes words.now) (F.tables feed.old) (S.left input.old) (K.written out.old) (K.written out.new) }
+    ensures ended { result ≡ Status.Ok → IsAtEnd (S.left input.new) }
     ensures refused { result ≡ Status.FeedRefused → HoldsNone (map string_bytes words.now) (F.tables feed.old) }
+    ensures refused_for { result ≡ Status.FeedRefused → (told : Told) → F.tables feed.old ≡ Some told → IsRefused (map string_bytes words.now) (F.tables feed.old) }
     ensures refused_exactly { IsRefused (map string_bytes words.now) (F.tables feed.old)
         → (result ≡ Status.FeedRefused) ⊎ (result ≡ Status.Memory) ⊎ ((result ≡ Status.ReadFault) × Rose (F.faults feed.old) (F.faults feed.new)) }
     ensures untouched { (result ≡ Status.Usage) ⊎ (result ≡ Status.FeedRefused) → (input.new ≡ input.old) × (out.new ≡ out.old) }
-    ensures read_fault { result ≡ Status.ReadFault → Rose (F.faults feed.old) (F.faults feed.new) ⊎ Rose (S.faults input.old) (S.faults input.new) }
+    ensures usage_untouched { result ≡ Status.Usage → feed.new ≡ feed.old }
+    ensures refused_untouched { IsRefused (map string_bytes words.now) (F.tables feed.old) → (input.new ≡ input.old) × (out.new ≡ out.old) }
+    ensures read_fault { result ≡ Status.ReadFault → ((input.new ≡ input.old) × (out.new ≡ out.old) × Rose (F.faults feed.old) (F.faults feed.new))
+        ⊎ Rose (S.faults input.old) (S.faults input.new) }
     ensures write_fault { result ≡ Status.WriteFault → Rose (K.faults out.old) (K.faults out.new) }
     ensures too_long { result ≡ Status.TooLong → TookAll budget (S.left input.old) (S.left input.new) }
     ensures stopped { (result ≡ Status.ReadFault) ⊎ (result ≡ Status.TooLong)
@@ -153,7 +169,7 @@ pub fn traind_within<
     run_times(alloc, words, feed, input, out, err, budget)
 }
 
-/// The program, which takes at most 2^40 bytes of the input.
+/// The program. It stops where 2^40 bytes of the input were taken and no end was read.
 pub fn traind<R: Threads + Wait + Sync, F: Feed, S: Source, K: Sink, E: Sink, G: Gate + Sync>(
     rt: &R,
     alloc: Global,
@@ -166,11 +182,16 @@ pub fn traind<R: Threads + Wait + Sync, F: Feed, S: Source, K: Sink, E: Sink, G:
 ) -> Status
     ensures usage { (result ≡ Status.Usage) ↔ (asked_of (map string_bytes words.now) ≡ None) }
     ensures ok { result ≡ Status.Ok → WritesAll (map string_bytes words.now) (F.tables feed.old) (S.left input.old) (K.written out.old) (K.written out.new) }
+    ensures ended { result ≡ Status.Ok → IsAtEnd (S.left input.new) }
     ensures refused { result ≡ Status.FeedRefused → HoldsNone (map string_bytes words.now) (F.tables feed.old) }
+    ensures refused_for { result ≡ Status.FeedRefused → (told : Told) → F.tables feed.old ≡ Some told → IsRefused (map string_bytes words.now) (F.tables feed.old) }
     ensures refused_exactly { IsRefused (map string_bytes words.now) (F.tables feed.old)
         → (result ≡ Status.FeedRefused) ⊎ (result ≡ Status.Memory) ⊎ ((result ≡ Status.ReadFault) × Rose (F.faults feed.old) (F.faults feed.new)) }
     ensures untouched { (result ≡ Status.Usage) ⊎ (result ≡ Status.FeedRefused) → (input.new ≡ input.old) × (out.new ≡ out.old) }
-    ensures read_fault { result ≡ Status.ReadFault → Rose (F.faults feed.old) (F.faults feed.new) ⊎ Rose (S.faults input.old) (S.faults input.new) }
+    ensures usage_untouched { result ≡ Status.Usage → feed.new ≡ feed.old }
+    ensures refused_untouched { IsRefused (map string_bytes words.now) (F.tables feed.old) → (input.new ≡ input.old) × (out.new ≡ out.old) }
+    ensures read_fault { result ≡ Status.ReadFault → ((input.new ≡ input.old) × (out.new ≡ out.old) × Rose (F.faults feed.old) (F.faults feed.new))
+        ⊎ Rose (S.faults input.old) (S.faults input.new) }
     ensures write_fault { result ≡ Status.WriteFault → Rose (K.faults out.old) (K.faults out.new) }
     ensures too_long { result ≡ Status.TooLong → TookAll 1099511627776 (S.left input.old) (S.left input.new) }
     ensures stopped { (result ≡ Status.ReadFault) ⊎ (result ≡ Status.TooLong)

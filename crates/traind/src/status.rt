@@ -21,7 +21,7 @@ pub enum Status {
     WriteFault,
     /// There was no memory.
     Memory,
-    /// The input has more bytes than are taken.
+    /// As many bytes of the input as may be were taken, and no end was read.
     TooLong,
 }
 

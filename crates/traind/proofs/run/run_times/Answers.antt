@@ -4,6 +4,8 @@ use Rattle.std.proofs.lemmas.Result.{IfErr-weaker}
 use Rattle.std.specs.Prelude.{string_bytes, option_map, unwrap_or}
 use Rattle.mt_io.specs.Causes.{Rose}
 use Rattle.traind.specs.declared.status.Fault.TheVariants as faults
+use Rattle.traind.specs.declared.status.Status.{Status}
+use Rattle.traind.specs.declared.status.Status.TheVariants as statuses
 use Rattle.traind.specs.declared.words.Asked.{Asked as Held}
 use Rattle.traind.specs.Asking.{asked_view}
 use Rattle.traind.specs.Causes.{HasCause, WhereLinesStop}
@@ -17,6 +19,10 @@ use Rattle.traind.proofs.run.run_times.Goals.{in-None, in-Some}
 -- words that ask for nothing ask for no feed
 nobody : (words : List (List ℕ)) (found : Option Held) (a : Asked) → option_map asked_view found ≡ asked_of words → found ≡ None → asked_of words ≡ Some a → ⊥
 nobody words found a value none is = none-some a (ap (option_map asked_view) (sym none) ∙ value ∙ is)
+
+-- a run for which the words are wrong is not refused for its feed
+usage_is_no_refusal : (s : Status) → s ≡ statuses.Usage → s ≡ statuses.FeedRefused → ⊥
+usage_is_no_refusal s usage refused = none-some faults.FeedRefused (ap fault_in (sym usage ∙ refused))
 
 -- words that were read ask for what they say
 same_asked : (words : List (List ℕ)) (found : Option Held) (held : Held) (a : Asked) → option_map asked_view found ≡ asked_of words → found ≡ Some held → asked_of words ≡ Some a → a ≡ asked_view held
@@ -74,9 +80,30 @@ returns-clause-complete g c = λ can no_feed no_read no_write. elim c.match-read
       well_or_memory w.times.result c.match-read_words.status _ _ _ _ (w.status-is ∙ w.status_of-status.ensures) w.times.ensures.fault
       (λ refused. refused.2 can.loads.told can.state can.names can.loads.told_is holds)
       (λ read. elim read [
-        | inl of_feed ↦ no_feed (rw w.feed-is of_feed)
+        | inl of_feed ↦ no_feed (rw w.feed-is of_feed.2)
         | inr of_input ↦ no_read (rw w.input-is of_input)
       ])
       (λ write. no_write (rw w.out-is write))
       (λ long. not_long c.args.budget (g.S.Source.left c.args.input.now) (g.S.Source.left w.times.new.input) can.bytes can.told can.short long)
+]
+
+pub returns-clause-refused_for : goal.returns-clause-refused_for
+returns-clause-refused_for g c = λ is told told_is. elim c.match-read_words.branch [
+  | in-None w ↦ absurd (usage_is_no_refusal c.match-read_words.status w.status-is is)
+  | in-Some w ↦ record {
+    asked = asked_view w.in-Some.asked;
+    told = told;
+    asked_is = sym c.read_words.ensures.value ∙ ap (option_map asked_view) w.in-Some.is;
+    told_is = told_is;
+    why = (on_fault w.times.result c.match-read_words.status faults.FeedRefused (HasCause _ _ _ _) (w.status-is ∙ w.status_of-status.ensures) (ap fault_in is) w.times.ensures.fault).3 told told_is;
+  }
+]
+
+pub returns-clause-refused_untouched : goal.returns-clause-refused_untouched
+returns-clause-refused_untouched g c = λ to_be. elim c.match-read_words.branch [
+  | in-None w ↦ (w.input-is, w.out-is)
+  | in-Some w ↦
+      let a = same_asked (map string_bytes c.args.words.now) c.read_words.result w.in-Some.asked to_be.asked c.read_words.ensures.value w.in-Some.is to_be.asked_is in
+      let same = w.times.ensures.untouched to_be.told to_be.told_is (subst (λ (b : Asked). Refusal to_be.told b) a to_be.why) in
+      (w.input-is ∙ same.0, w.out-is ∙ same.1)
 ]

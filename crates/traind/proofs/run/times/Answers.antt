@@ -63,3 +63,6 @@ returns-clause-exactly g c =
     each_fault c.run_lines.result
     (λ f. (told : Told) → g.F.Feed.tables c.args.feed.now ≡ Some told → Refusal told (asked_view c.args.asked.now) → HasCause (Unit {0}) (Rose (g.F.Feed.faults c.args.feed.now) (g.F.Feed.faults c.load.new.feed)) ⊥ ⊥ f)
     (λ f told is why. absurd (c.in_ok-timetable.ensures.exactly told is why))
+
+pub returns-clause-untouched : goal.returns-clause-untouched
+returns-clause-untouched g c = λ told is why. absurd (c.in_ok-timetable.ensures.exactly told is why)
