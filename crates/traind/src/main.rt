@@ -7,6 +7,8 @@ mod replies;
 pub mod run;
 pub mod status;
 mod table;
+#[cfg(test)]
+mod tests;
 mod words;
 
 use mt_io::{FolderFeed, NoGate, StdSink, StdSource, put};

@@ -1,0 +1,300 @@
+use crate::run::{run_times, traind, traind_within};
+use crate::status::Status;
+use mt_io::{
+    LineReader, MemFeed, MemSink, MemSource, Next, NoGate, SureFeed, SureSink, SureSource,
+};
+use std::alloc::Global;
+use std::test::Fail;
+
+/// T1 runs A, B1, C and T2 runs B2, D.
+const STOP_TIMES: &str = "trip_id,arrival_time,departure_time,stop_id,stop_sequence
+T1,08:00:00,08:00:00,A,1
+T1,08:30:00,08:32:00,B1,2
+T1,09:00:00,09:00:00,C,3
+T2,08:36:00,08:36:00,B2,1
+T2,09:10:00,09:10:00,D,2
+";
+
+/// All times as scheduled.
+const SCHEDULED: &str = "trip,date,call,stop,event,scheduled,time
+T1,20260105,0,A,dep,08:00:00,08:00:00
+T1,20260105,1,B1,arr,08:30:00,08:30:00
+T1,20260105,1,B1,dep,08:32:00,08:32:00
+T1,20260105,2,C,arr,09:00:00,09:00:00
+T2,20260105,0,B2,dep,08:36:00,08:36:00
+T2,20260105,1,D,arr,09:10:00,09:10:00
+";
+
+/// All times where T1 leaves A at 08:10:00.
+const LATE: &str = "trip,date,call,stop,event,scheduled,time
+T1,20260105,0,A,dep,08:00:00,08:10:00
+T1,20260105,1,B1,arr,08:30:00,08:37:54
+T1,20260105,1,B1,dep,08:32:00,08:38:54
+T1,20260105,2,C,arr,09:00:00,09:04:57
+T2,20260105,0,B2,dep,08:36:00,08:36:00
+T2,20260105,1,D,arr,09:10:00,09:10:00
+";
+
+/// T1 leaves A at 08:10:00.
+const FORECAST: &str =
+    r#"{"v":1,"type":"forecast","trip":"T1","date":"20260105","call":0,"event":"dep","time":"08:10:00"}"#;
+
+/// A forecast of a train that the feed does not have.
+const NO_TRAIN: &str =
+    r#"{"v":1,"type":"forecast","trip":"T9","date":"20260105","call":0,"event":"dep","time":"08:10:00"}"#;
+
+/// T1 has left A at 08:10:00.
+const REPORT: &str =
+    r#"{"v":1,"type":"report","trip":"T1","date":"20260105","call":0,"event":"dep","time":"08:10:00"}"#;
+
+/// The reply to the forecast where it is the first line.
+const ACCEPTED: &str = "{\"accepted\":1,\"changed\":4,\"line\":1}\n";
+
+/// The error line where the feed is refused.
+const REFUSED: &str = "traind: feed refused: stop_times.txt\n";
+
+/// What a run left behind.
+#[derive(Drop)]
+struct Ended {
+    status: Status,
+    out: MemSink,
+    err: MemSink,
+}
+
+/// Whether a run ended like this, with these bytes on the output and on the error stream.
+fn is_end(ended: &Ended, status: Status, out: &str, err: &str) -> bool {
+    ended.status == status
+        && ended.out.bytes() == out.as_bytes()
+        && ended.err.bytes() == err.as_bytes()
+}
+
+/// The words `times feed --from 20260105`.
+fn words(alloc: Global) -> Result<Vec<String>, Fail> {
+    let mut words = Vec::new(alloc);
+    for word in ["times", "feed", "--from", "20260105"] {
+        words.push(String::from_str(alloc, word)?)?;
+    }
+    Ok(words)
+}
+
+/// A feed with this table, which never fails.
+fn feed(alloc: Global, stop_times: &[u8]) -> Result<MemFeed, Fail> {
+    let mut feed = MemFeed::build(alloc, Vec::new(alloc));
+    feed.add(
+        "feed",
+        "stop_times.txt",
+        Vec::from_slice(alloc, stop_times)?,
+    )?;
+    Ok(feed)
+}
+
+/// An input of this text, which never fails.
+fn input(alloc: Global, text: &str) -> Result<MemSource, Fail> {
+    let bytes = Vec::from_slice(alloc, text.as_bytes())?;
+    Ok(MemSource::build(bytes, 100, Vec::new(alloc)))
+}
+
+/// An output with ample room, which never fails.
+fn output(alloc: Global) -> Result<MemSink, Fail> {
+    Ok(MemSink::build(alloc, 4_096, Vec::new(alloc))?)
+}
+
+/// A run on this input and output with ample memory.
+fn run(alloc: Global, mut input: MemSource, mut out: MemSink) -> Result<Ended, Fail> {
+    let words = words(alloc)?;
+    let mut feed = feed(alloc, STOP_TIMES.as_bytes())?;
+    let mut err = output(alloc)?;
+    let status = run_times(
+        alloc, &words, &mut feed, &mut input, &mut out, &mut err, 1_000_000,
+    );
+    Ok(Ended { status, out, err })
+}
+
+#[test]
+fn scheduled_times_without_input(rt: HostRuntime) -> Result<(), Fail> {
+    let alloc = rt.alloc();
+    let ended = run(alloc, input(alloc, "")?, output(alloc)?)?;
+    assert!(rt; is_end(&ended, Status::Ok, SCHEDULED, ""));
+    let words = words(alloc)?;
+    let mut feed = feed(alloc, STOP_TIMES.as_bytes())?;
+    let mut input = input(alloc, "")?;
+    let mut out = output(alloc)?;
+    let mut err = output(alloc)?;
+    let status = traind(
+        &rt, alloc, &words, &mut feed, &mut input, &mut out, &mut err, &NoGate,
+    );
+    assert!(rt; is_end(&Ended { status, out, err }, Status::Ok, SCHEDULED, ""));
+    Ok(())
+}
+
+#[test]
+fn lines_are_answered(rt: HostRuntime) -> Result<(), Fail> {
+    let alloc = rt.alloc();
+    let unknown = "{\"line\":1,\"refused\":\"Unknown\"}\n";
+    let shape = "{\"bad\":\"shape\",\"line\":1}\n";
+    for (line, reply, table) in [
+        (FORECAST, ACCEPTED, LATE),
+        (NO_TRAIN, unknown, SCHEDULED),
+        (REPORT, shape, SCHEDULED),
+    ] {
+        let text = format!(in alloc; "{line}\n")?;
+        let want = format!(in alloc; "{reply}{table}")?;
+        let ended = run(alloc, input(alloc, text.as_str())?, output(alloc)?)?;
+        assert!(rt; is_end(&ended, Status::Ok, want.as_str(), ""), "{line}");
+    }
+    Ok(())
+}
+
+#[test]
+fn no_table(rt: HostRuntime) -> Result<(), Fail> {
+    let alloc = rt.alloc();
+    let words = words(alloc)?;
+    let mut feed = MemFeed::build(alloc, Vec::new(alloc));
+    let mut input = input(alloc, FORECAST)?;
+    let mut out = output(alloc)?;
+    let mut err = output(alloc)?;
+    let status = run_times(
+        alloc, &words, &mut feed, &mut input, &mut out, &mut err, 1_000_000,
+    );
+    assert!(rt;
+        is_end(
+            &Ended { status, out, err },
+            Status::FeedRefused,
+            "",
+            REFUSED
+        )
+    );
+    let mut reader = LineReader::build(alloc, 1_000)?;
+    match reader.next(&mut input) {
+        Next::Line(left) => assert_eq!(rt; left, FORECAST.as_bytes()),
+        _ => assert!(rt; false, "the input was read"),
+    }
+    Ok(())
+}
+
+#[test]
+fn read_that_fails_in_mid_line(rt: HostRuntime) -> Result<(), Fail> {
+    let alloc = rt.alloc();
+    let text = format!(in alloc; "{FORECAST}\n{NO_TRAIN}\n")?;
+    let bytes = Vec::from_slice(alloc, text.as_bytes())?;
+    let number = FORECAST.len() as u64 + 10;
+    let source = MemSource::build(bytes, 1, vec![in alloc; number]?);
+    let ended = run(alloc, source, output(alloc)?)?;
+    assert!(rt; is_end(&ended, Status::ReadFault, ACCEPTED, "traind: read fault\n"));
+    Ok(())
+}
+
+#[test]
+fn each_write_that_fails(rt: HostRuntime) -> Result<(), Fail> {
+    let alloc = rt.alloc();
+    let want = format!(in alloc; "{ACCEPTED}{LATE}")?;
+    for number in 0..1_000 {
+        let sink = MemSink::build(alloc, 4_096, vec![in alloc; number]?)?;
+        let ended = run(alloc, input(alloc, FORECAST)?, sink)?;
+        if ended.status == Status::Ok {
+            assert!(rt; number > 0, "no write failed");
+            assert!(rt; is_end(&ended, Status::Ok, want.as_str(), ""));
+            return Ok(());
+        }
+        assert_eq!(rt; ended.status, Status::WriteFault, "write {number}");
+        assert_eq!(rt; ended.err.bytes(), b"traind: write fault\n".as_slice());
+        assert!(rt;
+            want.as_bytes().starts_with(ended.out.bytes()),
+            "write {number}"
+        );
+    }
+    assert!(rt; false, "a write failed each time");
+    Ok(())
+}
+
+#[test]
+fn table_cut_at_every_byte(rt: HostRuntime) -> Result<(), Fail> {
+    let alloc = rt.alloc();
+    let words = words(alloc)?;
+    let table = STOP_TIMES.as_bytes();
+    for length in 0..table.len() {
+        let mut feed = feed(alloc, &table[..length])?;
+        let mut input = input(alloc, "")?;
+        let mut out = output(alloc)?;
+        let mut err = output(alloc)?;
+        let status = run_times(
+            alloc, &words, &mut feed, &mut input, &mut out, &mut err, 1_000,
+        );
+        let ended = Ended { status, out, err };
+        if ended.status == Status::Ok {
+            assert!(rt; ended.err.bytes().is_empty(), "{length} bytes");
+        } else {
+            assert!(rt;
+                is_end(&ended, Status::FeedRefused, "", REFUSED),
+                "{length} bytes"
+            );
+        }
+    }
+    Ok(())
+}
+
+#[test]
+fn longest_line(rt: HostRuntime) -> Result<(), Fail> {
+    let alloc = rt.alloc();
+    let accepted = "{\"accepted\":1,\"changed\":4,\"line\":2}\n";
+    for (length, word) in [(65_535, "json"), (65_536, "long"), (65_537, "long")] {
+        let mut bytes = vec![in alloc; b'x'; length]?;
+        bytes.extend_from_slice(b"\n")?;
+        bytes.extend_from_slice(FORECAST.as_bytes())?;
+        bytes.extend_from_slice(b"\n")?;
+        let source = MemSource::build(bytes, 1_000, Vec::new(alloc));
+        let ended = run(alloc, source, output(alloc)?)?;
+        let want = format!(in alloc; "{{\"bad\":\"{word}\",\"line\":1}}\n{accepted}{LATE}")?;
+        assert!(rt;
+            is_end(&ended, Status::Ok, want.as_str(), ""),
+            "{length} bytes"
+        );
+    }
+    Ok(())
+}
+
+#[test]
+fn input_of_as_many_bytes_as_are_taken(rt: HostRuntime) -> Result<(), Fail> {
+    let alloc = rt.alloc();
+    let words = words(alloc)?;
+    let text = format!(in alloc; "{FORECAST}\n{NO_TRAIN}")?;
+    let whole = format!(in alloc; "{ACCEPTED}{{\"line\":2,\"refused\":\"Unknown\"}}\n{LATE}")?;
+    for (more, end, want, line) in [
+        (0u8, Status::TooLong, ACCEPTED, "traind: input too long\n"),
+        (1, Status::Ok, whole.as_str(), ""),
+    ] {
+        let mut feed = feed(alloc, STOP_TIMES.as_bytes())?;
+        let mut input = input(alloc, text.as_str())?;
+        let mut out = output(alloc)?;
+        let mut err = output(alloc)?;
+        let budget = FORECAST.len() as u64 + 1 + NO_TRAIN.len() as u64 + u64::from(more);
+        let status = traind_within(
+            &rt, alloc, &words, &mut feed, &mut input, &mut out, &mut err, &NoGate, budget,
+        );
+        assert!(rt;
+            is_end(&Ended { status, out, err }, end, want, line),
+            "{budget} bytes"
+        );
+    }
+    Ok(())
+}
+
+#[test]
+fn objects_that_never_fail(rt: HostRuntime) -> Result<(), Fail> {
+    let alloc = rt.alloc();
+    let words = words(alloc)?;
+    let mut feed = SureFeed::build(alloc);
+    feed.add(
+        "feed",
+        "stop_times.txt",
+        Vec::from_slice(alloc, STOP_TIMES.as_bytes())?,
+    )?;
+    let mut input = SureSource::build(Vec::from_slice(alloc, FORECAST.as_bytes())?, 10);
+    let mut out = SureSink::build();
+    let mut err = SureSink::build();
+    let status = traind(
+        &rt, alloc, &words, &mut feed, &mut input, &mut out, &mut err, &NoGate,
+    );
+    assert_eq!(rt; status, Status::Ok);
+    Ok(())
+}
