@@ -3,3 +3,10 @@ pub mod Records
 pub mod TextLemmas
 pub mod NumberLemmas
 pub mod RowLemmas
+pub mod BuilderLemmas
+pub mod KeyLemmas
+pub mod FrequencyLemmas
+pub mod IdLemmas
+pub mod ReadLemmas
+pub mod StopLemmas
+pub mod TripLemmas

@@ -8,3 +8,14 @@ pub mod Numbers
 pub mod Numberings
 pub mod StopTimes
 pub mod Tables
+pub mod Calendar
+pub mod CalendarDates
+pub mod Transfers
+pub mod WaitingRules
+pub mod Builders
+pub mod Ids
+pub mod Frequencies
+pub mod Limits
+pub mod Stops
+pub mod Trips
+pub mod TripTables

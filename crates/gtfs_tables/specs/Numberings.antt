@@ -7,3 +7,7 @@ use Rattle.gtfs_tables.specs.declared.numbering.Numbering.{Numbering}
 -- each name is found by its number, and only the names that are listed
 pub record IsNumbered (n : Numbering) : Type 0 where
   pub found : (name : List ℕ) → get_by_text n.numbers name ≡ number_from 0 name n.names.items
+
+-- the names, by number
+abbrev pub names_of : Numbering → List (List ℕ)
+names_of n = n.names.items

@@ -2,7 +2,7 @@
 
 ghost use Rattle.std.specs.Prelude.{◌≡◌, [], IfOk, IfErr, OnOk};
 ghost use Rattle.gtfs_tables.specs.declared.faults.TableError.TheVariants.{OutOfMemory};
-ghost use Rattle.gtfs_tables.specs.Numbers.{number_in, names_with};
+ghost use Rattle.gtfs_tables.specs.Numbers.{number_from, number_in, names_with};
 
 use crate::faults::TableError;
 use mt_base::names::Name;
@@ -17,11 +17,11 @@ pub struct Numbering {
 }
 
 impl Numbering {
-    ghost use Rattle.gtfs_tables.specs.Numberings.{IsNumbered};
+    ghost use Rattle.gtfs_tables.specs.Numberings.{IsNumbered, names_of};
 
     /// No name.
     pub fn new(alloc: Global) -> Numbering
-        ensures names { result.names.items ≡ [] }
+        ensures names { names_of result ≡ [] }
         ensures numbered { IsNumbered result }
     {
         Numbering {
@@ -33,8 +33,8 @@ impl Numbering {
     /// The number of a name. A new name gets the next number.
     pub fn number(&mut self, alloc: Global, name: &str) -> Result<u32, TableError>
         requires { IsNumbered self.old }
-        ensures number { IfOk result (λ n. n ≡ number_in name.now self.old.names.items) }
-        ensures names { OnOk result (self.new.names.items ≡ names_with name.now self.old.names.items) }
+        ensures number { IfOk result (λ n. n ≡ number_in name.now (names_of self.old)) }
+        ensures names { OnOk result (names_of self.new ≡ names_with name.now (names_of self.old)) }
         ensures numbered { OnOk result (IsNumbered self.new) }
         ensures memory { IfErr result (λ e. e ≡ OutOfMemory) }
     {
@@ -51,9 +51,17 @@ impl Numbering {
         Ok(number)
     }
 
+    /// The number of a name. None exactly where it is not one of the names.
+    pub fn find(&self, name: &str) -> Option<u32>
+        requires { IsNumbered self.now }
+        ensures { result ≡ number_from 0 name.now (names_of self.now) }
+    {
+        self.numbers.get(name).copied()
+    }
+
     /// The names in order.
     pub fn into_names(self) -> Vec<Name>
-        ensures { result.items ≡ self.names.items }
+        ensures { result.items ≡ names_of self }
     {
         self.names
     }

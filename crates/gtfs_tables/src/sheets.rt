@@ -131,8 +131,8 @@ fn check_row(fields: &ByteRecord, row: u64, width: usize) -> Result<(), TableErr
     Ok(())
 }
 
-// An error over bytes in memory is want of memory.
-fn next_record(reader: &mut Reader<&[u8]>, fields: &mut ByteRecord) -> Result<bool, TableError>
+/// Whether there is a next record, which is read into `fields`. An error over bytes in memory is want of memory.
+pub fn next_record(reader: &mut Reader<&[u8]>, fields: &mut ByteRecord) -> Result<bool, TableError>
     requires { Rests reader.old }
     ensures rests { OnOk result (Rests reader.new) }
     ensures steps { IfOk result (λ found. Steps reader.old reader.new found (fields_of fields.new)) }
@@ -144,8 +144,8 @@ fn next_record(reader: &mut Reader<&[u8]>, fields: &mut ByteRecord) -> Result<bo
     Ok(found)
 }
 
-// A reader of all the text's records.
-fn make_reader(alloc: Global, text: &[u8]) -> Reader<&[u8]>
+/// A reader of all the text's records.
+pub fn make_reader(alloc: Global, text: &[u8]) -> Reader<&[u8]>
     ensures rests { Rests result }
     ensures all { (all : List (List (List ℕ))) → AreRecordsOf text.now all → Remains result all }
 {

@@ -1,0 +1,21 @@
+-- Whether a second record follows the first.
+use Rattle.std.proofs.Common.{◌≡◌, ◌∙◌, ◌∷◌, ℕ, List, Bool, true, false, Result, Ok, Err, ap}
+use Rattle.std.specs.Prelude.{IfOk, IfErr}
+use Rattle.csv.specs.declared.reader.Reader.{Reader}
+use Rattle.gtfs_tables.specs.declared.faults.TableError.{TableError}
+use Rattle.gtfs_tables.specs.declared.faults.TableError.TheVariants as errors
+use Rattle.gtfs_tables.specs.Checks.{Gives}
+use Rattle.gtfs_tables.specs.Frequencies.{has_rows}
+use Rattle.gtfs_tables.specs.Texts.{Text, Remains, Steps}
+
+-- what was read behind the header says whether there is a row
+pub second_record : (found : Result Bool TableError) (old new : Reader Text) (header fields : List (List ℕ)) (all rest : List (List (List ℕ)))
+    → all ≡ header ∷ rest → Remains old rest → IfOk found (λ b. Steps old new b fields) → IfErr found (λ e. e ≡ errors.OutOfMemory)
+    → Gives (λ (b : Bool). b) found (Ok (has_rows all))
+second_record (Ok true) old new header fields all rest split remains steps memory =
+    let more = steps rest remains in
+    ap (λ (rs : List (List (List ℕ))). Ok (has_rows rs)) (split ∙ ap (λ (rs : List (List (List ℕ))). header ∷ rs) more.1)
+second_record (Ok false) old new header fields all rest split remains steps memory =
+    ap (λ (rs : List (List (List ℕ))). Ok (has_rows rs)) (split ∙ ap (λ (rs : List (List (List ℕ))). header ∷ rs) (steps rest remains))
+second_record (Err errors.OutOfMemory) old new header fields all rest split remains steps memory = tt
+second_record (Err (errors.Bad f)) old new header fields all rest split remains steps memory = absurd (cc memory)

@@ -1,0 +1,17 @@
+use Rattle.std.proofs.Common.{◌≡◌, ℕ, List}
+use Rattle.gtfs_tables.specs.Checks.{rows_from}
+use Rattle.gtfs_tables.specs.Sheets.{IsUnder}
+use Rattle.gtfs_tables.specs.Texts.{Rests, Remains}
+use Rattle.gtfs_tables.proofs.builders.add_rows.Given as goal
+
+abbrev pub invariant-loop-row : goal.invariant-loop-row
+invariant-loop-row g l = record {
+  rests : Rests l.sheet.reader;
+  sound : g.T.TableBuilder.IsSound l.table;
+  given : g.T.TableBuilder.given l.table ≡ g.T.TableBuilder.given l.initial.table;
+  width : l.sheet.width ≡ l.initial.sheet.width;
+  places : l.sheet.places ≡ l.initial.sheet.places;
+  so_far : (header : List (List ℕ)) (all : List (List (List ℕ))) → IsUnder header g.T.TableBuilder.columns l.initial.sheet → Remains l.initial.sheet.reader all
+      → (rest : List (List (List ℕ))) × Remains l.sheet.reader rest
+      × (rows_from (g.T.TableBuilder.step (g.T.TableBuilder.given l.initial.table)) header 2 (g.T.TableBuilder.made l.initial.table) all ≡ rows_from (g.T.TableBuilder.step (g.T.TableBuilder.given l.initial.table)) header l.row (g.T.TableBuilder.made l.table) rest);
+}
