@@ -5,6 +5,7 @@ use Rattle.std.proofs.lemmas.List.{append-nil}
 use Rattle.std.proofs.lemmas.Option.{none-some}
 use Rattle.std.specs.Io.KnownBytes.{Appends, Consumes, IsAtEnd}
 use Rattle.std.specs.Prelude.{IfErr, OnOk}
+use Rattle.std.specs.Result.{IsErrAnd}
 use Rattle.delay_model.specs.declared.network.Network.{Network}
 use Rattle.delay_model.specs.declared.state.State.{State}
 use Rattle.delay_model.specs.After.{after}
@@ -24,7 +25,7 @@ use Rattle.traind.specs.Output.{replies, output}
 use Rattle.traind.specs.Standing.{Answered}
 
 -- all bytes were taken where the source is at its end
-all_taken : (left now : Option (List ℕ)) (bytes all : List ℕ) → Consumes left now all → IsAtEnd now → left ≡ Some bytes → all ≡ bytes
+pub all_taken : (left now : Option (List ℕ)) (bytes all : List ℕ) → Consumes left now all → IsAtEnd now → left ≡ Some bytes → all ≡ bytes
 all_taken None now bytes all source end is = absurd (none-some bytes is)
 all_taken (Some xs) None bytes all source end is = absurd source
 all_taken (Some xs) (Some ys) bytes all source end is =
@@ -80,3 +81,8 @@ cause_also T U read ReadFault h t = absurd t
 cause_also T U read WriteFault h t = absurd t
 cause_also T U read Memory h t = tt
 cause_also T U read TooLong h t = absurd t
+
+-- what holds of the error that was handed on
+pub handed_on : (run : Result (Unit {0}) Fault) (f : Fault) (Q : Fault → Type 0) → IsErrAnd run (λ e. e ≡ f) → Q f → IfErr run Q
+handed_on (Ok u) f Q is q = tt
+handed_on (Err e) f Q is q = subst Q (sym is) q

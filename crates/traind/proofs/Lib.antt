@@ -1,4 +1,5 @@
 pub mod Ends
+pub mod Fronts
 pub mod OneMore
 pub mod Rows
 pub mod StatusFacts

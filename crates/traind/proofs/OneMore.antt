@@ -15,6 +15,7 @@ use Rattle.delay_model.specs.Effect.{effect}
 use Rattle.delay_model.specs.Refusals.{refusal}
 use Rattle.delay_model.proofs.AfterLemmas.{accepted-append}
 use Rattle.delay_report.specs.declared.replies.BadLine.{BadLine}
+use Rattle.delay_report.specs.declared.replies.Reply.{Reply}
 use Rattle.delay_report.specs.Replies.{text_of_reply}
 use Rattle.message_reader.specs.declared.wire.Wire.{Wire}
 use Rattle.message_reader.specs.Resolved.{resolved}
@@ -25,6 +26,8 @@ use Rattle.mt_io.proofs.Gives.{consumes_none, consumes_more, open_ended}
 use Rattle.mt_io.proofs.Runs.{begins, goes_on}
 use Rattle.schedule_build.specs.Directory.{Names}
 use Rattle.timetable.specs.Running.{Running}
+use Rattle.traind.specs.Fronts.{AppendsFront, Begun}
+use Rattle.traind.proofs.Fronts.{front_after}
 use Rattle.traind.specs.Lines.{said_by, message_in, messages_of, by_names, accepted_of}
 use Rattle.traind.specs.Output.{reply_to, reply_after, replies}
 use Rattle.traind.specs.Standing.{next_by, next_by_message, next_by_refusal, standing, Answered}
@@ -205,3 +208,29 @@ few-said nw names st (Err b) = omega arith
 
 pub counts-one : (names : Names) (t next : Running) (said : Result Wire BadLine) → next ≡ next_by names t said → next.count ≤ t.count + 1
 counts-one names t next said is = omega (arith, ap (λ (r : Running). r.count) (is ∙ next-by names t said), few-said t.network names t.state said)
+
+-- the reply to one line more, by the lines before it
+pub reply_is : (names : Names) (first now : Running) (lines : List Line) (x : Line) (number : ℕ) (reply : Reply) → now ≡ standing first.network names first.state lines → number ≡ length lines + 1
+    → reply ≡ reply_to now.network names now.state now.count number (said_by x) → text_of_reply names reply ≡ text_of_reply names (reply_after first.network names first.state lines x)
+reply_is names first now lines x number reply stood is_number is =
+    let after_these = standing first.network names first.state lines in
+    ap (text_of_reply names) is ∙ ap (λ (t : Running). text_of_reply names (reply_to t.network names t.state t.count number (said_by x))) stood
+    ∙ ap (λ (n : ℕ). text_of_reply names (reply_to after_these.network names after_these.state after_these.count n (said_by x))) is_number
+
+-- a call that answers one line, of whose reply a front is written
+pub one_line_begun : (names : Names) (first now : Running) (old new : Reader) (left left_old left_new written written_old written_new : Option (List ℕ)) (bytes : List ℕ) (lines : List Line) (x : Line)
+    → Answered names first now old left left_old written written_old bytes lines → (old.ended ≡ true → left_new ≡ left_old) → GivesNext old new left_old left_new (x ∷ [])
+    → AppendsFront written_old written_new (text_of_reply names (reply_after first.network names first.state lines x))
+    → (all : List ℕ) × (ls : List Line) × Begun names first new left left_new written written_new all ls
+one_line_begun names first now old new left left_old left_new written written_old written_new bytes lines x a same gives f =
+    let more = gives.0 in (
+      bytes ++ more,
+      lines ++ x ∷ [],
+      record {
+        source = consumes_more left left_old left_new bytes more a.source gives.1.source;
+        lines_so_far = goes_on bytes more lines (x ∷ []) old new left_old left_new a.lines_so_far gives.1;
+        end = at_end old new left_old left_new more (x ∷ []) gives.1 a.end same;
+        output = subst (AppendsFront written written_new) (sym (replies-more first.network names first.state [] lines x))
+            (front_after written written_old written_new (replies first.network names first.state [] lines) (text_of_reply names (reply_after first.network names first.state lines x)) a.output f);
+      },
+    )

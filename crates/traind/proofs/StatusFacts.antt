@@ -78,3 +78,8 @@ no_more (Some xs) (Some ys) all bytes is taken = omega (arith, ap length (some-s
 -- an input of fewer bytes than may be taken is not too long
 pub not_long : (budget : ℕ) (left now : Option (List ℕ)) (all : List ℕ) → left ≡ Some all → length all < budget → TookAll budget left now → ⊥
 not_long budget left now all is short took = let l = no_more left now all took.0 is took.1 in absurd (omega (arith, l, short, took.2))
+
+-- what holds of a run however it ended
+pub however : (run : Result (Unit {0}) Fault) (P : Type 0) → OnOk run P → IfErr run (λ f. P) → P
+however (Ok u) P p q = p
+however (Err f) P p q = q

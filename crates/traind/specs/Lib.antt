@@ -1,6 +1,7 @@
 pub mod Asking
 pub mod Causes
 pub mod Feeds
+pub mod Fronts
 pub mod Lines
 pub mod Output
 pub mod Runs

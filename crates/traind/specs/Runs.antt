@@ -6,6 +6,7 @@ use Rattle.delay_model.specs.declared.state.State.{State}
 use Rattle.mt_io.specs.Lines.{lines_of}
 use Rattle.schedule_build.specs.Directory.{Names}
 use Rattle.traind.specs.Feeds.{network, Told, Holds, Refusal}
+use Rattle.traind.specs.Fronts.{AppendsFront}
 use Rattle.traind.specs.Output.{output, replies}
 use Rattle.traind.specs.Words.{Asked, asked_of}
 
@@ -40,6 +41,12 @@ abbrev pub WritesReplies : List (List ℕ) → Option Told → Option (List ℕ)
 WritesReplies words tables left left_now written written_now =
     (st : State) (names : Names) → Loads words tables st names
     → (bytes : List ℕ) × Consumes left left_now bytes × Appends written written_now (replies network names st [] (lines_of false bytes))
+
+-- what was written is a front of the output for all lines of the input, however the run ended
+abbrev pub WritesFront : List (List ℕ) → Option Told → Option (List ℕ) → Option (List ℕ) → Option (List ℕ) → Type 0
+WritesFront words tables left written written_now =
+    (st : State) (names : Names) (bytes : List ℕ) → Loads words tables st names → left ≡ Some bytes
+    → AppendsFront written written_now (output network names st (lines_of true bytes))
 
 -- the feed holds a timetable, and the input has fewer bytes than may be taken
 pub record CanEnd (words : List (List ℕ)) (tables : Option Told) (left : Option (List ℕ)) (budget : ℕ) : Type 0 where

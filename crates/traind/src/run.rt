@@ -10,8 +10,9 @@ ghost use Rattle.schedule_build.specs.Directory.{Names};
 ghost use Rattle.traind.specs.Asking.{asked_view};
 ghost use Rattle.traind.specs.Causes.{HasCause, WhereLinesStop, TookAll};
 ghost use Rattle.traind.specs.Feeds.{network, Told, Holds, Refusal};
+ghost use Rattle.traind.specs.Fronts.{AppendsFront};
 ghost use Rattle.traind.specs.Output.{output, replies};
-ghost use Rattle.traind.specs.Runs.{IsRefused, HoldsNone, WritesAll, WritesReplies, CanEnd};
+ghost use Rattle.traind.specs.Runs.{IsRefused, HoldsNone, WritesAll, WritesReplies, WritesFront, CanEnd};
 ghost use Rattle.traind.specs.Statuses.{error_line};
 ghost use Rattle.traind.specs.Words.{asked_of};
 
@@ -42,6 +43,8 @@ fn run_lines<S: Source, K: Sink>(
     ensures ended { OnOk result (IsAtEnd (S.left input.new)) }
     ensures stopped { IfErr result (WhereLinesStop ((bytes : List ℕ) × Consumes (S.left input.old) (S.left input.new) bytes
         × Appends (K.written out.old) (K.written out.new) (replies timetable.old.network directory.now timetable.old.state [] (lines_of false bytes)))) }
+    ensures front { IfErr result (λ f. (bytes : List ℕ) → S.left input.old ≡ Some bytes
+        → AppendsFront (K.written out.old) (K.written out.new) (output timetable.old.network directory.now timetable.old.state (lines_of true bytes))) }
     ensures fault { IfErr result (HasCause ⊥ (Rose (S.faults input.old) (S.faults input.new)) (Rose (K.faults out.old) (K.faults out.new))
         (TookAll budget (S.left input.old) (S.left input.new))) }
 {
@@ -68,6 +71,9 @@ fn times<F: Feed, S: Source, K: Sink>(
     ensures stopped { IfErr result (WhereLinesStop ((told : Told) (st : AState) (names : Names) → F.tables feed.old ≡ Some told
         → Holds told (asked_view asked.now) st names → (bytes : List ℕ) × Consumes (S.left input.old) (S.left input.new) bytes
         × Appends (K.written out.old) (K.written out.new) (replies network names st [] (lines_of false bytes)))) }
+    ensures front { IfErr result (λ f. (told : Told) (st : AState) (names : Names) (bytes : List ℕ) → F.tables feed.old ≡ Some told
+        → Holds told (asked_view asked.now) st names → S.left input.old ≡ Some bytes
+        → AppendsFront (K.written out.old) (K.written out.new) (output network names st (lines_of true bytes))) }
     ensures fault { IfErr result (HasCause
         ((input.new ≡ input.old) × (out.new ≡ out.old)
         × ((told : Told) (st : AState) (names : Names) → F.tables feed.old ≡ Some told → Holds told (asked_view asked.now) st names → ⊥)
@@ -112,6 +118,7 @@ pub fn run_times<F: Feed, S: Source, K: Sink, E: Sink>(
     ensures too_long { result ≡ Status.TooLong → TookAll budget (S.left input.old) (S.left input.new) }
     ensures stopped { (result ≡ Status.ReadFault) ⊎ (result ≡ Status.TooLong)
         → WritesReplies (map string_bytes words.now) (F.tables feed.old) (S.left input.old) (S.left input.new) (K.written out.old) (K.written out.new) }
+    ensures front { WritesFront (map string_bytes words.now) (F.tables feed.old) (S.left input.old) (K.written out.old) (K.written out.new) }
     ensures complete { CanEnd (map string_bytes words.now) (F.tables feed.old) (S.left input.old) budget
         → ¬ (Rose (F.faults feed.old) (F.faults feed.new)) → ¬ (Rose (S.faults input.old) (S.faults input.new)) → ¬ (Rose (K.faults out.old) (K.faults out.new))
         → (result ≡ Status.Ok) ⊎ (result ≡ Status.Memory) }
@@ -161,6 +168,7 @@ pub fn traind_within<
     ensures too_long { result ≡ Status.TooLong → TookAll budget (S.left input.old) (S.left input.new) }
     ensures stopped { (result ≡ Status.ReadFault) ⊎ (result ≡ Status.TooLong)
         → WritesReplies (map string_bytes words.now) (F.tables feed.old) (S.left input.old) (S.left input.new) (K.written out.old) (K.written out.new) }
+    ensures front { WritesFront (map string_bytes words.now) (F.tables feed.old) (S.left input.old) (K.written out.old) (K.written out.new) }
     ensures complete { CanEnd (map string_bytes words.now) (F.tables feed.old) (S.left input.old) budget
         → ¬ (Rose (F.faults feed.old) (F.faults feed.new)) → ¬ (Rose (S.faults input.old) (S.faults input.new)) → ¬ (Rose (K.faults out.old) (K.faults out.new))
         → (result ≡ Status.Ok) ⊎ (result ≡ Status.Memory) }
@@ -196,6 +204,7 @@ pub fn traind<R: Threads + Wait + Sync, F: Feed, S: Source, K: Sink, E: Sink, G:
     ensures too_long { result ≡ Status.TooLong → TookAll 1099511627776 (S.left input.old) (S.left input.new) }
     ensures stopped { (result ≡ Status.ReadFault) ⊎ (result ≡ Status.TooLong)
         → WritesReplies (map string_bytes words.now) (F.tables feed.old) (S.left input.old) (S.left input.new) (K.written out.old) (K.written out.new) }
+    ensures front { WritesFront (map string_bytes words.now) (F.tables feed.old) (S.left input.old) (K.written out.old) (K.written out.new) }
     ensures complete { CanEnd (map string_bytes words.now) (F.tables feed.old) (S.left input.old) 1099511627776
         → ¬ (Rose (F.faults feed.old) (F.faults feed.new)) → ¬ (Rose (S.faults input.old) (S.faults input.new)) → ¬ (Rose (K.faults out.old) (K.faults out.new))
         → (result ≡ Status.Ok) ⊎ (result ≡ Status.Memory) }

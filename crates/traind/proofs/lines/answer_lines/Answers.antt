@@ -13,7 +13,10 @@ use Rattle.timetable.specs.Running.{Running}
 use Rattle.traind.specs.Lines.{said_by}
 use Rattle.traind.specs.Output.{reply_to}
 use Rattle.traind.specs.Standing.{Answered, next_by}
-use Rattle.traind.proofs.OneMore.{nothing_answered, none_more, one_line_more, counts-one}
+use Rattle.traind.specs.Fronts.{AppendsFront, Begun}
+use Rattle.traind.proofs.Ends.{each_fault}
+use Rattle.traind.proofs.Fronts.{front_none, begun_by}
+use Rattle.traind.proofs.OneMore.{nothing_answered, none_more, one_line_more, one_line_begun, reply_is, counts-one}
 use Rattle.traind.proofs.lines.answer_lines.Goals as goal
 use Rattle.traind.proofs.lines.answer_lines.Goals.{in-Line+in_ok-reply-in-Line, in-LongLine}
 
@@ -113,3 +116,68 @@ loop-number-preserved g c =
       read = omega (arith, inv.read, c.next.ensures.later);
       write = omega (arith, inv.write, c.write_reply.ensures.later);
     })
+
+pub returns-in-ReadFault-clause-begun : goal.returns-in-ReadFault-clause-begun
+returns-in-ReadFault-clause-begun g c =
+    let a = c.loop-number.invariant.answered in
+    let old = c.loop-number.reader in
+    let now = c.next.follows.lender-at-none in
+    let l1 = g.S.Source.left c.loop-number.input in
+    let l2 = g.S.Source.left c.next.new.source in
+    let gives = c.next.follows.holds-at-none in
+    let got = none_more c.args.directory.now c.args.timetable.now c.loop-number.timetable old now (g.S.Source.left c.args.input.now) l1 l2 (g.K.Sink.written c.args.out.now) (g.K.Sink.written c.loop-number.out) a.0 a.1 a.2
+    (λ is. ap g.S.Source.left (c.next.ensures.ended is)) (subst (λ (n : Next). GivesNext old now l1 l2 (next_lines n)) c.in-ReadFault.is gives.0) in
+    (got.0, a.1, begun_by c.args.directory.now c.args.timetable.now c.loop-number.timetable now (g.S.Source.left c.args.input.now) l2 (g.K.Sink.written c.args.out.now) (g.K.Sink.written c.loop-number.out) got.0 a.1 got.1)
+
+pub returns-in-Budget-clause-begun : goal.returns-in-Budget-clause-begun
+returns-in-Budget-clause-begun g c =
+    let a = c.loop-number.invariant.answered in
+    let old = c.loop-number.reader in
+    let now = c.next.follows.lender-at-none in
+    let l1 = g.S.Source.left c.loop-number.input in
+    let l2 = g.S.Source.left c.next.new.source in
+    let gives = c.next.follows.holds-at-none in
+    let got = none_more c.args.directory.now c.args.timetable.now c.loop-number.timetable old now (g.S.Source.left c.args.input.now) l1 l2 (g.K.Sink.written c.args.out.now) (g.K.Sink.written c.loop-number.out) a.0 a.1 a.2
+    (λ is. ap g.S.Source.left (c.next.ensures.ended is)) (subst (λ (n : Next). GivesNext old now l1 l2 (next_lines n)) c.in-Budget.is gives.0) in
+    (got.0, a.1, begun_by c.args.directory.now c.args.timetable.now c.loop-number.timetable now (g.S.Source.left c.args.input.now) l2 (g.K.Sink.written c.args.out.now) (g.K.Sink.written c.loop-number.out) got.0 a.1 got.1)
+
+pub returns-in_err-reply-in-Line-clause-begun : goal.returns-in_err-reply-in-Line-clause-begun
+returns-in_err-reply-in-Line-clause-begun g c =
+    let a = c.loop-number.invariant.answered in
+    let names = c.args.directory.now in
+    let old = c.loop-number.reader in
+    let now : Reader = c.next.follows.lender-at-none in
+    let l0 = g.S.Source.left c.args.input.now in
+    let l1 = g.S.Source.left c.loop-number.input in
+    let l2 = g.S.Source.left c.next.new.source in
+    let o0 = g.K.Sink.written c.args.out.now in
+    let o1 = g.K.Sink.written c.loop-number.out in
+    each_fault c.from_residual.result
+    (λ f. (bytes : List ℕ) × (lines : List Line) × Begun names c.args.timetable.now now l0 l2 o0 o1 bytes lines)
+    (λ f. one_line_begun names c.args.timetable.now c.loop-number.timetable old now l0 l1 l2 o0 o1 o1 a.0 a.1 (short c.in-Line.line.now) a.2
+    (λ is. ap g.S.Source.left (c.next.ensures.ended is)) (subst (λ (n : Next). GivesNext old now l1 l2 (next_lines n)) c.in-Line.is c.next.follows.holds-at-none.0)
+    (front_none o1 _))
+
+pub returns-in_err-write_reply-clause-begun : goal.returns-in_err-write_reply-clause-begun
+returns-in_err-write_reply-clause-begun g c =
+    let a = c.loop-number.invariant.answered in
+    let names = c.args.directory.now in
+    let first = c.args.timetable.now in
+    let before : Running = c.loop-number.timetable in
+    let old = c.loop-number.reader in
+    let now : Reader = c.next.follows.lender-at-none in
+    let l0 = g.S.Source.left c.args.input.now in
+    let l1 = g.S.Source.left c.loop-number.input in
+    let l2 = g.S.Source.left c.next.new.source in
+    let o0 = g.K.Sink.written c.args.out.now in
+    let o1 = g.K.Sink.written c.loop-number.out in
+    let o2 = g.K.Sink.written c.write_reply.new.out in
+    let same : c.match-next.reader ≡ now = elim c.match-next.branch [ in-Line+in_ok-reply-in-Line w ↦ w.reader-is | in-LongLine w ↦ w.reader-is ] in
+    let P : Type 0 = (bytes : List ℕ) × (lines : List Line) × Begun names first now l0 l2 o0 o2 bytes lines in
+    let one : (x : Line) → GivesNext old now l1 l2 (x ∷ []) → c.match-next.reply ≡ reply_to before.network names before.state before.count c.loop-number.number (said_by x) → P = λ x next says.
+    one_line_begun names first before old now l0 l1 l2 o0 o1 o2 a.0 a.1 x a.2 (λ ended. ap g.S.Source.left (c.next.ensures.ended ended)) next
+    (subst (AppendsFront o1 o2) (reply_is names first before a.1 x c.loop-number.number c.match-next.reply a.2.timetable a.3 says) c.in_err-write_reply.ensures.front) in
+    rw same (each_fault c.from_residual-in_err-write_reply.result (λ f. P) (λ f. elim c.match-next.branch [
+      | in-Line+in_ok-reply-in-Line w ↦ one (short w.in-Line.line.now) (subst (λ (n : Next). GivesNext old now l1 l2 (next_lines n)) w.in-Line.is c.next.follows.holds-at-none.0) (w.reply-is ∙ w.in_ok-reply-in-Line.ensures.reply)
+      | in-LongLine w ↦ one long (subst (λ (n : Next). GivesNext old now l1 l2 (next_lines n)) w.in-LongLine.is c.next.follows.holds-at-none.0) w.reply-is
+    ]))

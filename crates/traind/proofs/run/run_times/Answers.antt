@@ -10,9 +10,15 @@ use Rattle.traind.specs.declared.words.Asked.{Asked as Held}
 use Rattle.traind.specs.Asking.{asked_view}
 use Rattle.traind.specs.Causes.{HasCause, WhereLinesStop}
 use Rattle.traind.specs.Feeds.{Holds, Refusal}
+use Rattle.mt_io.specs.Lines.{lines_of}
+use Rattle.traind.specs.Feeds.{network}
+use Rattle.traind.specs.Fronts.{AppendsFront}
+use Rattle.traind.specs.Output.{output}
+use Rattle.traind.proofs.Fronts.{front_all}
+use Rattle.std.proofs.Common.{true}
 use Rattle.traind.specs.Words.{Asked, asked_of}
 use Rattle.traind.proofs.Ends.{on_ok_also}
-use Rattle.traind.proofs.StatusFacts.{fault_in, on_ok, on_fault, well_or_memory, refused_or, not_long}
+use Rattle.traind.proofs.StatusFacts.{fault_in, on_ok, on_fault, however, well_or_memory, refused_or, not_long}
 use Rattle.traind.proofs.run.run_times.Goals as goal
 use Rattle.traind.proofs.run.run_times.Goals.{in-None, in-Some}
 
@@ -106,4 +112,18 @@ returns-clause-refused_untouched g c = λ to_be. elim c.match-read_words.branch 
       let a = same_asked (map string_bytes c.args.words.now) c.read_words.result w.in-Some.asked to_be.asked c.read_words.ensures.value w.in-Some.is to_be.asked_is in
       let same = w.times.ensures.untouched to_be.told to_be.told_is (subst (λ (b : Asked). Refusal to_be.told b) a to_be.why) in
       (w.input-is ∙ same.0, w.out-is ∙ same.1)
+]
+
+pub returns-clause-front : goal.returns-clause-front
+returns-clause-front g c = λ st names bytes loads left. elim c.match-read_words.branch [
+  | in-None w ↦ absurd (nobody (map string_bytes c.args.words.now) c.read_words.result loads.asked c.read_words.ensures.value w.in-None.is loads.asked_is)
+  | in-Some w ↦
+      let a = same_asked (map string_bytes c.args.words.now) c.read_words.result w.in-Some.asked loads.asked c.read_words.ensures.value w.in-Some.is loads.asked_is in
+      let holds = subst (λ (b : Asked). Holds loads.told b st names) a loads.holds in
+      let w0 = g.K.Sink.written c.args.out.now in
+      let w1 = g.K.Sink.written w.times.new.out in
+      let P : Type 0 = AppendsFront w0 w1 (output network names st (lines_of true bytes)) in
+      rw w.out-is (however w.times.result P
+      (on_ok_also w.times.result _ P (λ all. front_all w0 w1 _ (all loads.told st names bytes loads.told_is holds left)) w.times.ensures.ok)
+      (IfErr-weaker w.times.result _ (λ f. P) (λ f front. front loads.told st names bytes loads.told_is holds left) w.times.ensures.front))
 ]

@@ -9,7 +9,9 @@ use Rattle.timetable.specs.Running.{Running}
 use Rattle.traind.specs.Asking.{asked_view}
 use Rattle.traind.specs.Causes.{HasCause, WhereLinesStop}
 use Rattle.traind.specs.Feeds.{network, Told, Holds, Refusal}
+use Rattle.traind.specs.Fronts.{AppendsFront}
 use Rattle.traind.specs.Output.{output, replies}
+use Rattle.traind.proofs.Fronts.{front_none}
 use Rattle.traind.proofs.Ends.{nothing_yet, anywhere, each_fault, on_ok_also, where_also}
 use Rattle.traind.proofs.run.times.Goals as goal
 
@@ -66,3 +68,28 @@ returns-clause-exactly g c =
 
 pub returns-clause-untouched : goal.returns-clause-untouched
 returns-clause-untouched g c = λ told is why. absurd (c.in_ok-timetable.ensures.exactly told is why)
+
+pub returns-in_err-timetable-clause-front : goal.returns-in_err-timetable-clause-front
+returns-in_err-timetable-clause-front g c =
+    let w0 = g.K.Sink.written c.args.out.now in
+    each_fault c.from_residual.result
+    (λ f. (told : Told) (st : State) (names : Names) (bytes : List ℕ) → g.F.Feed.tables c.args.feed.now ≡ Some told → Holds told (asked_view c.args.asked.now) st names → g.S.Source.left c.args.input.now ≡ Some bytes
+    → AppendsFront w0 w0 (output network names st (lines_of true bytes)))
+    (λ f told st names bytes is holds all_left. front_none w0 _)
+
+pub returns-clause-front : goal.returns-clause-front
+returns-clause-front g c =
+    let t : Running = c.in_ok-timetable.timetable in
+    let dir : Names = c.in_ok-timetable.directory in
+    let w0 = g.K.Sink.written c.args.out.now in
+    let w1 = g.K.Sink.written c.run_lines.new.out in
+    let left = g.S.Source.left c.args.input.now in
+    IfErr-weaker c.run_lines.result
+    (λ f. (bytes : List ℕ) → left ≡ Some bytes → AppendsFront w0 w1 (output t.network dir t.state (lines_of true bytes)))
+    (λ f. (told : Told) (st : State) (names : Names) (bytes : List ℕ) → g.F.Feed.tables c.args.feed.now ≡ Some told → Holds told (asked_view c.args.asked.now) st names → left ≡ Some bytes
+    → AppendsFront w0 w1 (output network names st (lines_of true bytes)))
+    (λ f front. λ told st names bytes is holds all_left.
+    let both = c.in_ok-timetable.ensures.held told st names is holds in
+    subst (λ (ns : Names). AppendsFront w0 w1 (output network ns st (lines_of true bytes))) both.1
+    (subst (λ (r : Running). AppendsFront w0 w1 (output r.network dir r.state (lines_of true bytes))) both.0 (front bytes all_left)))
+    c.run_lines.ensures.front
