@@ -1,13 +1,17 @@
 #!/usr/bin/env python3
-"""Measures the built program on made tables: loading and printing, and forecasts.
+"""Measures the built program on made feeds: loading and printing, and forecasts.
 
 Usage: bench/times.py [ROWS ..]      (10000 100000 1000000 where none are given)
 
-For each number of rows it makes a folder with a `stop_times.txt` of trains
-with ten calls each, runs `times` on it without input, and prints the seconds
-and the peak memory. Then it runs 100,000 forecasts on the smallest table, and
-prints the seconds without those of loading, and the messages per second.
-It proves nothing and tests nothing; build the program first (README.md).
+For each number of rows it makes a whole feed: `stop_times.txt` with so many
+rows, trains with ten calls each, at stations of four platforms, with a
+calendar, change times and waiting rules. It runs `times` on the feed without
+input, and prints the bytes of the tables, the seconds and the peak memory.
+1,000,000 rows are 100,000 trains and 2,000,000 events, the most that a feed
+may make on its loaded days. Then it runs 100,000 forecasts on the smallest
+feed, and prints the seconds without those of loading, and the messages per
+second. It proves nothing and tests nothing; build the program first
+(README.md).
 """
 
 import os
@@ -20,8 +24,12 @@ from pathlib import Path
 TOP = Path(__file__).resolve().parent.parent
 PROGRAM = TOP / "crates" / "traind" / "out" / "traind"
 CALLS = 10
+ROUTES = 100
+STATIONS = 1_000
+PLATFORMS = 4
 MESSAGES = 100_000
 DATE = "20260105"
+WEEK = "monday,tuesday,wednesday,thursday,friday,saturday,sunday"
 
 
 def clock(seconds):
@@ -34,15 +42,49 @@ def departure(train, call):
     return 14_400 + 40 * (train % 1_500) + 600 * call
 
 
-def make_table(path, rows):
-    """Writes a table of so many rows."""
-    with path.open("w") as table:
-        table.write("trip_id,arrival_time,departure_time,stop_id,stop_sequence\n")
-        for row in range(rows):
-            train, call = divmod(row, CALLS)
+def stop_rows():
+    """The stations, each with its platforms behind it."""
+    for station in range(STATIONS):
+        yield f"S{station},Station {station},1,"
+        for platform in range(PLATFORMS):
+            yield f"S{station}P{platform},Station {station} platform {platform},0,S{station}"
+
+
+def call_rows(trains):
+    """The calls of the trains, train by train."""
+    for train in range(trains):
+        for call in range(CALLS):
             departs = departure(train, call)
-            stop = (7 * train + 10 * call) % 1_000
-            table.write(f"G{train},{clock(departs - 60)},{clock(departs)},S{stop},{call}\n")
+            station = (7 * train + 10 * call) % STATIONS
+            stop = f"S{station}P{train % PLATFORMS}"
+            yield f"G{train},{clock(departs - 60)},{clock(departs)},{stop},{call},0,0"
+
+
+def make_feed(folder, trains):
+    """Writes the tables of a feed with so many trains; gives their bytes."""
+    tables = {
+        "stops.txt": ("stop_id,stop_name,location_type,parent_station", stop_rows()),
+        "trips.txt": ("route_id,service_id,trip_id", (f"R{train % ROUTES},DAILY,G{train}" for train in range(trains))),
+        "stop_times.txt": (
+            "trip_id,arrival_time,departure_time,stop_id,stop_sequence,pickup_type,drop_off_type",
+            call_rows(trains),
+        ),
+        "calendar.txt": (f"service_id,{WEEK},start_date,end_date", ["DAILY,1,1,1,1,1,1,1,20260101,20261231"]),
+        "calendar_dates.txt": ("service_id,date,exception_type", ["DAILY,20261225,2"]),
+        "transfers.txt": (
+            "from_stop_id,to_stop_id,transfer_type,min_transfer_time",
+            (f"S{station},S{station},2,{120 + station % 5 * 60}" for station in range(STATIONS)),
+        ),
+        "waiting_rules.txt": (
+            "feeder_route_id,connecting_route_id,stop_id,max_wait",
+            (f"R{route},R{(route + 1) % ROUTES},,300" for route in range(ROUTES)),
+        ),
+    }
+    for name, (header, rows) in tables.items():
+        with (folder / name).open("w") as table:
+            table.write(header + "\n")
+            table.writelines(row + "\n" for row in rows)
+    return sum((folder / name).stat().st_size for name in tables)
 
 
 def make_lines(path, trains):
@@ -75,14 +117,14 @@ def main():
     sizes = sorted(int(word) for word in sys.argv[1:]) or [10_000, 100_000, 1_000_000]
     loads = []
     with tempfile.TemporaryDirectory() as folder:
-        print(f"{'rows':>10} {'seconds':>9} {'MiB':>7}")
+        print(f"{'rows':>10} {'bytes':>12} {'seconds':>9} {'MiB':>7}")
         for rows in sizes:
             feed = Path(folder) / str(rows)
             feed.mkdir()
-            make_table(feed / "stop_times.txt", rows)
+            size = make_feed(feed, rows // CALLS)
             seconds, memory = run(feed, os.devnull)
             loads.append(seconds)
-            print(f"{rows:>10,} {seconds:>9.2f} {memory:>7.0f}", flush=True)
+            print(f"{rows:>10,} {size:>12,} {seconds:>9.2f} {memory:>7.0f}", flush=True)
         smallest = sizes[0]
         lines = Path(folder) / "lines"
         make_lines(lines, smallest // CALLS)

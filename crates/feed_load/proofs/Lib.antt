@@ -1,6 +1,1 @@
-pub mod ByTrip
-pub mod KeptRows
-pub mod CheckedTrips
-pub mod ReadTables
 pub mod LoadedDays
-pub mod TextRecords

@@ -1,5 +1,5 @@
--- What holds of a timetable that was loaded, and that it is the one that was to be loaded.
-use Rattle.std.proofs.Common.{rules, ◌≡◌, ℕ, ◌+◌, ◌*◌, ◌≤◌, List, [], ◌∷◌, true, false, cond, nat_lt, None, Some, Result, Ok, Err, length, map, All, refl, sym, ap, subst, arith, inl, inr, length-append}
+-- What holds of a timetable that was loaded.
+use Rattle.std.proofs.Common.{rules, ◌≡◌, ℕ, ◌+◌, ◌*◌, ◌≤◌, List, [], ◌∷◌, true, false, cond, nat_lt, None, Some, length, map, All, refl, arith, inl, inr, length-append}
 use Rattle.std.proofs.lemmas.Bool.{cases_lt}
 use Rattle.std.proofs.lemmas.List.Sums.{sum_by-cons}
 use Rattle.std.proofs.lemmas.List.Elements.{All-nil, All-cons}
@@ -11,15 +11,9 @@ use Rattle.delay_model.specs.declared.state.Call.{Call}
 use Rattle.delay_model.specs.Events.{events_at, events_of, events_from, events}
 use Rattle.edge_rules.specs.Held.{IsUnderWay}
 use Rattle.edge_rules.proofs.LoadedTrains.{loaded-under_way}
-use Rattle.gtfs_tables.specs.declared.faults.TableError.{TableError}
-use Rattle.gtfs_tables.specs.declared.faults.TableError.TheVariants as table
-use Rattle.gtfs_tables.specs.Checks.{Fails}
-use Rattle.gtfs_tables.specs.StopTimes.{Listed, stop_times_of}
 use Rattle.schedule_build.specs.declared.runs.Run.{Run}
 use Rattle.schedule_build.specs.Schedule.{run_calls, run_train, count_calls, too_many, schedule_of}
 use Rattle.schedule_build.proofs.StateLemmas.{train-length}
-use Rattle.feed_load.specs.declared.faults.LoadFault.{LoadFault}
-use Rattle.feed_load.specs.Loaded.{Timetable, table_loaded, loaded, IsFound, table_fault}
 
 -- the trains of runs
 pub runs-under_way : (calls : List CallRow) (rs : List Run) → All IsUnderWay (map (run_train calls) rs)
@@ -62,14 +56,3 @@ few-nodes calls rs o range h =
     let many = from-length calls 0 rs in
     let few = few-calls (length rs) (count_calls calls rs) h in
     omega (arith, many, few, range.spare_calls)
-
--- ---- what was found
-
-pub table-refused : (first : ℕ) (o : Opts) (e : TableError) (all : List (List (List ℕ))) → Fails e (stop_times_of all) → IsFound (Err (table_fault e)) (loaded first o all)
-unfolding loaded
-table-refused first o table.OutOfMemory all h = tt
-table-refused first o (table.Bad f) all h = ap (table_loaded first o) h
-
-pub table-read : (first : ℕ) (o : Opts) (found : Result Timetable LoadFault) (all : List (List (List ℕ))) (listed : Listed) → stop_times_of all ≡ Ok listed → IsFound found (table_loaded first o (Ok listed)) → IsFound found (loaded first o all)
-unfolding loaded
-table-read first o found all listed h f = subst (λ r. IsFound found (table_loaded first o r)) (sym h) f

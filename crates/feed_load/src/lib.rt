@@ -1,9 +1,6 @@
-//! From the bytes of a feed to the trains of the loaded service days and their names.
+//! From a feed to the trains of the loaded service days and their names.
 #![tactic(auto)]
 
-mod alone;
-pub mod faults;
 pub mod load;
 
-pub use faults::LoadFault;
-pub use load::load_stop_times;
+pub use load::load_feed;

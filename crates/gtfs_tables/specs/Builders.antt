@@ -1,17 +1,39 @@
--- Rows of calendar.txt, calendar_dates.txt, transfers.txt and waiting_rules.txt in memory.
-use Rattle.std.specs.Prelude.{◌≡◌, ℕ}
+-- Rows of the tables in memory.
+use Rattle.std.specs.Prelude.{◌≡◌, ℕ, List}
 use Rattle.std.specs.BTreeSet.{contains}
 use Rattle.std.specs.Ordering.{nat_cmp}
 use Rattle.gtfs_tables.specs.declared.calendar.CalendarTable.{CalendarTable}
 use Rattle.gtfs_tables.specs.declared.calendar_dates.DateTable.{DateTable}
+use Rattle.gtfs_tables.specs.declared.calls.CallTable.{CallTable}
+use Rattle.gtfs_tables.specs.declared.stops.StopLine.{StopLine}
+use Rattle.gtfs_tables.specs.declared.stops.StopTable.{StopTable}
 use Rattle.gtfs_tables.specs.declared.transfers.TransferTable.{TransferTable}
 use Rattle.gtfs_tables.specs.declared.waiting_rules.RuleTable.{RuleTable}
 use Rattle.gtfs_tables.specs.Calendar.{Calendar, has_service}
 use Rattle.gtfs_tables.specs.CalendarDates.{Dates, has_date}
+use Rattle.gtfs_tables.specs.Ids.{AreIds}
 use Rattle.gtfs_tables.specs.Numberings.{IsNumbered, names_of}
-use Rattle.gtfs_tables.specs.StopTimes.{key_cmp}
+use Rattle.gtfs_tables.specs.Stops.{line_ids}
+use Rattle.gtfs_tables.specs.StopTimes.{Calls, Named, key_cmp}
 use Rattle.gtfs_tables.specs.Transfers.{Transfers}
-use Rattle.gtfs_tables.specs.WaitingRules.{Places, Rules}
+use Rattle.gtfs_tables.specs.Trips.{trip_ids}
+use Rattle.gtfs_tables.specs.WaitingRules.{Rules}
+
+-- what the rows of stops.txt made
+abbrev pub lines_view : StopTable → List StopLine
+lines_view t = t.lines.items
+
+-- stops are found by their ids
+abbrev pub IsStopTable : StopTable → Type 0
+IsStopTable t = AreIds t.ids (line_ids t.lines.items)
+
+-- what the rows of stop_times.txt made
+abbrev pub calls_view : CallTable → Calls
+calls_view t = record { rows = t.rows.items; by_key = t.by_key.entries }
+
+-- what the rows of stop_times.txt may name
+abbrev pub named_of : CallTable → Named
+named_of t = record { trips = trip_ids t.trips.now.rows; stops = t.stops.now }
 
 -- what the rows of calendar.txt made
 abbrev pub calendar_view : CalendarTable → Calendar
@@ -35,19 +57,6 @@ pub record IsKeyedDates (t : DateTable) : Type 0 where
 abbrev pub transfers_view : TransferTable → Transfers
 transfers_view t = record { rows = t.rows.items; count = t.count }
 
--- stops are found by their ids
-pub record IsOverStops (t : TransferTable) : Type 0 where
-  pub stops : IsNumbered t.stops.now
-
 -- what the rows of waiting_rules.txt made
 abbrev pub rules_view : RuleTable → Rules
 rules_view t = record { routes = names_of t.routes; rows = t.rows.items }
-
--- the rows of stops.txt
-abbrev pub places_view : RuleTable → Places
-places_view t = record { ids = names_of t.stops.now; kinds = t.kinds.now }
-
--- routes are found by number, and stops by their ids
-pub record IsNumberedRules (t : RuleTable) : Type 0 where
-  pub routes : IsNumbered t.routes
-  pub stops : IsNumbered t.stops.now

@@ -7,7 +7,6 @@ pub mod Sheets
 pub mod Numbers
 pub mod Numberings
 pub mod StopTimes
-pub mod Tables
 pub mod Calendar
 pub mod CalendarDates
 pub mod Transfers
@@ -15,7 +14,9 @@ pub mod WaitingRules
 pub mod Builders
 pub mod Ids
 pub mod Frequencies
-pub mod Limits
+pub mod Records
+pub mod Feeds
+pub mod Refusals
 pub mod Stops
 pub mod Trips
 pub mod TripTables

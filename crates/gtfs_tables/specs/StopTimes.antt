@@ -1,51 +1,59 @@
--- What the rows of `stop_times.txt` mean where the table stands alone, or the first fault in them.
-use Rattle.std.specs.Prelude.{ℕ, ◌==◌, ◌&&◌, ◌||◌, not, List, [], ◌∷◌, ◌++◌, Bool, nat_le, if◌then◌else◌, Result, Ok, Err, is_none, is_some, unwrap_or}
+-- What the rows of `stop_times.txt` mean, or the first fault in them (GTFS Schedule, stop_times.txt).
+use Rattle.std.specs.Prelude.{ℕ, ◌==◌, ◌&&◌, ◌||◌, not, List, [], ◌∷◌, ◌++◌, Bool, false, nat_le, if◌then◌else◌, Some, None, Result, Ok, Err, is_none, is_some, unwrap_or, slice_get, option_and_then}
 use Rattle.std.specs.declared.option.Option.{Option}
+use Rattle.std.specs.Option.{option_map_or}
 use Rattle.std.specs.declared.cmp.Ordering.{Ordering}
 use Rattle.std.specs.Ordering.{nat_cmp, ordering_then}
 use Rattle.std.specs.BTreeMap.{insert_entry, is_at}
 use Rattle.std.specs.Map.{lookup}
 use Rattle.mt_base.specs.declared.tables.CallRow.{CallRow}
+use Rattle.mt_base.specs.declared.tables.StopRow.{StopRow}
 use Rattle.gtfs_tables.specs.declared.columns.Column.{Column}
-use Rattle.gtfs_tables.specs.declared.columns.Column.TheVariants.{TripId, ArrivalTime, DepartureTime, StopId, StopSequence}
-use Rattle.gtfs_tables.specs.declared.faults.Cause.TheVariants.{BadTime, BadNumber, DuplicateKey, TooFewCalls, UntimedEnd, BackwardsTimes}
+use Rattle.gtfs_tables.specs.declared.columns.Column.TheVariants.{TripId, ArrivalTime, DepartureTime, StopId, StopSequence, PickupType, DropOffType}
+use Rattle.gtfs_tables.specs.declared.faults.Cause.TheVariants.{BadTime, BadNumber, UnknownReference, DuplicateKey, TooFewCalls, UntimedEnd, BackwardsTimes}
 use Rattle.gtfs_tables.specs.declared.faults.Fault.{Fault}
 use Rattle.gtfs_tables.specs.declared.calls.CallTimes.{CallTimes}
 use Rattle.gtfs_tables.specs.Checks.{Step, fault, need, check, table_from, ◌>>=◌}
 use Rattle.gtfs_tables.specs.Fields.{time_of, number_of, number_or_zero}
-use Rattle.gtfs_tables.specs.Numbers.{number_in, names_with}
+use Rattle.gtfs_tables.specs.Numbers.{number_from}
+use Rattle.gtfs_tables.specs.Stops.{stop_ids}
 
 -- the columns that the table needs, in the order of their checks
 abbrev pub needed_columns : List Column
 needed_columns = TripId ∷ ArrivalTime ∷ DepartureTime ∷ StopId ∷ StopSequence ∷ []
 
--- the columns that it may have: none is read
+-- the columns that it may have, in the order of their checks
 abbrev pub other_columns : List Column
-other_columns = []
+other_columns = PickupType ∷ DropOffType ∷ []
 
--- the fields of a row
-pub record Call : Type 0 where
-  pub trip : List ℕ
-  pub stop : List ℕ
-  pub seq : ℕ
-  pub arr : Option ℕ
-  pub dep : Option ℕ
-  pub board : Bool
-  pub alight : Bool
+-- what a row may name: the trips by the ids of trips.txt, and the rows of stops.txt
+pub record Named : Type 0 where
+  pub trips : List (List ℕ)
+  pub stops : List StopRow
+
+-- the location of a number is a stop or platform: its location_type is 0
+abbrev pub is_stop : List StopRow → ℕ → Bool
+is_stop stops n = option_map_or (λ (row : StopRow). row.kind == 0) (slice_get stops n) false
+
+-- the number of the stop or platform with an id
+abbrev pub stop_named : List StopRow → List ℕ → Option ℕ
+stop_named stops id = option_and_then (λ n. if is_stop stops n then Some n else None) (number_from 0 id (stop_ids stops))
 
 -- a pickup or drop-off of type 1 is forbidden, and every other one is regular
 abbrev pub is_regular : ℕ → Bool
 is_regular kind = not (kind == 1)
 
--- the fields of a row from their texts, or the first fault in them
-unfoldable pub call_of : ℕ → List ℕ → List ℕ → List ℕ → List ℕ → List ℕ → List ℕ → List ℕ → Result Call Fault
-call_of row trip arr dep stop seq pickup drop_off = do
+-- a row from its texts, or the first fault in them
+unfoldable pub call_of : Named → ℕ → List ℕ → List ℕ → List ℕ → List ℕ → List ℕ → List ℕ → List ℕ → Result CallRow Fault
+call_of named row trip arr dep stop seq pickup drop_off = do
+  t ← need (fault row UnknownReference) (number_from 0 trip named.trips)
   a ← need (fault row BadTime) (time_of arr)
   d ← need (fault row BadTime) (time_of dep)
+  p ← need (fault row UnknownReference) (stop_named named.stops stop)
   s ← need (fault row BadNumber) (number_of seq)
-  p ← need (fault row BadNumber) (number_or_zero pickup)
+  u ← need (fault row BadNumber) (number_or_zero pickup)
   o ← need (fault row BadNumber) (number_or_zero drop_off)
-  Ok (record { trip = trip; stop = stop; seq = s; arr = a; dep = d; board = is_regular p; alight = is_regular o })
+  Ok (record { trip = t; stop = p; seq = s; arr = a; dep = d; board = is_regular u; alight = is_regular o })
 
 -- the number of a trip, and a stop_sequence
 abbrev pub Key : Type 0
@@ -55,35 +63,28 @@ Key = ℕ × ℕ
 abbrev pub key_cmp : Key → Key → Ordering
 key_cmp a b = ordering_then (nat_cmp a.0 b.0) (nat_cmp a.1 b.1)
 
--- what the rows so far made: the names of trips and stops in the order in which they first appear, the rows, and the
--- times of the calls in the order of their keys
+-- what the rows so far made: the rows, and the times of the calls in the order of their keys
 pub record Calls : Type 0 where
-  pub trips : List (List ℕ)
-  pub stops : List (List ℕ)
   pub rows : List CallRow
   pub by_key : List (Key × CallTimes)
 
 -- before the first row
 abbrev pub no_calls : Calls
-no_calls = record { trips = []; stops = []; rows = []; by_key = [] }
+no_calls = record { rows = []; by_key = [] }
 
 -- the calls with one row more, whose key no earlier row has
-unfoldable pub with_call : ℕ → Call → Calls → Result Calls Fault
+unfoldable pub with_call : ℕ → CallRow → Calls → Result Calls Fault
 with_call row call s =
-    let trip = number_in call.trip s.trips in
-    let stop = number_in call.stop s.stops in
-    check (fault row DuplicateKey) (is_none (lookup (is_at (key_cmp (trip, call.seq))) s.by_key))
+    check (fault row DuplicateKey) (is_none (lookup (is_at (key_cmp (call.trip, call.seq))) s.by_key))
     >>= λ _. Ok (record {
-      trips = names_with call.trip s.trips;
-      stops = names_with call.stop s.stops;
-      rows = s.rows ++ record { trip = trip; stop = stop; seq = call.seq; arr = call.arr; dep = call.dep; board = call.board; alight = call.alight } ∷ [];
-      by_key = insert_entry key_cmp s.by_key (trip, call.seq) (record { row = row; arr = call.arr; dep = call.dep });
+      rows = s.rows ++ call ∷ [];
+      by_key = insert_entry key_cmp s.by_key (call.trip, call.seq) (record { row = row; arr = call.arr; dep = call.dep });
     })
 
--- what a row makes of the calls so far: where the table stands alone, its `pickup_type` and `drop_off_type` are not read
-abbrev pub call_step : Step Calls
-call_step row field s =
-    call_of row (field TripId) (field ArrivalTime) (field DepartureTime) (field StopId) (field StopSequence) [] []
+-- what a row makes of the calls so far, by what it may name
+abbrev pub call_step : Named → Step Calls
+call_step named row field s =
+    call_of named row (field TripId) (field ArrivalTime) (field DepartureTime) (field StopId) (field StopSequence) (field PickupType) (field DropOffType)
     >>= λ call. with_call row call s
 
 -- the call has a time
@@ -125,15 +126,9 @@ check_trips trip passed (entry ∷ rest) =
     if entry.0.0 == trip then check_trips trip (passed ++ entry.1 ∷ []) rest
     else (check_trip passed >>= λ _. check_trips entry.0.0 (entry.1 ∷ []) rest)
 
--- what the table makes: the names of trips and stops by number, and the rows in order
-pub record Listed : Type 0 where
-  pub trips : List (List ℕ)
-  pub stops : List (List ℕ)
-  pub rows : List CallRow
-
--- the table, by all its records: its rows one after the other, and then its trips by number
-unfoldable pub stop_times_of : List (List (List ℕ)) → Result Listed Fault
-stop_times_of all = do
-  calls ← table_from needed_columns call_step no_calls all
+-- the table, by what it may name and all its records: its rows one after the other, and then its trips in the order of trips.txt
+unfoldable pub stop_times_of : Named → List (List (List ℕ)) → Result (List CallRow) Fault
+stop_times_of named all = do
+  calls ← table_from needed_columns (call_step named) no_calls all
   _ ← check_trips 0 [] calls.by_key
-  Ok (record { trips = calls.trips; stops = calls.stops; rows = calls.rows })
+  Ok calls.rows

@@ -12,10 +12,6 @@ use Rattle.gtfs_tables.specs.Numbers.{number_from, number_in, names_with}
 abbrev pub trip_columns : List Column
 trip_columns = RouteId ∷ ServiceId ∷ TripId ∷ []
 
--- the columns that it may have: none is read
-abbrev pub other_trip_columns : List Column
-other_trip_columns = []
-
 -- the trips in the order of the rows, and the names of their routes and services in the order in which they first appear
 pub record ListedTrips : Type 0 where
   pub rows : List TripRow

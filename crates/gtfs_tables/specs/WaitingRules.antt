@@ -3,6 +3,7 @@ use Rattle.std.specs.Prelude.{ℕ, List, [], ◌∷◌, ◌++◌, Bool, false, n
 use Rattle.std.specs.Option.{option_map_or}
 use Rattle.std.specs.declared.option.Option.{Option}
 use Rattle.mt_base.specs.declared.tables.RuleRow.{RuleRow}
+use Rattle.mt_base.specs.declared.tables.StopRow.{StopRow}
 use Rattle.gtfs_tables.specs.declared.columns.Column.{Column}
 use Rattle.gtfs_tables.specs.declared.columns.Column.TheVariants.{FeederRouteId, ConnectingRouteId, StopId, MaxWait}
 use Rattle.gtfs_tables.specs.declared.faults.Cause.TheVariants.{BadNumber, UnknownReference}
@@ -10,25 +11,21 @@ use Rattle.gtfs_tables.specs.declared.faults.Fault.{Fault}
 use Rattle.gtfs_tables.specs.Checks.{Step, fault, need, table_from, ◌>>=◌}
 use Rattle.gtfs_tables.specs.Fields.{number_of, below}
 use Rattle.gtfs_tables.specs.Numbers.{number_from, number_in, names_with}
+use Rattle.gtfs_tables.specs.Stops.{stop_ids}
 
 -- the columns that the table needs, in the order of their checks
 abbrev pub rule_columns : List Column
 rule_columns = FeederRouteId ∷ ConnectingRouteId ∷ StopId ∷ MaxWait ∷ []
 
--- the rows of stops.txt by number: their ids, and their location_types
-pub record Places : Type 0 where
-  pub ids : List (List ℕ)
-  pub kinds : List ℕ
-
--- a row of stops.txt is of a stop, a platform or a station: its location_type is 0 or 1
-abbrev pub is_stop_or_station : List ℕ → ℕ → Bool
-is_stop_or_station kinds number = option_map_or (λ kind. nat_le kind 1) (slice_get kinds number) false
+-- the location of a number is a stop, a platform or a station: its location_type is 0 or 1
+abbrev pub is_stop_or_station : List StopRow → ℕ → Bool
+is_stop_or_station stops n = option_map_or (λ (row : StopRow). nat_le row.kind 1) (slice_get stops n) false
 
 -- where a train waits: at any place where the field is empty, else at the stop, platform or station with this id
-abbrev pub waiting_place : Places → List ℕ → Option (Option ℕ)
-waiting_place places [] = Some None
-waiting_place places (byte ∷ bytes) =
-    option_and_then (λ n. if is_stop_or_station places.kinds n then Some (Some n) else None) (number_from 0 (byte ∷ bytes) places.ids)
+abbrev pub waiting_place : List StopRow → List ℕ → Option (Option ℕ)
+waiting_place stops [] = Some None
+waiting_place stops (byte ∷ bytes) =
+    option_and_then (λ n. if is_stop_or_station stops n then Some (Some n) else None) (number_from 0 (byte ∷ bytes) (stop_ids stops))
 
 -- a longest wait: a number of one to nine digits that is at most 86,400 seconds
 abbrev pub wait_of : List ℕ → Option ℕ
@@ -59,12 +56,12 @@ with_rule feeder connecting place longest s =
     }
 
 -- what a row makes of the rules so far, by the rows of stops.txt
-abbrev pub rule_step : Places → Step Rules
-rule_step places row field s = do
-  place ← need (fault row UnknownReference) (waiting_place places (field StopId))
+abbrev pub rule_step : List StopRow → Step Rules
+rule_step stops row field s = do
+  place ← need (fault row UnknownReference) (waiting_place stops (field StopId))
   longest ← need (fault row BadNumber) (wait_of (field MaxWait))
   Ok (with_rule (field FeederRouteId) (field ConnectingRouteId) place longest s)
 
 -- the table, by the rows of stops.txt and all its records: routes are numbered on from the names that earlier tables gave
-abbrev pub waiting_rules_of : Places → List (List ℕ) → List (List (List ℕ)) → Result Rules Fault
-waiting_rules_of places names all = table_from rule_columns (rule_step places) (record { routes = names; rows = [] }) all
+abbrev pub waiting_rules_of : List StopRow → List (List ℕ) → List (List (List ℕ)) → Result Rules Fault
+waiting_rules_of stops names all = table_from rule_columns (rule_step stops) (record { routes = names; rows = [] }) all

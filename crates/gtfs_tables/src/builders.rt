@@ -14,7 +14,7 @@ use crate::sheets::Sheet;
 use std::alloc::Global;
 
 /// What the rows of a table make, one row after the other. After an error it is of no more use.
-pub trait TableBuilder {
+pub(crate) trait TableBuilder {
     /// What the rows so far made.
     ghost Made: { Type 0 };
 
@@ -70,7 +70,7 @@ fn add_rows<T: TableBuilder>(
 }
 
 /// Adds all rows of a text with the columns that it needs and those that it may have, or answers its first fault.
-pub fn build_table<T: TableBuilder>(
+pub(crate) fn build_table<T: TableBuilder>(
     alloc: Global,
     text: &[u8],
     needed: &[Column],

@@ -115,7 +115,7 @@ impl TableBuilder for CalendarTable {
 /// text: BadNumber for a weekday that is not `0` or `1`, BadDate for a start or end that is no civil date, DuplicateKey
 /// for a second row of a service. Services that no earlier table names are numbered on; after an error `services` is of
 /// no more use.
-pub fn read_calendar(
+pub(crate) fn read_calendar(
     alloc: Global,
     text: &[u8],
     services: &mut Numbering,

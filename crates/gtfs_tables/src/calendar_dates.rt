@@ -93,7 +93,7 @@ impl TableBuilder for DateTable {
 /// records of the text: BadDate for no civil date, BadNumber for an exception_type that is not `1` or `2`, DuplicateKey
 /// for a second row of a service and a date. Services that no earlier table names are numbered on; after an error
 /// `services` is of no more use.
-pub fn read_calendar_dates(
+pub(crate) fn read_calendar_dates(
     alloc: Global,
     text: &[u8],
     services: &mut Numbering,

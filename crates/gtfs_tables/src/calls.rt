@@ -1,18 +1,20 @@
 //! The rows of `stop_times.txt`.
 
-ghost use Rattle.std.specs.Prelude.{◌≡◌, ◌<◌, [], length, true, OnOk};
+ghost use Rattle.std.specs.Prelude.{⊤, ◌≡◌, ◌++◌, length, true};
 ghost use Rattle.csv.specs.Records.{fields_of};
-ghost use Rattle.gtfs_tables.specs.Checks.{Gives, all_utf8, fault, need};
+ghost use Rattle.gtfs_tables.specs.Builders.{calls_view, named_of};
+ghost use Rattle.gtfs_tables.specs.Checks.{Gives, all_utf8};
 ghost use Rattle.gtfs_tables.specs.Sheets.{cell};
-ghost use Rattle.gtfs_tables.specs.Tables.{call_view};
-ghost use Rattle.gtfs_tables.specs.Fields.{time_of, number_of};
-ghost use Rattle.gtfs_tables.specs.StopTimes.{call_of, with_call, no_calls};
-ghost use Rattle.gtfs_tables.specs.declared.faults.Cause.TheVariants.{BadTime, BadNumber};
+ghost use Rattle.gtfs_tables.specs.StopTimes.{Calls, Named, needed_columns, other_columns, call_of, call_step, is_stop, stop_named, with_call};
+ghost use Rattle.gtfs_tables.specs.Trips.{trip_ids};
 
+use crate::builders::TableBuilder;
+use crate::cells::need;
 use crate::faults::{Cause, Fault, TableError};
-use crate::fields::{number, time};
-use crate::numbering::Numbering;
+use crate::fields::{number, number_or_zero, time};
 use crate::sheets::Sheet;
+use crate::stops::Stops;
+use crate::trips::Trips;
 use mt_base::numbers::StopNo;
 use mt_base::tables::CallRow;
 use std::alloc::Global;
@@ -20,7 +22,7 @@ use std::collections::BTreeMap;
 
 /// The times of a call, and the row that it stands in.
 #[derive(Clone, Copy, Debug, PartialEq, Eq)]
-pub struct CallTimes {
+pub(crate) struct CallTimes {
     /// The number of the row.
     pub row: u64,
     /// The arrival, in seconds from the base of the service day.
@@ -29,124 +31,115 @@ pub struct CallTimes {
     pub dep: Option<u32>,
 }
 
-/// The fields of a row.
-#[derive(Clone, Copy)]
-pub struct CallFields<'a> {
-    trip: &'a str,
-    stop: &'a str,
-    seq: u32,
-    arr: Option<u32>,
-    dep: Option<u32>,
-    board: bool,
-    alight: bool,
-}
-
-fn time_at(sheet: &Sheet<'_>, row: u64, i: usize) -> Result<Option<u32>, TableError>
-    requires { i < length sheet.now.places.items }
-    ensures { Gives (λ t. t) result (need (fault row BadTime) (time_of (cell sheet.now i))) }
-{
-    match time(sheet.field(i)) {
-        Some(time) => Ok(time),
-        None => Err(TableError::Bad(Fault {
-            row,
-            cause: Cause::BadTime,
-        })),
-    }
-}
-
-fn number_at(sheet: &Sheet<'_>, row: u64, i: usize) -> Result<u32, TableError>
-    requires { i < length sheet.now.places.items }
-    ensures { Gives (λ n. n) result (need (fault row BadNumber) (number_of (cell sheet.now i))) }
-{
-    match number(sheet.field(i)) {
-        Some(number) => Ok(number),
-        None => Err(TableError::Bad(Fault {
-            row,
-            cause: Cause::BadNumber,
-        })),
-    }
-}
-
-/// The fields of the current row, or the first fault in them. Passengers may board and alight.
-#[tactic(auto, unfolding(crate::specs::StopTimes::call_of))]
-pub fn read_call<'s>(sheet: &'s Sheet<'_>, row: u64) -> Result<CallFields<'s>, TableError>
-    requires columns { length sheet.now.places.items ≡ 5 }
-    requires text { all_utf8 (fields_of sheet.now.current) ≡ true }
-    ensures { Gives call_view result (call_of row (cell sheet.now 0) (cell sheet.now 1) (cell sheet.now 2)
-        (cell sheet.now 3) (cell sheet.now 4) [] []) }
-{
-    let arr = time_at(sheet, row, 1)?;
-    let dep = time_at(sheet, row, 2)?;
-    let seq = number_at(sheet, row, 4)?;
-    Ok(CallFields {
-        trip: sheet.text(0),
-        stop: sheet.text(3),
-        seq,
-        arr,
-        dep,
-        board: true,
-        alight: true,
-    })
-}
-
 /// What the rows so far made. After an error it is of no more use.
 #[derive(Drop)]
-pub struct CallTable {
-    /// The names of the trips.
-    pub trips: Numbering,
-    /// The names of the stops.
-    pub stops: Numbering,
+pub(crate) struct CallTable<'a> {
+    /// The trips that a row may name.
+    pub trips: &'a Trips,
+    /// The locations, of which a row may name a stop or platform.
+    pub stops: &'a Stops,
     /// The rows in order.
     pub rows: Vec<CallRow>,
     /// The times of the calls, by the number of the trip and the stop_sequence.
     pub by_key: BTreeMap<(u32, u32), CallTimes>,
 }
 
-impl CallTable {
-    ghost use Rattle.gtfs_tables.specs.Tables.{calls_view, IsNumberedTable, Adds};
-
-    /// The table before its first row.
-    pub fn new(alloc: Global) -> CallTable
-        ensures calls { calls_view result ≡ no_calls }
-        ensures numbered { IsNumberedTable result }
-    {
-        CallTable {
-            trips: Numbering::new(alloc),
-            stops: Numbering::new(alloc),
-            rows: Vec::new(alloc),
-            by_key: BTreeMap::new(alloc),
-        }
+fn is_stop(stops: &Stops, number: StopNo) -> bool
+    ensures { result ≡ is_stop stops.now number }
+{
+    match stops.rows().get(number.get() as usize) {
+        Some(stop) => stop.kind == 0,
+        None => false,
     }
+}
 
+fn find_stop(stops: &Stops, id: &str) -> Option<StopNo>
+    ensures { result ≡ stop_named stops.now id.now }
+{
+    let number = stops.find(id)?;
+    if is_stop(stops, number) {
+        Some(number)
+    } else {
+        None
+    }
+}
+
+#[tactic(auto, unfolding(crate::specs::StopTimes::call_of))]
+fn read_call(
+    trips: &Trips,
+    stops: &Stops,
+    sheet: &Sheet<'_>,
+    row: u64,
+) -> Result<CallRow, TableError>
+    requires columns { length sheet.now.places.items ≡ 7 }
+    requires text { all_utf8 (fields_of sheet.now.current) ≡ true }
+    ensures { Gives (λ call. call) result (call_of (record { trips = trip_ids trips.now.rows; stops = stops.now }) row (cell sheet.now 0) (cell sheet.now 1)
+        (cell sheet.now 2) (cell sheet.now 3) (cell sheet.now 4) (cell sheet.now 5) (cell sheet.now 6)) }
+{
+    let trip = need(row, Cause::UnknownReference, trips.find(sheet.text(0)))?;
+    let arr = need(row, Cause::BadTime, time(sheet.field(1)))?;
+    let dep = need(row, Cause::BadTime, time(sheet.field(2)))?;
+    let stop = need(
+        row,
+        Cause::UnknownReference,
+        find_stop(stops, sheet.text(3)),
+    )?;
+    let seq = need(row, Cause::BadNumber, number(sheet.field(4)))?;
+    let pickup = need(row, Cause::BadNumber, number_or_zero(sheet.field(5)))?;
+    let drop_off = need(row, Cause::BadNumber, number_or_zero(sheet.field(6)))?;
+    Ok(CallRow {
+        trip,
+        stop,
+        seq,
+        arr,
+        dep,
+        board: pickup != 1,
+        alight: drop_off != 1,
+    })
+}
+
+impl CallTable<'_> {
     /// Adds a row, unless an earlier one has its trip and stop_sequence.
     #[tactic(auto, unfolding(crate::specs::StopTimes::with_call))]
-    pub fn add(&mut self, alloc: Global, row: u64, call: &CallFields<'_>) -> Result<(), TableError>
-        requires { IsNumberedTable self.old }
-        ensures numbered { OnOk result (IsNumberedTable self.new) }
-        ensures adds { Adds result (calls_view self.new) (with_call row (call_view call.now) (calls_view self.old)) }
+    fn add(&mut self, row: u64, call: &CallRow) -> Result<(), TableError>
+        ensures named { named_of self.new ≡ named_of self.old }
+        ensures made { Gives (λ u. calls_view self.new) result (with_call row call.now (calls_view self.old)) }
     {
-        let trip = self.trips.number(alloc, call.trip)?;
-        let stop = self.stops.number(alloc, call.stop)?;
         let times = CallTimes {
             row,
             arr: call.arr,
             dep: call.dep,
         };
-        if self.by_key.insert((trip, call.seq), times)?.is_some() {
+        if self.by_key.insert((call.trip, call.seq), times)?.is_some() {
             return Err(TableError::Bad(Fault {
                 row,
                 cause: Cause::DuplicateKey,
             }));
         }
-        self.rows.push(CallRow {
-            trip,
-            stop: StopNo::new(stop),
-            seq: call.seq,
-            arr: call.arr,
-            dep: call.dep,
-            board: call.board,
-            alight: call.alight,
-        })?;
+        self.rows.push(*call)?;
         Ok(())
+    }
+}
+
+impl TableBuilder for CallTable<'_> {
+    ghost use Rattle.gtfs_tables.specs.declared.columns.Column.{Column};
+
+    ghost Made = { Calls };
+
+    ghost made = { calls_view };
+
+    ghost Given = { Named };
+
+    ghost given = { named_of };
+
+    ghost IsSound = { λ _. ⊤ };
+
+    ghost columns = { needed_columns ++ other_columns };
+
+    ghost step = { call_step };
+
+    fn add_row(&mut self, _alloc: Global, row: u64, sheet: &Sheet<'_>) -> Result<(), TableError> {
+        let call = read_call(self.trips, self.stops, sheet, row)?;
+        self.add(row, &call)
     }
 }

@@ -5,7 +5,7 @@ ghost use Rattle.gtfs_tables.specs.Columns.{column_name};
 
 /// A column that a table needs or may have.
 #[derive(Clone, Copy, Debug, PartialEq, Eq)]
-pub enum Column {
+pub(crate) enum Column {
     /// `stop_id`.
     StopId,
 

@@ -9,7 +9,7 @@ use std::collections::BTreeMap;
 
 /// The numbers of rows by their ids. After an error it is of no more use.
 #[derive(Drop)]
-pub struct Ids {
+pub(crate) struct Ids {
     numbers: BTreeMap<String, u32>,
 }
 

@@ -2,7 +2,7 @@
 
 ghost use Rattle.std.specs.Prelude.{◌≡◌, [], IfOk, IfErr, OnOk};
 ghost use Rattle.gtfs_tables.specs.declared.faults.TableError.TheVariants.{OutOfMemory};
-ghost use Rattle.gtfs_tables.specs.Numbers.{number_from, number_in, names_with};
+ghost use Rattle.gtfs_tables.specs.Numbers.{number_in, names_with};
 
 use crate::faults::TableError;
 use mt_base::names::Name;
@@ -11,7 +11,7 @@ use std::collections::BTreeMap;
 
 /// Names by number. After an error it is of no more use.
 #[derive(Drop)]
-pub struct Numbering {
+pub(crate) struct Numbering {
     names: Vec<Name>,
     numbers: BTreeMap<String, u32>,
 }
@@ -49,14 +49,6 @@ impl Numbering {
         self.numbers.insert(key, number)?;
         self.names.push(text)?;
         Ok(number)
-    }
-
-    /// The number of a name. None exactly where it is not one of the names.
-    pub fn find(&self, name: &str) -> Option<u32>
-        requires { IsNumbered self.now }
-        ensures { result ≡ number_from 0 name.now (names_of self.now) }
-    {
-        self.numbers.get(name).copied()
     }
 
     /// The names in order.

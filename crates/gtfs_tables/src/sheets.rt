@@ -1,23 +1,23 @@
 //! A table in memory: its header, and its rows one at a time.
 
-ghost use Rattle.std.specs.Prelude.{◌≡◌, ◌++◌, ◌+◌, ◌<◌, ℕ, List, [], length, map, IfOk, IfErr, OnOk, slice_get, slice_index_or, None, true};
+ghost use Rattle.std.specs.Prelude.{◌≡◌, ◌++◌, ◌+◌, ◌<◌, ℕ, List, [], length, map, IfOk, IfErr, OnOk, slice_index_or, None, true};
 ghost use Rattle.std.specs.Str.{is_utf8};
 ghost use Rattle.csv.specs.Records.{fields_of};
 ghost use Rattle.gtfs_tables.specs.declared.faults.TableError.TheVariants.{OutOfMemory};
 ghost use Rattle.gtfs_tables.specs.Checks.{Gives, all_utf8, check_header, check_row};
 ghost use Rattle.gtfs_tables.specs.Columns.{has_columns, place_from, place_of, field_at_place};
 ghost use Rattle.gtfs_tables.specs.Texts.{AreRecordsOf, Rests, Remains, Steps};
-ghost use Rattle.gtfs_tables.specs.Sheets.{IsUnder, Opens, Advances};
+ghost use Rattle.gtfs_tables.specs.Sheets.{Opens, Advances};
 
 use crate::columns::Column;
 use crate::faults::{Cause, Fault, TableError};
 use crate::fields::trimmed;
 use csv::{ByteRecord, Reader, ReaderBuilder};
-use std::alloc::{AllocError, Global};
+use std::alloc::Global;
 
 /// A table that is read row by row, with the columns that are wanted of it.
 #[derive(Drop)]
-pub struct Sheet<'a> {
+pub(crate) struct Sheet<'a> {
     reader: Reader<&'a [u8]>,
     current: ByteRecord,
     width: usize,
@@ -132,7 +132,10 @@ fn check_row(fields: &ByteRecord, row: u64, width: usize) -> Result<(), TableErr
 }
 
 /// Whether there is a next record, which is read into `fields`. An error over bytes in memory is want of memory.
-pub fn next_record(reader: &mut Reader<&[u8]>, fields: &mut ByteRecord) -> Result<bool, TableError>
+pub(crate) fn next_record(
+    reader: &mut Reader<&[u8]>,
+    fields: &mut ByteRecord,
+) -> Result<bool, TableError>
     requires { Rests reader.old }
     ensures rests { OnOk result (Rests reader.new) }
     ensures steps { IfOk result (λ found. Steps reader.old reader.new found (fields_of fields.new)) }
@@ -145,7 +148,7 @@ pub fn next_record(reader: &mut Reader<&[u8]>, fields: &mut ByteRecord) -> Resul
 }
 
 /// A reader of all the text's records.
-pub fn make_reader(alloc: Global, text: &[u8]) -> Reader<&[u8]>
+pub(crate) fn make_reader(alloc: Global, text: &[u8]) -> Reader<&[u8]>
     ensures rests { Rests result }
     ensures all { (all : List (List (List ℕ))) → AreRecordsOf text.now all → Remains result all }
 {

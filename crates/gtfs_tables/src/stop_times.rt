@@ -1,34 +1,22 @@
 //! `stop_times.txt` read by itself.
 
-ghost use Rattle.std.specs.Prelude.{◌≡◌, ◌++◌, ℕ, List, [], length};
-ghost use Rattle.gtfs_tables.specs.Checks.{Gives, check, fault, rows_from};
+ghost use Rattle.std.specs.Prelude.{◌≡◌, ℕ, List, []};
+ghost use Rattle.gtfs_tables.specs.Checks.{Gives, check, fault};
 ghost use Rattle.gtfs_tables.specs.declared.faults.Cause.TheVariants.{UntimedEnd};
-ghost use Rattle.gtfs_tables.specs.Sheets.{IsUnder};
-ghost use Rattle.gtfs_tables.specs.StopTimes.{needed_columns, other_columns, call_step, no_calls, is_timed, arrival, departure, check_order, check_trip, check_trips, stop_times_of};
-ghost use Rattle.gtfs_tables.specs.Tables.{calls_view, stop_times_view};
-ghost use Rattle.gtfs_tables.specs.Texts.{AreRecordsOf, Rests, Remains};
+ghost use Rattle.gtfs_tables.specs.StopTimes.{is_timed, arrival, departure, check_order, check_trip, check_trips, stop_times_of};
+ghost use Rattle.gtfs_tables.specs.Texts.{AreRecordsOf};
+ghost use Rattle.gtfs_tables.specs.Trips.{trip_ids};
 
-use crate::calls::{CallTable, CallTimes, read_call};
+use crate::builders::build_table;
+use crate::calls::{CallTable, CallTimes};
 use crate::columns::Column;
 use crate::faults::{Cause, Fault, TableError};
-use crate::sheets::Sheet;
-use mt_base::names::Name;
+use crate::stops::Stops;
+use crate::trips::Trips;
 use mt_base::rows::Rows;
 use mt_base::tables::CallRow;
 use std::alloc::Global;
 use std::collections::BTreeMap;
-
-/// The calls of trips, where the table stands alone: trips and stops are any names, numbered in the order in which
-/// they first appear, and passengers may board and alight at every call.
-#[derive(Drop)]
-pub struct StopTimes {
-    /// The names of the trips, by number.
-    pub trips: Rows<Name>,
-    /// The names of the stops, by number.
-    pub stops: Rows<Name>,
-    /// The calls, in the order of the table.
-    pub calls: Rows<CallRow>,
-}
 
 fn is_timed(call: &CallTimes) -> bool
     ensures { result ≡ is_timed call.now }
@@ -115,27 +103,21 @@ fn check_trips(alloc: Global, by_key: &BTreeMap<(u32, u32), CallTimes>) -> Resul
     check_trip(&passed)
 }
 
-// The rows behind the header. No text in memory has so many rows that their numbers run out.
-fn read_calls(alloc: Global, sheet: &mut Sheet<'_>) -> Result<CallTable, TableError>
-    requires rests { Rests sheet.old.reader }
-    requires columns { length sheet.old.places.items ≡ 5 }
-    ensures { (header : List (List ℕ)) (all : List (List (List ℕ))) → IsUnder header (needed_columns ++ other_columns) sheet.old
-        → Remains sheet.old.reader all → Gives calls_view result (rows_from call_step header 2 no_calls all) }
-{
-    let mut table = CallTable::new(alloc);
-    for row in 2..u64::MAX {
-        if !sheet.advance(row)? {
-            return Ok(table);
-        }
-        let call = read_call(sheet, row)?;
-        table.add(alloc, row, &call)?;
-    }
-    Err(TableError::OutOfMemory)
-}
-
-/// The rows of the table, or its first fault, by the list of all records of the text.
-pub fn read_stop_times(alloc: Global, text: &[u8]) -> Result<StopTimes, TableError>
-    ensures { (all : List (List (List ℕ))) → AreRecordsOf text.now all → Gives stop_times_view result (stop_times_of all) }
+/// The rows of stop_times.txt (GTFS Schedule, stop_times.txt), or the first fault in it, by the list of all records of the
+/// text: UnknownReference for a trip that is not in trips.txt or a stop that is no stop or platform of stops.txt, BadTime
+/// for a time that is not empty, `H:MM:SS` or `HH:MM:SS`, BadNumber for a stop_sequence, pickup_type or drop_off_type that
+/// is no number, DuplicateKey for a second row of a trip and a stop_sequence. Then come the trips in the order of
+/// trips.txt: TooFewCalls for a trip with one row, UntimedEnd for a first or last call without a time, BackwardsTimes for
+/// a time before an earlier one.
+#[tactic(auto, unfolding(crate::specs::StopTimes::stop_times_of))]
+pub(crate) fn read_stop_times(
+    alloc: Global,
+    text: &[u8],
+    trips: &Trips,
+    stops: &Stops,
+) -> Result<Rows<CallRow>, TableError>
+    ensures { (all : List (List (List ℕ))) → AreRecordsOf text.now all
+        → Gives (λ rows. rows) result (stop_times_of (record { trips = trip_ids trips.now.rows; stops = stops.now }) all) }
 {
     let needed = [
         Column::TripId,
@@ -144,12 +126,14 @@ pub fn read_stop_times(alloc: Global, text: &[u8]) -> Result<StopTimes, TableErr
         Column::StopId,
         Column::StopSequence,
     ];
-    let mut sheet = Sheet::open(alloc, text, &needed, &[])?;
-    let table = read_calls(alloc, &mut sheet)?;
+    let others = [Column::PickupType, Column::DropOffType];
+    let mut table = CallTable {
+        trips,
+        stops,
+        rows: Vec::new(alloc),
+        by_key: BTreeMap::new(alloc),
+    };
+    build_table(alloc, text, &needed, &others, &mut table)?;
     check_trips(alloc, &table.by_key)?;
-    Ok(StopTimes {
-        trips: Rows::build(table.trips.into_names()),
-        stops: Rows::build(table.stops.into_names()),
-        calls: Rows::build(table.rows),
-    })
+    Ok(Rows::build(table.rows))
 }

@@ -1,20 +1,20 @@
 //! `stops.txt` read by itself.
 
-ghost use Rattle.std.specs.Prelude.{◌≡◌, ℕ, List, [], length, true, OnOk, IfOk};
+ghost use Rattle.std.specs.Prelude.{◌≡◌, ◌++◌, ℕ, List, [], length, true, OnOk, IfOk};
 ghost use Rattle.csv.specs.Records.{fields_of};
-ghost use Rattle.gtfs_tables.specs.Checks.{Gives, all_utf8, table_from};
-ghost use Rattle.gtfs_tables.specs.Ids.{AreIds};
-ghost use Rattle.gtfs_tables.specs.Limits.{GivesUpTo};
+ghost use Rattle.gtfs_tables.specs.Builders.{lines_view, IsStopTable};
+ghost use Rattle.gtfs_tables.specs.Checks.{Gives, all_utf8};
 ghost use Rattle.gtfs_tables.specs.Numbers.{number_from};
 ghost use Rattle.gtfs_tables.specs.Sheets.{cell};
-ghost use Rattle.gtfs_tables.specs.Stops.{stop_columns, stop_of, line_ids, with_stop, stop_added, stop_step, station_in, parent_of, with_stations, stop_ids, stops_of};
+ghost use Rattle.gtfs_tables.specs.Stops.{stop_columns, other_stop_columns, stop_of, line_ids, with_stop, stop_step, station_in, parent_of, with_stations, stop_ids, stops_of};
 ghost use Rattle.gtfs_tables.specs.Texts.{AreRecordsOf};
 
+use crate::builders::{TableBuilder, build_table};
+use crate::cells::need;
 use crate::columns::Column;
 use crate::faults::{Cause, Fault, TableError};
 use crate::fields::location_kind;
 use crate::ids::Ids;
-use crate::limits::LimitError;
 use crate::sheets::Sheet;
 use mt_base::names::Name;
 use mt_base::numbers::StopNo;
@@ -23,7 +23,7 @@ use mt_base::tables::StopRow;
 use std::alloc::Global;
 use std::marker::Model;
 
-/// A row by itself.
+// A row by itself.
 #[derive(Drop)]
 struct StopLine {
     id: Name,
@@ -31,7 +31,7 @@ struct StopLine {
     parent: Name,
 }
 
-/// What the rows so far made. After an error it is of no more use.
+// What the rows so far made. After an error it is of no more use.
 #[derive(Drop)]
 struct StopTable {
     lines: Vec<StopLine>,
@@ -43,33 +43,17 @@ fn read_stop(alloc: Global, sheet: &Sheet<'_>, row: u64) -> Result<StopLine, Tab
     requires text { all_utf8 (fields_of sheet.now.current) ≡ true }
     ensures { Gives (λ line. line) result (stop_of row (cell sheet.now 0) (cell sheet.now 1) (cell sheet.now 2)) }
 {
-    let Some(kind) = location_kind(sheet.field(1)) else {
-        return Err(TableError::Bad(Fault {
-            row,
-            cause: Cause::BadNumber,
-        }));
-    };
+    let kind = need(row, Cause::BadNumber, location_kind(sheet.field(1)))?;
     let id = Name::build(alloc, sheet.text(0))?;
     let parent = Name::build(alloc, sheet.text(2))?;
     Ok(StopLine { id, kind, parent })
 }
 
 impl StopTable {
-    /// The table before its first row.
-    fn new(alloc: Global) -> StopTable
-        ensures lines { result.lines.items ≡ [] }
-        ensures ids { AreIds result.ids [] }
-    {
-        StopTable {
-            lines: Vec::new(alloc),
-            ids: Ids::new(alloc),
-        }
-    }
-
     /// Adds a row, unless an earlier one has its `stop_id`.
     fn add(&mut self, alloc: Global, row: u64, line: StopLine) -> Result<(), TableError>
-        requires { AreIds self.old.ids (line_ids self.old.lines.items) }
-        ensures ids { OnOk result (AreIds self.new.ids (line_ids self.new.lines.items)) }
+        requires { IsStopTable self.old }
+        ensures ids { OnOk result (IsStopTable self.new) }
         ensures adds { Gives (λ _. self.new.lines.items) result (with_stop row line self.old.lines.items) }
     {
         if !self.ids.add(alloc, line.id.text(), self.lines.len())? {
@@ -82,21 +66,8 @@ impl StopTable {
         Ok(())
     }
 
-    /// Adds the current row of a table.
-    fn add_row(&mut self, alloc: Global, sheet: &Sheet<'_>, row: u64) -> Result<(), TableError>
-        requires columns { length sheet.now.places.items ≡ 3 }
-        requires text { all_utf8 (fields_of sheet.now.current) ≡ true }
-        requires ids { AreIds self.old.ids (line_ids self.old.lines.items) }
-        ensures ids { OnOk result (AreIds self.new.ids (line_ids self.new.lines.items)) }
-        ensures adds { Gives (λ _. self.new.lines.items) result
-            (stop_added row (cell sheet.now 0) (cell sheet.now 1) (cell sheet.now 2) self.old.lines.items) }
-    {
-        let line = read_stop(alloc, sheet, row)?;
-        self.add(alloc, row, line)
-    }
-
     fn station(&self, id: &str) -> Option<u32>
-        requires { AreIds self.now.ids (line_ids self.now.lines.items) }
+        requires { IsStopTable self.now }
         ensures { result ≡ station_in self.now.lines.items id.now }
     {
         let number = self.ids.find(id)?;
@@ -107,7 +78,7 @@ impl StopTable {
     }
 
     fn parent(&self, row: u64, line: &StopLine) -> Result<Option<StopNo>, TableError>
-        requires { AreIds self.now.ids (line_ids self.now.lines.items) }
+        requires { IsStopTable self.now }
         ensures { Gives (λ parent. parent) result (parent_of self.now.lines.items row line.now) }
     {
         if line.kind != 0 || line.parent.text().is_empty() {
@@ -123,27 +94,33 @@ impl StopTable {
     }
 }
 
-// The rows behind the header. No text in memory has so many rows that their numbers run out.
-fn read_lines(alloc: Global, text: &[u8]) -> Result<StopTable, TableError>
-    ensures ids { IfOk result (λ table. AreIds table.ids (line_ids table.lines.items)) }
-    ensures lines { (all : List (List (List ℕ))) → AreRecordsOf text.now all
-        → Gives (λ table. table.lines.items) result (table_from stop_columns stop_step [] all) }
-{
-    let others = [Column::LocationType, Column::ParentStation];
-    let mut sheet = Sheet::open(alloc, text, &[Column::StopId], &others)?;
-    let mut table = StopTable::new(alloc);
-    for row in 2..u64::MAX {
-        if !sheet.advance(row)? {
-            return Ok(table);
-        }
-        table.add_row(alloc, &sheet, row)?;
+impl TableBuilder for StopTable {
+    ghost use Rattle.gtfs_tables.specs.declared.columns.Column.{Column};
+    ghost use Rattle.gtfs_tables.specs.declared.stops.StopLine.{StopLine};
+
+    ghost Made = { List StopLine };
+
+    ghost made = { lines_view };
+
+    ghost Given = { Unit {0} };
+
+    ghost given = { λ _. tt };
+
+    ghost IsSound = { IsStopTable };
+
+    ghost columns = { stop_columns ++ other_stop_columns };
+
+    ghost step = { λ _. stop_step };
+
+    fn add_row(&mut self, alloc: Global, row: u64, sheet: &Sheet<'_>) -> Result<(), TableError> {
+        let line = read_stop(alloc, sheet, row)?;
+        self.add(alloc, row, line)
     }
-    Err(TableError::OutOfMemory)
 }
 
 #[tactic(auto, unfolding(crate::specs::Stops::with_stations))]
 fn with_stations(alloc: Global, table: &StopTable) -> Result<Vec<StopRow>, TableError>
-    requires { AreIds table.now.ids (line_ids table.now.lines.items) }
+    requires { IsStopTable table.now }
     ensures ids { IfOk result (λ rows. stop_ids rows.items ≡ line_ids table.now.lines.items) }
     ensures rows { Gives (λ rows. rows.items) result (with_stations table.now.lines.items 2 [] table.now.lines.items) }
 {
@@ -160,7 +137,7 @@ fn with_stations(alloc: Global, table: &StopTable) -> Result<Vec<StopRow>, Table
 
 /// The stops, stations and other locations of a feed, in the order of `stops.txt`.
 #[derive(Drop)]
-pub struct Stops {
+pub(crate) struct Stops {
     rows: Vec<StopRow>,
     ids: Ids,
 }
@@ -191,10 +168,7 @@ impl Stops {
     pub fn find(&self, id: &str) -> Option<StopNo>
         ensures { result ≡ number_from 0 id.now (stop_ids self.now) }
     {
-        match self.ids.find(id) {
-            Some(number) => Some(StopNo::new(number)),
-            None => None,
-        }
+        Some(StopNo::new(self.ids.find(id)?))
     }
 
     /// The rows of `stops.txt`, as the tables of a feed hold them.
@@ -205,27 +179,22 @@ impl Stops {
     }
 }
 
-// The table with as many rows as it has.
-fn read_unlimited(alloc: Global, text: &[u8]) -> Result<Stops, TableError>
+/// The stops of a feed (GTFS Schedule, stops.txt), or the first fault in its table, by the list of all records of the text:
+/// BadNumber for a location_type that is not empty or `0` to `4`, DuplicateKey for a second row of a stop_id, and then,
+/// over the whole table, UnknownReference for a parent_station of a stop or platform that is no station.
+#[tactic(auto, unfolding(crate::specs::Stops::stops_of))]
+pub(crate) fn read_stops(alloc: Global, text: &[u8]) -> Result<Stops, TableError>
     ensures { (all : List (List (List ℕ))) → AreRecordsOf text.now all → Gives (λ stops. stops) result (stops_of all) }
 {
-    let table = read_lines(alloc, text)?;
+    let others = [Column::LocationType, Column::ParentStation];
+    let mut table = StopTable {
+        lines: Vec::new(alloc),
+        ids: Ids::new(alloc),
+    };
+    build_table(alloc, text, &[Column::StopId], &others, &mut table)?;
     let rows = with_stations(alloc, &table)?;
     Ok(Stops {
         rows,
         ids: table.ids,
     })
-}
-
-/// The stops of a feed (GTFS Schedule, stops.txt), or its first fault, by the list of all records of the text.
-///
-/// `TooMany` comes where the table has no fault and more than 100,000 rows.
-pub fn read_stops(alloc: Global, text: &[u8]) -> Result<Stops, LimitError>
-    ensures { (all : List (List (List ℕ))) → AreRecordsOf text.now all → GivesUpTo 100000 (λ stops. stops) result (stops_of all) }
-{
-    let stops = read_unlimited(alloc, text)?;
-    if stops.rows().len() > 100_000 {
-        return Err(LimitError::TooMany);
-    }
-    Ok(stops)
 }

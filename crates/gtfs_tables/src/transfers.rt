@@ -1,11 +1,11 @@
 //! `transfers.txt` read by itself.
 
-ghost use Rattle.std.specs.Prelude.{◌≡◌, ◌++◌, List, ℕ, length, true, OnOk};
+ghost use Rattle.std.specs.Prelude.{⊤, ◌≡◌, ◌++◌, List, ℕ, length, true};
 ghost use Rattle.csv.specs.Records.{fields_of};
-ghost use Rattle.gtfs_tables.specs.Builders.{transfers_view, IsOverStops};
+ghost use Rattle.gtfs_tables.specs.Builders.{transfers_view};
 ghost use Rattle.gtfs_tables.specs.Checks.{Gives, all_utf8};
-ghost use Rattle.gtfs_tables.specs.Numberings.{IsNumbered, names_of};
 ghost use Rattle.gtfs_tables.specs.Sheets.{cell};
+ghost use Rattle.gtfs_tables.specs.Stops.{stop_ids};
 ghost use Rattle.gtfs_tables.specs.Texts.{AreRecordsOf};
 ghost use Rattle.gtfs_tables.specs.Transfers.{Transfers, needed_transfer_columns, other_transfer_columns, transfer_step, transfers_of, stop_of, number_if_any, transfer_of, is_for_all, listed, with_transfer};
 
@@ -14,8 +14,8 @@ use crate::cells::need;
 use crate::columns::Column;
 use crate::faults::{Cause, TableError};
 use crate::fields::{number, number_or_zero};
-use crate::numbering::Numbering;
 use crate::sheets::Sheet;
+use crate::stops::Stops;
 use mt_base::numbers::StopNo;
 use mt_base::rows::Rows;
 use mt_base::tables::TransferRow;
@@ -23,7 +23,7 @@ use std::alloc::Global;
 
 /// What transfers.txt gives.
 #[derive(Drop)]
-pub struct Transfers {
+pub(crate) struct Transfers {
     /// The rows between two stops for all routes and trips, in their order.
     pub rows: Rows<TransferRow>,
     /// How many rows the table has behind its header, those that are not listed among them.
@@ -33,20 +33,19 @@ pub struct Transfers {
 // What the rows so far made. After an error it is of no more use.
 #[derive(Drop)]
 struct TransferTable<'a> {
-    stops: &'a Numbering,
+    stops: &'a Stops,
     rows: Vec<TransferRow>,
     count: u64,
 }
 
-fn find_stop(stops: &Numbering, id: &str) -> Option<Option<StopNo>>
-    requires { IsNumbered stops.now }
-    ensures { result ≡ stop_of (names_of stops.now) id.now }
+fn find_stop(stops: &Stops, id: &str) -> Option<Option<StopNo>>
+    ensures { result ≡ stop_of (stop_ids stops.now) id.now }
 {
     if id.is_empty() {
         return Some(None);
     }
     match stops.find(id) {
-        Some(number) => Some(Some(StopNo::new(number))),
+        Some(stop) => Some(Some(stop)),
         None => None,
     }
 }
@@ -95,14 +94,13 @@ fn listed(
 
 #[tactic(auto, unfolding(crate::specs::Transfers::transfer_of))]
 fn read_transfer(
-    stops: &Numbering,
+    stops: &Stops,
     sheet: &Sheet<'_>,
     row: u64,
 ) -> Result<Option<TransferRow>, TableError>
-    requires numbered { IsNumbered stops.now }
     requires columns { length sheet.now.places.items ≡ 8 }
     requires text { all_utf8 (fields_of sheet.now.current) ≡ true }
-    ensures { Gives (λ t. t) result (transfer_of (names_of stops.now) row (cell sheet.now 0) (cell sheet.now 1) (cell sheet.now 2) (cell sheet.now 3)
+    ensures { Gives (λ t. t) result (transfer_of (stop_ids stops.now) row (cell sheet.now 0) (cell sheet.now 1) (cell sheet.now 2) (cell sheet.now 3)
         (is_for_all (cell sheet.now 4) (cell sheet.now 5) (cell sheet.now 6) (cell sheet.now 7))) }
 {
     let from_stop = need(
@@ -123,9 +121,7 @@ fn read_transfer(
 impl TransferTable<'_> {
     /// Counts a row, and adds the change that it lists.
     fn add(&mut self, transfer: Option<TransferRow>) -> Result<(), TableError>
-        requires { IsOverStops self.old }
-        ensures over { OnOk result (IsOverStops self.new) }
-        ensures stops { names_of self.new.stops.now ≡ names_of self.old.stops.now }
+        ensures stops { self.new.stops ≡ self.old.stops }
         ensures made { Gives (λ u. transfers_view self.new) result (Ok (with_transfer transfer (transfers_view self.old))) }
     {
         let Some(count) = self.count.checked_add(1) else {
@@ -148,9 +144,9 @@ impl TableBuilder for TransferTable<'_> {
 
     ghost Given = { List (List ℕ) };
 
-    ghost given = { λ t. names_of t.stops.now };
+    ghost given = { λ t. stop_ids t.stops.now };
 
-    ghost IsSound = { IsOverStops };
+    ghost IsSound = { λ _. ⊤ };
 
     ghost columns = { needed_transfer_columns ++ other_transfer_columns };
 
@@ -164,16 +160,15 @@ impl TableBuilder for TransferTable<'_> {
 
 /// The rows of transfers.txt (GTFS Schedule, transfers.txt), or the first fault in it, by the list of all records of the
 /// text: UnknownReference for a stop that is not in stops.txt, BadNumber for a transfer_type or min_transfer_time that is
-/// no number. `stops` are the ids of stops.txt. A row that does not give both stops, or is not for all routes and trips,
+/// no number. A row that does not give both stops, or is not for all routes and trips,
 /// is checked and counted, and not listed.
-pub fn read_transfers(
+pub(crate) fn read_transfers(
     alloc: Global,
     text: &[u8],
-    stops: &Numbering,
+    stops: &Stops,
 ) -> Result<Transfers, TableError>
-    requires { IsNumbered stops.now }
     ensures { (all : List (List (List ℕ))) → AreRecordsOf text.now all
-        → Gives (λ t. record { rows = t.rows; count = t.count }) result (transfers_of (names_of stops.now) all) }
+        → Gives (λ t. record { rows = t.rows; count = t.count }) result (transfers_of (stop_ids stops.now) all) }
 {
     let needed = [Column::FromStopId, Column::ToStopId, Column::TransferType];
     let others = [

@@ -1,14 +1,14 @@
 //! `trips.txt` read by itself.
 
-ghost use Rattle.std.specs.Prelude.{◌≡◌, ℕ, List, length, true, OnOk, IfOk};
-ghost use Rattle.csv.specs.Records.{fields_of};
-ghost use Rattle.gtfs_tables.specs.Checks.{Gives, all_utf8, table_from};
+ghost use Rattle.std.specs.Prelude.{◌≡◌, ℕ, List, OnOk};
+ghost use Rattle.gtfs_tables.specs.Checks.{Gives};
+ghost use Rattle.gtfs_tables.specs.Numberings.{IsNumbered, names_of};
 ghost use Rattle.gtfs_tables.specs.Numbers.{number_from};
-ghost use Rattle.gtfs_tables.specs.Sheets.{cell};
 ghost use Rattle.gtfs_tables.specs.Texts.{AreRecordsOf};
 ghost use Rattle.gtfs_tables.specs.TripTables.{trips_view, IsTripTable};
-ghost use Rattle.gtfs_tables.specs.Trips.{trip_columns, trip_ids, no_trips, with_trip, trip_step, trips_of};
+ghost use Rattle.gtfs_tables.specs.Trips.{ListedTrips, trip_columns, trip_ids, with_trip, trip_step, trips_of};
 
+use crate::builders::{TableBuilder, build_table};
 use crate::columns::Column;
 use crate::faults::{Cause, Fault, TableError};
 use crate::ids::Ids;
@@ -21,7 +21,7 @@ use mt_base::tables::TripRow;
 use std::alloc::Global;
 use std::marker::Model;
 
-/// What the rows so far made. After an error it is of no more use.
+// What the rows so far made. After an error it is of no more use.
 #[derive(Drop)]
 struct TripTable {
     rows: Vec<TripRow>,
@@ -31,64 +31,59 @@ struct TripTable {
 }
 
 impl TripTable {
-    /// The table before its first row.
-    fn new(alloc: Global) -> TripTable
-        ensures trips { trips_view result ≡ no_trips }
-        ensures numbered { IsTripTable result }
-    {
-        TripTable {
-            rows: Vec::new(alloc),
-            ids: Ids::new(alloc),
-            routes: Numbering::new(alloc),
-            services: Numbering::new(alloc),
-        }
-    }
-
-    /// Adds the current row of a table, unless an earlier one has its `trip_id`.
-    fn add_row(&mut self, alloc: Global, sheet: &Sheet<'_>, row: u64) -> Result<(), TableError>
-        requires columns { length sheet.now.places.items ≡ 3 }
-        requires text { all_utf8 (fields_of sheet.now.current) ≡ true }
-        requires numbered { IsTripTable self.old }
+    /// Adds a row, unless an earlier one has its `trip_id`.
+    fn add(
+        &mut self,
+        alloc: Global,
+        row: u64,
+        route: &str,
+        service: &str,
+        trip: &str,
+    ) -> Result<(), TableError>
+        requires { IsTripTable self.old }
         ensures numbered { OnOk result (IsTripTable self.new) }
-        ensures adds { Gives (λ _. trips_view self.new) result
-            (with_trip row (cell sheet.now 0) (cell sheet.now 1) (cell sheet.now 2) (trips_view self.old)) }
+        ensures made { Gives (λ _. trips_view self.new) result (with_trip row route.now service.now trip.now (trips_view self.old)) }
     {
-        let text = sheet.text(2);
-        if !self.ids.add(alloc, text, self.rows.len())? {
+        if !self.ids.add(alloc, trip, self.rows.len())? {
             return Err(TableError::Bad(Fault {
                 row,
                 cause: Cause::DuplicateKey,
             }));
         }
-        let id = Name::build(alloc, text)?;
-        let route = RouteNo::new(self.routes.number(alloc, sheet.text(0))?);
-        let service = self.services.number(alloc, sheet.text(1))?;
+        let id = Name::build(alloc, trip)?;
+        let route = RouteNo::new(self.routes.number(alloc, route)?);
+        let service = self.services.number(alloc, service)?;
         self.rows.push(TripRow { id, route, service })?;
         Ok(())
     }
 }
 
-// The rows behind the header. No text in memory has so many rows that their numbers run out.
-fn read_table(alloc: Global, text: &[u8]) -> Result<TripTable, TableError>
-    ensures numbered { IfOk result IsTripTable }
-    ensures trips { (all : List (List (List ℕ))) → AreRecordsOf text.now all
-        → Gives trips_view result (table_from trip_columns trip_step no_trips all) }
-{
-    let needed = [Column::RouteId, Column::ServiceId, Column::TripId];
-    let mut sheet = Sheet::open(alloc, text, &needed, &[])?;
-    let mut table = TripTable::new(alloc);
-    for row in 2..u64::MAX {
-        if !sheet.advance(row)? {
-            return Ok(table);
-        }
-        table.add_row(alloc, &sheet, row)?;
+impl TableBuilder for TripTable {
+    ghost use Rattle.gtfs_tables.specs.declared.columns.Column.{Column};
+
+    ghost Made = { ListedTrips };
+
+    ghost made = { trips_view };
+
+    ghost Given = { Unit {0} };
+
+    ghost given = { λ _. tt };
+
+    ghost IsSound = { IsTripTable };
+
+    ghost columns = { trip_columns };
+
+    ghost step = { λ _. trip_step };
+
+    fn add_row(&mut self, alloc: Global, row: u64, sheet: &Sheet<'_>) -> Result<(), TableError> {
+        let (route, service, trip) = (sheet.text(0), sheet.text(1), sheet.text(2));
+        self.add(alloc, row, route, service, trip)
     }
-    Err(TableError::OutOfMemory)
 }
 
 /// The trips of a feed with their routes and services, which are numbered in the order in which they first appear.
 #[derive(Drop)]
-pub struct Trips {
+pub(crate) struct Trips {
     table: TripTable,
 }
 
@@ -104,50 +99,53 @@ impl Model for Trips {
     ghost invariant = { λ trips. IsTripTable trips.table };
 }
 
-/// The tables that `trips.txt` gives.
+/// What `trips.txt` gives.
 #[derive(Drop)]
-pub struct TripRows {
+pub(crate) struct TripParts {
     /// The trips, in the order of the table.
     pub trips: Rows<TripRow>,
     /// The names of the routes, by number.
-    pub routes: Rows<Name>,
+    pub routes: Numbering,
     /// The names of the services, by number.
-    pub services: Rows<Name>,
+    pub services: Numbering,
 }
 
 impl Trips {
-    /// The rows of `trips.txt`. The row numbered `i` from 0 is the trip with the number `i`.
-    pub fn rows(&self) -> &[TripRow]
-        ensures { result.now ≡ self.now.rows }
-    {
-        self.table.rows.as_slice()
-    }
-
-    /// The number of the trip with this `trip_id`. None exactly where there is none.
+    /// The number of the trip with this `trip_id`: its row in `trips.txt`, from 0. None exactly where there is none.
     pub fn find(&self, id: &str) -> Option<u32>
         ensures { result ≡ number_from 0 id.now (trip_ids self.now.rows) }
     {
         self.table.ids.find(id)
     }
 
-    /// The trips and the names of routes and services, as the tables of a feed hold them.
-    pub fn into_rows(self) -> TripRows
+    /// The trips, and the names of routes and services, which later tables number on.
+    pub fn into_parts(self) -> TripParts
         ensures trips { result.trips ≡ self.rows }
-        ensures routes { result.routes ≡ self.routes }
-        ensures services { result.services ≡ self.services }
+        ensures routes { names_of result.routes ≡ self.routes }
+        ensures services { names_of result.services ≡ self.services }
+        ensures routes_numbered { IsNumbered result.routes }
+        ensures services_numbered { IsNumbered result.services }
     {
-        TripRows {
+        TripParts {
             trips: Rows::build(self.table.rows),
-            routes: Rows::build(self.table.routes.into_names()),
-            services: Rows::build(self.table.services.into_names()),
+            routes: self.table.routes,
+            services: self.table.services,
         }
     }
 }
 
-/// The trips of a feed (GTFS Schedule, trips.txt), or its first fault, by the list of all records of the text.
-pub fn read_trips(alloc: Global, text: &[u8]) -> Result<Trips, TableError>
+/// The trips of a feed (GTFS Schedule, trips.txt), or the first fault in its table, by the list of all records of the text:
+/// DuplicateKey for a second row of a trip_id.
+pub(crate) fn read_trips(alloc: Global, text: &[u8]) -> Result<Trips, TableError>
     ensures { (all : List (List (List ℕ))) → AreRecordsOf text.now all → Gives (λ trips. trips) result (trips_of all) }
 {
-    let table = read_table(alloc, text)?;
+    let needed = [Column::RouteId, Column::ServiceId, Column::TripId];
+    let mut table = TripTable {
+        rows: Vec::new(alloc),
+        ids: Ids::new(alloc),
+        routes: Numbering::new(alloc),
+        services: Numbering::new(alloc),
+    };
+    build_table(alloc, text, &needed, &[], &mut table)?;
     Ok(Trips { table })
 }

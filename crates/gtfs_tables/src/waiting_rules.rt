@@ -1,11 +1,11 @@
 //! `waiting_rules.txt`, a table of this project's own, read by itself.
 
 ghost use Rattle.std.specs.Prelude.{◌≡◌, List, ℕ, [], OnOk, IfOk, IfErr};
-ghost use Rattle.gtfs_tables.specs.Builders.{places_view, rules_view, IsNumberedRules};
+ghost use Rattle.gtfs_tables.specs.Builders.{rules_view};
 ghost use Rattle.gtfs_tables.specs.Checks.{Gives};
 ghost use Rattle.gtfs_tables.specs.Numberings.{IsNumbered, names_of};
 ghost use Rattle.gtfs_tables.specs.Texts.{AreRecordsOf};
-ghost use Rattle.gtfs_tables.specs.WaitingRules.{Places, Rules, rule_columns, rule_step, waiting_rules_of, is_stop_or_station, waiting_place, wait_of, route_in, routes_with, with_rule};
+ghost use Rattle.gtfs_tables.specs.WaitingRules.{Rules, rule_columns, rule_step, waiting_rules_of, is_stop_or_station, waiting_place, wait_of, route_in, routes_with, with_rule};
 ghost use Rattle.gtfs_tables.specs.declared.faults.TableError.TheVariants.{OutOfMemory};
 
 use crate::builders::{TableBuilder, build_table};
@@ -15,6 +15,7 @@ use crate::faults::{Cause, TableError};
 use crate::fields::number;
 use crate::numbering::Numbering;
 use crate::sheets::Sheet;
+use crate::stops::Stops;
 use mt_base::numbers::{RouteNo, StopNo};
 use mt_base::rows::Rows;
 use mt_base::tables::RuleRow;
@@ -25,30 +26,28 @@ use std::mem;
 #[derive(Drop)]
 struct RuleTable<'a> {
     routes: Numbering,
-    stops: &'a Numbering,
-    kinds: &'a [u32],
+    stops: &'a Stops,
     rows: Vec<RuleRow>,
 }
 
-fn is_stop_or_station(kinds: &[u32], number: u32) -> bool
-    ensures { result ≡ is_stop_or_station kinds.now number }
+fn is_stop_or_station(stops: &Stops, number: StopNo) -> bool
+    ensures { result ≡ is_stop_or_station stops.now number }
 {
-    match kinds.get(number as usize) {
-        Some(kind) => *kind <= 1,
+    match stops.rows().get(number.get() as usize) {
+        Some(stop) => stop.kind <= 1,
         None => false,
     }
 }
 
-fn waiting_place(stops: &Numbering, kinds: &[u32], id: &str) -> Option<Option<StopNo>>
-    requires { IsNumbered stops.now }
-    ensures { result ≡ waiting_place (record { ids = names_of stops.now; kinds = kinds.now }) id.now }
+fn waiting_place(stops: &Stops, id: &str) -> Option<Option<StopNo>>
+    ensures { result ≡ waiting_place stops.now id.now }
 {
     if id.is_empty() {
         return Some(None);
     }
     let number = stops.find(id)?;
-    if is_stop_or_station(kinds, number) {
-        Some(Some(StopNo::new(number)))
+    if is_stop_or_station(stops, number) {
+        Some(Some(number))
     } else {
         None
     }
@@ -87,9 +86,9 @@ impl RuleTable<'_> {
         place: Option<StopNo>,
         longest: u32,
     ) -> Result<(), TableError>
-        requires { IsNumberedRules self.old }
-        ensures numbered { OnOk result (IsNumberedRules self.new) }
-        ensures places { places_view self.new ≡ places_view self.old }
+        requires { IsNumbered self.old.routes }
+        ensures numbered { OnOk result (IsNumbered self.new.routes) }
+        ensures stops { self.new.stops ≡ self.old.stops }
         ensures made { Gives (λ u. rules_view self.new) result (Ok (with_rule feeder.now connecting.now place longest (rules_view self.old))) }
     {
         let feeder = number_route(&mut self.routes, alloc, feeder)?;
@@ -106,23 +105,24 @@ impl RuleTable<'_> {
 
 impl TableBuilder for RuleTable<'_> {
     ghost use Rattle.gtfs_tables.specs.declared.columns.Column.{Column};
+    ghost use Rattle.mt_base.specs.declared.tables.StopRow.{StopRow};
 
     ghost Made = { Rules };
 
     ghost made = { rules_view };
 
-    ghost Given = { Places };
+    ghost Given = { List StopRow };
 
-    ghost given = { places_view };
+    ghost given = { λ t. t.stops.now };
 
-    ghost IsSound = { IsNumberedRules };
+    ghost IsSound = { λ t. IsNumbered t.routes };
 
     ghost columns = { rule_columns };
 
     ghost step = { rule_step };
 
     fn add_row(&mut self, alloc: Global, row: u64, sheet: &Sheet<'_>) -> Result<(), TableError> {
-        let place = waiting_place(self.stops, self.kinds, sheet.text(2));
+        let place = waiting_place(self.stops, sheet.text(2));
         let place = need(row, Cause::UnknownReference, place)?;
         let longest = need(row, Cause::BadNumber, longest_wait(sheet.field(3)))?;
         self.add(alloc, sheet.text(0), sheet.text(1), place, longest)
@@ -131,21 +131,17 @@ impl TableBuilder for RuleTable<'_> {
 
 /// The rows of waiting_rules.txt, or the first fault in it, by the list of all records of the text: UnknownReference for
 /// a place that is no stop, platform or station of stops.txt, BadNumber for a longest wait that is no number or is above
-/// 86,400 seconds. `stops` are the ids of stops.txt, and `kinds` the location_types of its rows, by number. Routes that no
-/// earlier table names are numbered on; after an error `routes` is of no more use.
-pub fn read_waiting_rules(
+/// 86,400 seconds. Routes that no earlier table names are numbered on; after an error `routes` is of no more use.
+pub(crate) fn read_waiting_rules(
     alloc: Global,
     text: &[u8],
-    stops: &Numbering,
-    kinds: &[u32],
+    stops: &Stops,
     routes: &mut Numbering,
 ) -> Result<Rows<RuleRow>, TableError>
-    requires stops { IsNumbered stops.now }
-    requires routes { IsNumbered routes.old }
+    requires { IsNumbered routes.old }
     ensures numbered { OnOk result (IsNumbered routes.new) }
     ensures rows { (all : List (List (List ℕ))) → AreRecordsOf text.now all
-        → Gives (λ rows. record { routes = names_of routes.new; rows = rows }) result
-        (waiting_rules_of (record { ids = names_of stops.now; kinds = kinds.now }) (names_of routes.old) all) }
+        → Gives (λ rows. record { routes = names_of routes.new; rows = rows }) result (waiting_rules_of stops.now (names_of routes.old) all) }
 {
     let needed = [
         Column::FeederRouteId,
@@ -156,7 +152,6 @@ pub fn read_waiting_rules(
     let mut table = RuleTable {
         routes: mem::replace(routes, Numbering::new(alloc)),
         stops,
-        kinds,
         rows: Vec::new(alloc),
     };
     build_table(alloc, text, &needed, &[], &mut table)?;

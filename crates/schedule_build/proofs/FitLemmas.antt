@@ -5,10 +5,11 @@ use Rattle.std.proofs.lemmas.List.Elements.{All-nil, All-cons, All-append, All-h
 use Rattle.mt_base.specs.declared.tables.CallRow.{CallRow}
 use Rattle.mt_base.specs.declared.tables.TripRow.{TripRow}
 use Rattle.mt_base.specs.declared.tables.Tables.{Tables}
+use Rattle.feed_tables.specs.Calls.{rows_of, has_calls}
+use Rattle.feed_tables.specs.Lawful.{IsLawful}
+use Rattle.feed_tables.proofs.TimeLemmas.{two-timed}
 use Rattle.schedule_build.specs.declared.runs.Run.{Run}
 use Rattle.schedule_build.specs.Dates.{date_after}
-use Rattle.schedule_build.specs.Groups.{rows_of, has_calls}
-use Rattle.schedule_build.specs.Lawful.{IsLawful}
 use Rattle.schedule_build.specs.Runs.{day_runs, runs_on, runs_from, all_runs}
 use Rattle.schedule_build.specs.Schedule.{IsFit}
 use Rattle.schedule_build.specs.Services.{is_active}
@@ -16,10 +17,10 @@ use Rattle.schedule_build.proofs.CallLemmas.{trip_calls-length, falls-not}
 
 run-fit : (t : Tables) (day trip route : ℕ) → IsLawful t → day < 31 → has_calls t.calls trip ≡ true → IsFit t.calls (record { day = day; trip = trip; route = route })
 run-fit t day trip route h l has =
-    let two = h.two_calls trip has in
-    let a = trip_calls-length day (rows_of t.calls trip) in
-    let b = trip_calls-length 0 (rows_of t.calls trip) in
-    record { day = l; two_calls = omega (arith, two, a, b); in_order = falls-not day (rows_of t.calls trip) (h.in_order trip) }
+    let rows = rows_of t.calls trip in
+    let two = two-timed t trip h has in
+    let many = trip_calls-length day rows in
+    record { day = l; two_calls = omega (arith, two, many); in_order = falls-not day rows (h.tripwise trip).in_order }
 
 both : (a b : Bool) → (a && b) ≡ true → b ≡ true
 both true b h = h

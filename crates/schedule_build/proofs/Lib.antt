@@ -2,9 +2,8 @@ pub mod CallLemmas
 pub mod DateLemmas
 pub mod FitLemmas
 pub mod GoodTrains
-pub mod GroupLemmas
+pub mod LawLemmas
 pub mod NumberLemmas
-pub mod OrderLemmas
 pub mod RunLemmas
 pub mod SmallTimes
 pub mod StateLemmas

@@ -4,12 +4,11 @@ use Rattle.std.proofs.lemmas.List.Elements.{All-head, All-tail}
 use Rattle.mt_base.specs.declared.tables.CallRow.{CallRow}
 use Rattle.mt_base.specs.declared.tables.TripRow.{TripRow}
 use Rattle.mt_base.specs.declared.tables.Tables.{Tables}
+use Rattle.feed_tables.specs.Calls.{rows_of, has_calls}
 use Rattle.schedule_build.specs.declared.faults.ExpandFault.{ExpandFault}
 use Rattle.schedule_build.specs.declared.faults.ExpandFault.TheVariants.{TooMany, OutOfMemory}
 use Rattle.schedule_build.specs.Faults.{IsTrainsFault}
-use Rattle.schedule_build.specs.Groups.{rows_of, has_calls}
-use Rattle.schedule_build.specs.Lawful.{HasService}
-use Rattle.schedule_build.specs.Runs.{day_runs, runs_on, runs_from}
+use Rattle.schedule_build.specs.Runs.{HasService, day_runs, runs_on, runs_from}
 
 -- two ways to say which services are active, and two lists with the same rows of each trip, give the same runs
 pub day_runs-same : (n : ℕ) (active active' : ℕ → Bool) (calls calls' : List CallRow) (day trip : ℕ) (rows : List TripRow) → ((s : ℕ) → s < n → active s ≡ active' s) → ((k : ℕ) → rows_of calls k ≡ rows_of calls' k) → All (HasService n) rows → day_runs active calls day trip rows ≡ day_runs active' calls' day trip rows

@@ -1,16 +1,15 @@
 -- Scheduled times of the first 31 days are small.
-use Rattle.std.proofs.Common.{ℕ, ◌^◌, ◌<◌, ◌≤◌, List, [], ◌∷◌, Option, None, Some, nat_eq, nat_le, All, arith}
+use Rattle.std.proofs.Common.{ℕ, ◌^◌, ◌<◌, ◌≤◌, List, [], ◌∷◌, Option, None, Some, nat_eq, All, arith}
 use Rattle.std.specs.List.{cons_option}
 use Rattle.std.specs.Option.{IfSome, option_map}
-use Rattle.std.proofs.lemmas.Bool.{cond_both}
 use Rattle.std.proofs.lemmas.List.Elements.{All-nil, All-cons, All-head, All-tail, All-filter}
 use Rattle.mt_base.specs.declared.tables.CallRow.{CallRow}
+use Rattle.feed_tables.specs.Calls.{trip_of, rows_of, in_order, both_times, sequence}
+use Rattle.feed_tables.proofs.OrderLemmas.{in_order-all}
 use Rattle.train_nodes.specs.declared.calls.TableCall.{TableCall}
 use Rattle.schedule_build.specs.declared.runs.Run.{Run}
-use Rattle.schedule_build.specs.Groups.{trip_of, rows_of}
-use Rattle.schedule_build.specs.InOrder.{put, in_order}
 use Rattle.schedule_build.specs.Schedule.{run_calls}
-use Rattle.schedule_build.specs.TripCalls.{IsTimely, both_times, call_at, timed_calls, sequence}
+use Rattle.schedule_build.specs.TripCalls.{IsTimely, call_at, timed_calls}
 
 -- the times of the call are below 2^24 seconds
 pub record HasSmallTimes (c : TableCall) : Type 0 where
@@ -28,16 +27,6 @@ timed-small day [] l h = All-nil HasSmallTimes
 timed-small day (r ∷ rs) l h =
     let t = All-head IsTimely r rs h in
     one-small day r r.arr r.dep (timed_calls day rs) l t.arr t.dep (timed-small day rs l (All-tail IsTimely r rs h))
-
-put-all : {X : Type 0} (P : X → Type 0) (key : X → ℕ) (x : X) (xs : List X) → P x → All P xs → All P (put key x xs)
-put-all P key x [] p h = All-cons P x [] p h
-put-all P key x (y ∷ ys) p h =
-    cond_both (nat_le (key x) (key y)) (x ∷ y ∷ ys) (y ∷ put key x ys) (All P) (λ _. All-cons P x (y ∷ ys) p h) (λ _. All-cons P y (put key x ys) (All-head P y ys h) (put-all P key x ys p (All-tail P y ys h)))
-
-in_order-all : {X : Type 0} (P : X → Type 0) (key : X → ℕ) (xs : List X) → All P xs → All P (in_order key xs)
-in_order-all P key [] h = h
-in_order-all P key (x ∷ xs) h =
-    put-all P key x (in_order key xs) (All-head P x xs h) (in_order-all P key xs (All-tail P x xs h))
 
 -- the times of a run are small
 pub run-small : (calls : List CallRow) (r : Run) → All IsTimely calls → r.day < 31 → All HasSmallTimes (run_calls calls r)

@@ -6,13 +6,13 @@ use Rattle.std.proofs.lemmas.List.Sums.{sum_by-cons}
 use Rattle.std.proofs.lemmas.List.Elements.{All-nil, All-cons, All-head, All-tail}
 use Rattle.mt_base.specs.declared.options.Opts.{Opts}
 use Rattle.mt_base.specs.declared.tables.CallRow.{CallRow}
+use Rattle.feed_tables.specs.Calls.{rows_of}
 use Rattle.delay_model.specs.declared.state.Train.{Train}
 use Rattle.delay_model.specs.declared.state.State.{State}
 use Rattle.train_nodes.specs.Loaded.{loaded_train, with_train, DoNotFall}
 use Rattle.train_nodes.proofs.PushLemmas.{loaded-is, length-loaded}
 use Rattle.mt_base.specs.declared.tables.What.TheVariants.{Trains, Nodes}
 use Rattle.schedule_build.specs.declared.runs.Run.{Run}
-use Rattle.schedule_build.specs.Groups.{rows_of}
 use Rattle.schedule_build.specs.Schedule.{run_calls, run_train, count_calls, schedule_of, pushed, IsFit, too_many}
 use Rattle.schedule_build.specs.TripCalls.{trip_calls}
 

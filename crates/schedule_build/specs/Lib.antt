@@ -2,8 +2,6 @@ pub mod Dates
 pub mod Directory
 pub mod Faults
 pub mod Groups
-pub mod InOrder
-pub mod Lawful
 pub mod Runs
 pub mod Schedule
 pub mod Seen

@@ -1,12 +1,16 @@
 -- The trips that run on each loaded service day.
-use Rattle.std.specs.Prelude.{ℕ, zero, suc, ◌+◌, List, [], ◌∷◌, ◌++◌, Bool, false, ◌&&◌, if◌then◌else◌, slice_index_or}
+use Rattle.std.specs.Prelude.{ℕ, zero, suc, ◌+◌, ◌<◌, List, [], ◌∷◌, ◌++◌, Bool, false, ◌&&◌, if◌then◌else◌, slice_index_or}
 use Rattle.mt_base.specs.declared.tables.CallRow.{CallRow}
 use Rattle.mt_base.specs.declared.tables.TripRow.{TripRow}
 use Rattle.mt_base.specs.declared.tables.Tables.{Tables}
+use Rattle.feed_tables.specs.Calls.{has_calls}
 use Rattle.schedule_build.specs.declared.runs.Run.{Run}
 use Rattle.schedule_build.specs.Dates.{date_after}
-use Rattle.schedule_build.specs.Groups.{has_calls}
 use Rattle.schedule_build.specs.Services.{is_active}
+
+-- the service of a trip is one of so many
+abbrev pub HasService : ℕ → TripRow → Type 0
+HasService services r = r.service < services
 
 -- the mark of a service, of which there is none past the end
 abbrev pub is_set : List Bool → ℕ → Bool

@@ -1,17 +1,10 @@
 -- The calls of a trip on a service day: GTFS Schedule, `stop_times.txt`.
-use Rattle.std.specs.Prelude.{ℕ, ◌+◌, ◌*◌, ◌≤◌, List, Option, None, Some, IfSome}
+use Rattle.std.specs.Prelude.{ℕ, ◌+◌, ◌*◌, ◌≤◌, List, Option, IfSome}
 use Rattle.std.specs.List.{filter_map}
 use Rattle.std.specs.Option.{option_map}
 use Rattle.mt_base.specs.declared.tables.CallRow.{CallRow}
+use Rattle.feed_tables.specs.Calls.{in_order, sequence, both_times}
 use Rattle.train_nodes.specs.declared.calls.TableCall.{TableCall}
-use Rattle.schedule_build.specs.InOrder.{in_order}
-
--- the arrival and the departure of a call in seconds of its service day: one that has one time uses it for both
-abbrev pub both_times : Option ℕ → Option ℕ → Option (ℕ × ℕ)
-both_times None None = None
-both_times None (Some dep) = Some (dep, dep)
-both_times (Some arr) None = Some (arr, arr)
-both_times (Some arr) (Some dep) = Some (arr, dep)
 
 -- the seconds from the base of day 0 to a time of a service day
 abbrev pub scheduled : ℕ → ℕ → ℕ
@@ -29,10 +22,6 @@ timed_call day r = option_map (call_at day r) (both_times r.arr r.dep)
 -- the calls of the rows that have a time
 abbrev pub timed_calls : ℕ → List CallRow → List TableCall
 timed_calls day rows = filter_map (timed_call day) rows
-
--- the place of a row among those of its trip: `stop_sequence`
-abbrev pub sequence : CallRow → ℕ
-sequence r = r.seq
 
 -- the calls of a trip on a service day, from its rows in any order: those with a time, by `stop_sequence`
 abbrev pub trip_calls : ℕ → List CallRow → List TableCall

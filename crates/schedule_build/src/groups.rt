@@ -2,7 +2,8 @@
 
 ghost use Rattle.std.specs.Prelude.{◌≡◌, ◌-◌, ◌<◌, ◌≤◌, ◌^◌, IfOk, length, take, drop};
 ghost use Rattle.std.specs.List.Sorted.{IsNonDecreasingBy};
-ghost use Rattle.schedule_build.specs.Groups.{IsGrouped, rows_of, trip_of};
+ghost use Rattle.feed_tables.specs.Calls.{rows_of, trip_of};
+ghost use Rattle.schedule_build.specs.Groups.{IsGrouped};
 
 use mt_base::memory::OutOfMemory;
 use mt_base::tables::CallRow;

@@ -3,10 +3,11 @@
 ghost use Rattle.std.specs.Prelude.{◌≡◌, ◌+◌, ◌<◌, ◌≤◌, ◌^◌, [], ◌∷◌, ◌++◌, ◌&&◌, All, IfOk, IfErr, length};
 ghost use Rattle.std.specs.List.Sorted.{IsNonDecreasingBy};
 ghost use Rattle.mt_base.specs.Civil.{IsCivil};
+ghost use Rattle.feed_tables.specs.Calls.{has_calls, trip_of};
+ghost use Rattle.feed_tables.specs.Lawful.{IsLawful};
 ghost use Rattle.schedule_build.specs.Faults.{IsTrainsFault};
-ghost use Rattle.schedule_build.specs.Groups.{IsGrouped, has_calls, trip_of};
-ghost use Rattle.schedule_build.specs.Lawful.{HasService, IsLawful};
-ghost use Rattle.schedule_build.specs.Runs.{is_set, day_runs, runs_on, all_runs};
+ghost use Rattle.schedule_build.specs.Groups.{IsGrouped};
+ghost use Rattle.schedule_build.specs.Runs.{HasService, is_set, day_runs, runs_on, all_runs};
 
 use crate::dates::date_after;
 use crate::faults::ExpandFault;

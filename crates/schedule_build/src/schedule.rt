@@ -4,13 +4,13 @@ ghost use Rattle.std.specs.Prelude.{◌≡◌, ◌+◌, ◌<◌, ◌≤◌, ◌^
 ghost use Rattle.std.specs.List.Sorted.{IsNonDecreasingBy};
 ghost use Rattle.mt_base.specs.Civil.{IsCivil};
 ghost use Rattle.mt_base.specs.Options.{IsInRange};
+ghost use Rattle.feed_tables.specs.Calls.{trip_of, times_of};
 ghost use Rattle.schedule_build.specs.Directory.{names_of};
 ghost use Rattle.schedule_build.specs.Faults.{IsFault};
-ghost use Rattle.schedule_build.specs.Groups.{IsGrouped, trip_of};
-ghost use Rattle.schedule_build.specs.Lawful.{IsLawful};
+ghost use Rattle.schedule_build.specs.Groups.{IsGrouped};
 ghost use Rattle.schedule_build.specs.Runs.{all_runs};
 ghost use Rattle.schedule_build.specs.Schedule.{IsFit, pushed, run_calls, count_calls, too_many, schedule_of, schedule};
-ghost use Rattle.schedule_build.specs.TripCalls.{IsTimely, timed_calls};
+ghost use Rattle.schedule_build.specs.TripCalls.{IsTimely};
 
 use crate::directory::Directory;
 use crate::directory_of::directory_of;
@@ -18,16 +18,17 @@ use crate::faults::ExpandFault;
 use crate::groups::{grouped, rows_of};
 use crate::runs::{Run, all_runs};
 use crate::trip_calls::trip_calls;
+use feed_tables::FeedTables;
 use mt_base::memory::OutOfMemory;
 use mt_base::numbers::Day;
 use mt_base::options::Opts;
-use mt_base::tables::{CallRow, Tables, What};
+use mt_base::tables::{CallRow, What};
 use std::alloc::Global;
 use train_nodes::Trains;
 
 /// How many of the rows have a time.
 fn count_timed(rows: &[CallRow]) -> usize
-    ensures count { result ≡ length (timed_calls 0 rows.now) }
+    ensures count { result ≡ length (times_of rows.now) }
     ensures bound { result ≤ length rows.now }
 {
     let mut count = 0;
@@ -132,12 +133,11 @@ fn load(
 /// 2,000,000 events, two for each call.
 pub fn expand(
     alloc: Global,
-    t: &Tables,
+    t: &FeedTables,
     first: u32,
     days: u32,
     opts: &Opts,
 ) -> Result<(Trains, Directory), ExpandFault>
-    requires lawful { IsLawful t.now }
     requires civil { IsCivil first }
     requires year { first < 21010000 }
     requires few_days { days ≤ 31 }
@@ -147,12 +147,13 @@ pub fn expand(
     ensures fits { IfOk result (λ _. too_many t.now.calls (all_runs t.now first days) ≡ None) }
     ensures fault { IfErr result (IsFault (too_many t.now.calls (all_runs t.now first days))) }
 {
-    let all = grouped(alloc, t.calls.as_slice())?;
-    let runs = all_runs(alloc, t, all.as_slice(), first, days)?;
+    let tables = t.tables();
+    let all = grouped(alloc, tables.calls.as_slice())?;
+    let runs = all_runs(alloc, tables, all.as_slice(), first, days)?;
     let Some(calls) = count_all(all.as_slice(), runs.as_slice()) else {
         return Err(ExpandFault::TooMany { what: What::Nodes });
     };
     let trains = load(alloc, all.as_slice(), runs.as_slice(), calls, opts)?;
-    let directory = directory_of(alloc, t, runs.as_slice(), first, days)?;
+    let directory = directory_of(alloc, tables, runs.as_slice(), first, days)?;
     Ok((trains, directory))
 }

@@ -6,7 +6,8 @@ ghost use Rattle.mt_base.specs.Civil.{IsCivil};
 ghost use Rattle.schedule_build.specs.Services.{runs, changes, is_active};
 
 use crate::dates::weekday;
-use mt_base::tables::{CalendarRow, DateRow, Tables};
+use feed_tables::FeedTables;
+use mt_base::tables::{CalendarRow, DateRow};
 
 fn runs(row: &CalendarRow, service: u32, date: u32, weekday: usize) -> bool
     requires { weekday < 7 }
@@ -46,12 +47,13 @@ fn any_changes(rows: &[DateRow], added: bool, service: u32, date: u32) -> bool
 
 /// Whether a service, a row of `Tables::services`, is active on a civil date, a number YYYYMMDD: where `calendar_dates.txt` adds it,
 /// or where `calendar.txt` has it run and `calendar_dates.txt` does not remove it.
-pub fn active(t: &Tables, service: u32, date: u32) -> bool
+pub fn active(t: &FeedTables, service: u32, date: u32) -> bool
     requires { IsCivil date }
     ensures { result ≡ is_active t.now service date }
 {
-    let dates = t.dates.as_slice();
+    let tables = t.tables();
+    let dates = tables.dates.as_slice();
     any_changes(dates, true, service, date)
-        || any_runs(t.calendar.as_slice(), service, date, weekday(date))
+        || any_runs(tables.calendar.as_slice(), service, date, weekday(date))
             && !any_changes(dates, false, service, date)
 }

@@ -1,8 +1,8 @@
 //! The calls of a trip on a service day.
 
 ghost use Rattle.std.specs.Prelude.{◌≡◌, ℕ, ◌<◌, ◌≤◌, ◌^◌, All, IfOk, IfSome, length};
-ghost use Rattle.schedule_build.specs.InOrder.{in_order, is_rising};
-ghost use Rattle.schedule_build.specs.TripCalls.{IsTimely, sequence, both_times, call_at, timed_call, timed_calls, trip_calls};
+ghost use Rattle.feed_tables.specs.Calls.{in_order, is_rising, sequence, both_times};
+ghost use Rattle.schedule_build.specs.TripCalls.{IsTimely, call_at, timed_call, timed_calls, trip_calls};
 
 use mt_base::memory::OutOfMemory;
 use mt_base::numbers::Time;

@@ -1,5 +1,5 @@
 -- How a run ends: what a feed holds, and what the lines leave.
-use Rattle.std.proofs.Common.{◌≡◌, ◌∙◌, ℕ, List, [], ◌++◌, Option, Some, None, Result, Ok, Err, sym, subst, ap, true, false}
+use Rattle.std.proofs.Common.{◌≡◌, ◌∙◌, ℕ, List, [], ◌++◌, Option, Some, None, Result, Ok, Err, sym, subst, ap, true, false, ◌⊎◌, inr}
 use Rattle.std.proofs.KnownBytes.{Appends-nil, Appends-trans}
 use Rattle.std.proofs.lemmas.List.{append-nil}
 use Rattle.std.proofs.lemmas.Option.{none-some}
@@ -16,9 +16,10 @@ use Rattle.mt_io.proofs.Gives.{consumes_none}
 use Rattle.mt_io.proofs.Runs.{ends}
 use Rattle.schedule_build.specs.Directory.{Names}
 use Rattle.timetable.specs.Running.{Running}
+use Rattle.gtfs_tables.specs.declared.refusals.FeedRefusal.{FeedRefusal}
 use Rattle.traind.specs.declared.status.Fault.{Fault}
-use Rattle.traind.specs.declared.status.Fault.TheVariants.{FeedRefused, ReadFault, WriteFault, Memory, TooLong}
-use Rattle.traind.specs.Causes.{HasCause, WhereLinesStop}
+use Rattle.traind.specs.declared.status.Fault.TheVariants.{Usage, FeedRefused, ReadFault, WriteFault, Memory, TooLong}
+use Rattle.traind.specs.Causes.{HasFaultCause, WhereLinesStop}
 use Rattle.traind.proofs.Tables.{some-same}
 use Rattle.traind.specs.Lines.{accepted_of}
 use Rattle.traind.specs.Output.{replies, output}
@@ -48,14 +49,16 @@ unfolding replies lines_of
 nothing_yet nw names st left written = ([], consumes_none left, Appends-nil written)
 
 pub wherever : (T : Type 0) (f : Fault) → T → WhereLinesStop T f
-wherever T FeedRefused t = tt
+wherever T Usage t = tt
+wherever T (FeedRefused why) t = tt
 wherever T ReadFault t = t
 wherever T WriteFault t = tt
 wherever T Memory t = tt
 wherever T TooLong t = t
 
 pub where_also : (T U : Type 0) (f : Fault) → (T → U) → WhereLinesStop T f → WhereLinesStop U f
-where_also T U FeedRefused h t = tt
+where_also T U Usage h t = tt
+where_also T U (FeedRefused why) h t = tt
 where_also T U ReadFault h t = h t
 where_also T U WriteFault h t = tt
 where_also T U Memory h t = tt
@@ -74,13 +77,14 @@ pub on_ok_also : (run : Result (Unit {0}) Fault) (P Q : Type 0) → (P → Q) �
 on_ok_also (Ok u) P Q h p = h p
 on_ok_also (Err f) P Q h p = tt
 
--- another cause for a refused feed; nothing else was a cause
-pub cause_also : (T U read : Type 0) (f : Fault) → (T → U) → HasCause T ⊥ ⊥ ⊥ f → HasCause U read ⊥ ⊥ f
-cause_also T U read FeedRefused h t = h t
-cause_also T U read ReadFault h t = absurd t
-cause_also T U read WriteFault h t = absurd t
-cause_also T U read Memory h t = tt
-cause_also T U read TooLong h t = absurd t
+-- the lines of an input give no cause of the words or of the feed
+pub cause_also : (U read write long other : Type 0) (R : FeedRefusal → Type 0) (f : Fault) → HasFaultCause ⊥ (λ why. ⊥) read write long f → HasFaultCause U R (other ⊎ read) write long f
+cause_also U read write long other R Usage t = absurd t
+cause_also U read write long other R (FeedRefused why) t = absurd t
+cause_also U read write long other R ReadFault t = inr t
+cause_also U read write long other R WriteFault t = t
+cause_also U read write long other R Memory t = tt
+cause_also U read write long other R TooLong t = t
 
 -- what holds of the error that was handed on
 pub handed_on : (run : Result (Unit {0}) Fault) (f : Fault) (Q : Fault → Type 0) → IsErrAnd run (λ e. e ≡ f) → Q f → IfErr run Q

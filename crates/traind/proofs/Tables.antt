@@ -1,39 +1,59 @@
--- What is known of a feed's table once it was read.
-use Rattle.std.proofs.Common.{◌≡◌, ◌≤◌, ◌∙◌, ℕ, List, Option, Some, sym, subst, ap, length, arith, Result, Ok, Err}
-use Rattle.std.proofs.lemmas.Option.{none-some}
-use Rattle.std.specs.Prelude.{IfSome, unwrap_or}
-use Rattle.feed_load.specs.declared.faults.LoadFault.{LoadFault}
+-- What the words and the feed give is one thing.
+use Rattle.std.proofs.Common.{◌≡◌, ◌∙◌, ℕ, List, Option, Some, None, Result, Ok, Err, sym, subst, ap, arith}
+use Rattle.std.specs.Prelude.{unwrap_or}
+use Rattle.delay_model.specs.declared.network.Network.{Network}
 use Rattle.delay_model.specs.declared.state.State.{State}
+use Rattle.command_words.specs.Words.{Asked, asked_of}
+use Rattle.feed_load.specs.Loaded.{Timetable}
+use Rattle.gtfs_tables.specs.declared.refusals.FeedRefusal.{FeedRefusal}
 use Rattle.schedule_build.specs.Directory.{Names}
-use Rattle.feed_load.specs.Loaded.{loaded}
-use Rattle.gtfs_tables.specs.Texts.{AreRecordsOf}
-use Rattle.mt_io.specs.Tables.{IsTooLong}
-use Rattle.traind.specs.Words.{Asked}
-use Rattle.traind.specs.Feeds.{usual, Told, table_of, Refusal, absent, too_long, refused}
+use Rattle.timetable.specs.Running.{Running}
+use Rattle.traind.specs.Feeds.{network, Told, asked_in}
+use Rattle.traind.specs.Runs.{Loads, IsRefused}
 
 pub some-same : (a b : List ℕ) → Some a ≡ Some b → a ≡ b
 some-same a b e = ap (λ (o : Option (List ℕ)). unwrap_or o a) e
 
--- the table that was read is that of the feed
-pub told_table : (tables : Option Told) (told : Told) (a : Asked) (bytes : List ℕ) → IfSome tables (λ t. table_of t a ≡ Some bytes) → tables ≡ Some told → table_of told a ≡ Some bytes
-told_table tables told a bytes given is = subst (λ (o : Option Told). IfSome o (λ t. table_of t a ≡ Some bytes)) is given
+asked-same : (words : List (List ℕ)) (a b : Asked) → asked_of words ≡ Some a → asked_of words ≡ Some b → a ≡ b
+asked-same words a b p q = ap (λ (o : Option Asked). unwrap_or o a) (sym p ∙ q)
 
--- the records of the feed's table are those of what was read
-pub records_read : (told : Told) (a : Asked) (bytes others : List ℕ) (records : List (List (List ℕ))) → table_of told a ≡ Some bytes → table_of told a ≡ Some others → AreRecordsOf others records → AreRecordsOf bytes records
-records_read told a bytes others records at there read = subst (λ (b : List ℕ). AreRecordsOf b records) (some-same others bytes (sym there ∙ at)) read
-
--- a table that was read and whose records give a timetable is no cause to refuse the feed
-pub not_refused : (told : Told) (a : Asked) (bytes : List ℕ) → table_of told a ≡ Some bytes → length bytes ≤ 268435456
-    → ((records : List (List (List ℕ))) (why : LoadFault) → AreRecordsOf bytes records → loaded a.first usual records ≡ Err why → ⊥) → Refusal told a → ⊥
-not_refused told a bytes at small none (absent is) = none-some bytes (sym is ∙ at)
-not_refused told a bytes at small none (too_long is) = let l = subst IsTooLong at is in absurd (omega (arith, small, l))
-not_refused told a bytes at small none (refused others records why there read is) = none records why (records_read told a bytes others records at there read) is
-
-tag : Result (State × Names) LoadFault → ℕ
+tag : Result Timetable FeedRefusal → ℕ
 tag (Ok loaded) = 0
 tag (Err why) = 1
 
--- records that give a timetable do not give a cause to refuse it
-pub not_both : (r : Result (State × Names) LoadFault) (timetable : State × Names) (why : LoadFault) → r ≡ Err why → r ≡ Ok timetable → ⊥
+abbrev made : Result Timetable FeedRefusal → Timetable → Timetable
+made (Ok timetable) other = timetable
+made (Err why) other = other
+
+-- a feed that holds a timetable is no feed to refuse
+not-both : (r : Result Timetable FeedRefusal) (timetable : Timetable) (why : FeedRefusal) → r ≡ Err why → r ≡ Ok timetable → ⊥
 unfolding tag
-not_both r timetable why is_why is = absurd (omega (arith, ap tag (sym is_why ∙ is)))
+not-both r timetable why is_why is = absurd (omega (arith, ap tag (sym is_why ∙ is)))
+
+-- words that ask for nothing
+pub nothing-asked : (words : List (List ℕ)) (a : Asked) → asked_of words ≡ None → asked_of words ≡ Some a → ⊥
+nothing-asked words a none some = absurd (cc (none, some))
+
+-- the timetable that was loaded is the one that the words ask for
+pub same-start : (words : List (List ℕ)) (tables : Option Told) (a : Asked) (t : Running) (dir : Names) (P : Network → State → Names → Type 0) → asked_of words ≡ Some a
+    → ((told : Told) → tables ≡ Some told → asked_in told a ≡ Ok (t.state, dir)) → t.network ≡ network a.opts
+    → P t.network t.state dir → (nw : Network) (st : State) (names : Names) → Loads words tables nw st names → P nw st names
+same-start words tables a t dir P asked held nw_is p nw st names loads =
+    let same : loads.asked ≡ a = asked-same words loads.asked a loads.asked_is asked in
+    let both : Ok (st, names) ≡ Ok (t.state, dir) = sym (subst (λ (b : Asked). asked_in loads.told b ≡ Ok (st, names)) same loads.holds) ∙ held loads.told loads.told_is in
+    let state : st ≡ t.state = ap (λ (r : Result Timetable FeedRefusal). (made r (st, names)).0) both in
+    let named : names ≡ dir = ap (λ (r : Result Timetable FeedRefusal). (made r (st, names)).1) both in
+    let of : t.network ≡ nw = nw_is ∙ ap (λ (b : Asked). network b.opts) (sym same) ∙ loads.network_is in
+    subst (λ (n : Network). P n st names) of (subst (λ (s : State). P t.network s names) (sym state) (subst (λ (ns : Names). P t.network t.state ns) (sym named) p))
+
+-- a feed from which a timetable was loaded is not refused
+pub not-refused : (words : List (List ℕ)) (tables : Option Told) (a : Asked) (timetable : Timetable) (why : FeedRefusal) → asked_of words ≡ Some a
+    → ((told : Told) → tables ≡ Some told → asked_in told a ≡ Ok timetable) → IsRefused words tables why → ⊥
+not-refused words tables a timetable why asked held to_be =
+    let same : to_be.asked ≡ a = asked-same words to_be.asked a to_be.asked_is asked in
+    not-both (asked_in to_be.told a) timetable why (subst (λ (b : Asked). asked_in to_be.told b ≡ Err why) same to_be.refused) (held to_be.told to_be.told_is)
+
+-- the cause to refuse a feed, by what the words ask for
+pub refused-for : (words : List (List ℕ)) (tables : Option Told) (a : Asked) (why : FeedRefusal) → asked_of words ≡ Some a → (to_be : IsRefused words tables why) → asked_in to_be.told a ≡ Err why
+refused-for words tables a why asked to_be =
+    subst (λ (b : Asked). asked_in to_be.told b ≡ Err why) (asked-same words to_be.asked a to_be.asked_is asked) to_be.refused

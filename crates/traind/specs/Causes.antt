@@ -2,21 +2,24 @@
 use Rattle.std.specs.Prelude.{ℕ, ◌≡◌, List, length}
 use Rattle.std.specs.declared.option.Option.{Option}
 use Rattle.std.specs.Io.KnownBytes.{Consumes}
+use Rattle.gtfs_tables.specs.declared.refusals.FeedRefusal.{FeedRefusal}
 use Rattle.traind.specs.declared.status.Fault.{Fault}
-use Rattle.traind.specs.declared.status.Fault.TheVariants.{FeedRefused, ReadFault, WriteFault, Memory, TooLong}
+use Rattle.traind.specs.declared.status.Fault.TheVariants.{Usage, FeedRefused, ReadFault, WriteFault, Memory, TooLong}
 
--- A fault has its cause: one for a refused feed, one for a failed read, one for a failed write, one for an input that is too long.
--- Want of memory has none.
-abbrev pub HasCause : Type 0 → Type 0 → Type 0 → Type 0 → Fault → Type 0
-HasCause refused read write long FeedRefused = refused
-HasCause refused read write long ReadFault = read
-HasCause refused read write long WriteFault = write
-HasCause refused read write long Memory = Unit {0}
-HasCause refused read write long TooLong = long
+-- A fault has its cause: one for words that ask for nothing, one for each refusal of a feed, one for a failed read, one for a failed
+-- write, one for an input that is too long. Want of memory has none.
+abbrev pub HasFaultCause : Type 0 → (FeedRefusal → Type 0) → Type 0 → Type 0 → Type 0 → Fault → Type 0
+HasFaultCause usage refused read write long Usage = usage
+HasFaultCause usage refused read write long (FeedRefused why) = refused why
+HasFaultCause usage refused read write long ReadFault = read
+HasFaultCause usage refused read write long WriteFault = write
+HasFaultCause usage refused read write long Memory = Unit {0}
+HasFaultCause usage refused read write long TooLong = long
 
 -- this holds where the run stopped because a read failed or the input is too long
 abbrev pub WhereLinesStop : Type 0 → Fault → Type 0
-WhereLinesStop holds FeedRefused = Unit {0}
+WhereLinesStop holds Usage = Unit {0}
+WhereLinesStop holds (FeedRefused why) = Unit {0}
 WhereLinesStop holds ReadFault = holds
 WhereLinesStop holds WriteFault = Unit {0}
 WhereLinesStop holds Memory = Unit {0}

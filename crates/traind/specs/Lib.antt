@@ -1,4 +1,3 @@
-pub mod Asking
 pub mod Causes
 pub mod Feeds
 pub mod Fronts
@@ -7,4 +6,3 @@ pub mod Output
 pub mod Runs
 pub mod Standing
 pub mod Statuses
-pub mod Words

@@ -7,7 +7,7 @@ ghost use Rattle.mt_io.specs.Causes.{Rose};
 ghost use Rattle.mt_io.specs.Lines.{Line, lines_of};
 ghost use Rattle.mt_io.specs.Reader.{IsDone};
 ghost use Rattle.mt_io.specs.Runs.{fresh};
-ghost use Rattle.traind.specs.Causes.{HasCause, WhereLinesStop, TookAll};
+ghost use Rattle.traind.specs.Causes.{HasFaultCause, WhereLinesStop, TookAll};
 ghost use Rattle.traind.specs.Fronts.{AppendsFront, Begun};
 ghost use Rattle.traind.specs.Standing.{Answered};
 
@@ -28,7 +28,7 @@ fn write_reply<K: Sink>(
 ) -> Result<(), Fault>
     ensures ok { OnOk result (Appends (K.written out.old) (K.written out.new) (text_of_reply directory.now reply.now)) }
     ensures front { IfErr result (λ f. AppendsFront (K.written out.old) (K.written out.new) (text_of_reply directory.now reply.now)) }
-    ensures fault { IfErr result (HasCause ⊥ ⊥ (Rose (K.faults out.old) (K.faults out.new)) ⊥) }
+    ensures fault { IfErr result (HasFaultCause ⊥ (λ why. ⊥) ⊥ (Rose (K.faults out.old) (K.faults out.new)) ⊥) }
     ensures later { K.faults out.old ≤ K.faults out.new }
 {
     let text = reply_text(alloc, reply, directory)?;
@@ -53,7 +53,7 @@ pub(crate) fn answer_lines<S: Source, K: Sink>(
         × Answered directory.now timetable.old timetable.new reader.new (S.left input.old) (S.left input.new) (K.written out.old) (K.written out.new) bytes lines)) }
     ensures begun { IfErr result (λ f. (bytes : List ℕ) × (lines : List Line)
         × Begun directory.now timetable.old reader.new (S.left input.old) (S.left input.new) (K.written out.old) (K.written out.new) bytes lines) }
-    ensures fault { IfErr result (HasCause ⊥ (Rose (S.faults input.old) (S.faults input.new)) (Rose (K.faults out.old) (K.faults out.new))
+    ensures fault { IfErr result (HasFaultCause ⊥ (λ why. ⊥) (Rose (S.faults input.old) (S.faults input.new)) (Rose (K.faults out.old) (K.faults out.new))
         (TookAll reader.old.budget (S.left input.old) (S.left input.new))) }
     ensures later { (S.faults input.old ≤ S.faults input.new) × (K.faults out.old ≤ K.faults out.new) }
 {

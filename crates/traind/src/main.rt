@@ -3,13 +3,13 @@
 
 mod feed;
 mod lines;
+mod refusal;
 mod replies;
 pub mod run;
 pub mod status;
 mod table;
 #[cfg(test)]
 mod tests;
-mod words;
 
 use mt_io::{FolderFeed, NoGate, StdSink, StdSource, put};
 use run::traind;

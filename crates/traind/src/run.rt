@@ -1,26 +1,26 @@
 //! The program as a call: `times` over any feed, input and outputs.
 
-ghost use Rattle.std.specs.Prelude.{◌≡◌, ◌↔◌, ◌<◌, ◌≤◌, ◌⊎◌, List, ℕ, [], map, length, None, Some, OnOk, IfOk, IfErr, true, false, string_bytes};
+ghost use Rattle.std.specs.Prelude.{◌≡◌, ◌≢◌, ◌<◌, ◌≤◌, ◌⊎◌, List, ℕ, [], map, length, None, Some, Ok, Err, OnOk, IfOk, IfErr, true, false, string_bytes};
 ghost use Rattle.std.specs.Io.KnownBytes.{Appends, Consumes, IsAtEnd};
-ghost use Rattle.delay_model.specs.declared.state.State.{State as AState};
-ghost use Rattle.mt_base.specs.Civil.{IsCivil};
+ghost use Rattle.command_words.specs.Words.{asked_of};
+ghost use Rattle.gtfs_tables.specs.declared.refusals.FeedRefusal.{FeedRefusal};
 ghost use Rattle.mt_io.specs.Causes.{Rose};
 ghost use Rattle.mt_io.specs.Lines.{lines_of};
-ghost use Rattle.schedule_build.specs.Directory.{Names};
-ghost use Rattle.traind.specs.Asking.{asked_view};
-ghost use Rattle.traind.specs.Causes.{HasCause, WhereLinesStop, TookAll};
-ghost use Rattle.traind.specs.Feeds.{network, Told, Holds, Refusal};
+ghost use Rattle.traind.specs.Causes.{HasFaultCause, WhereLinesStop, TookAll};
+ghost use Rattle.traind.specs.Feeds.{Told};
 ghost use Rattle.traind.specs.Fronts.{AppendsFront};
 ghost use Rattle.traind.specs.Output.{output, replies};
-ghost use Rattle.traind.specs.Runs.{IsRefused, HoldsNone, WritesAll, WritesReplies, WritesFront, CanEnd};
-ghost use Rattle.traind.specs.Statuses.{error_line};
-ghost use Rattle.traind.specs.Words.{asked_of};
+ghost use Rattle.traind.specs.Runs.{IsRefused, WritesAll, WritesReplies, WritesFront, CanEnd};
+ghost use Rattle.traind.specs.Statuses.{error_line, refusal_line, status_of};
+ghost use Rattle.traind.specs.declared.status.Fault.TheVariants as faults;
 
 use crate::feed::load;
 use crate::lines::answer_lines;
+use crate::refusal::refusal_line;
 use crate::status::{Fault, Status, status_of};
 use crate::table::write_table;
-use crate::words::{Asked, read_words};
+use command_words::read_words;
+use gtfs_tables::FeedRefusal;
 use mt_io::{Feed, Gate, LineReader, Sink, Source, put};
 use schedule_build::Directory;
 use std::alloc::Global;
@@ -45,7 +45,7 @@ fn run_lines<S: Source, K: Sink>(
         × Appends (K.written out.old) (K.written out.new) (replies timetable.old.network directory.now timetable.old.state [] (lines_of false bytes)))) }
     ensures front { IfErr result (λ f. (bytes : List ℕ) → S.left input.old ≡ Some bytes
         → AppendsFront (K.written out.old) (K.written out.new) (output timetable.old.network directory.now timetable.old.state (lines_of true bytes))) }
-    ensures fault { IfErr result (HasCause ⊥ (Rose (S.faults input.old) (S.faults input.new)) (Rose (K.faults out.old) (K.faults out.new))
+    ensures fault { IfErr result (HasFaultCause ⊥ (λ why. ⊥) (Rose (S.faults input.old) (S.faults input.new)) (Rose (K.faults out.old) (K.faults out.new))
         (TookAll budget (S.left input.old) (S.left input.new))) }
 {
     let mut reader = LineReader::build(alloc, budget)?;
@@ -53,43 +53,73 @@ fn run_lines<S: Source, K: Sink>(
     write_table(alloc, timetable, directory, out)
 }
 
-/// Loads the feed, and answers the input.
-fn times<F: Feed, S: Source, K: Sink>(
+/// Reads the words, loads the feed that they ask for, and answers the input.
+fn run_words<F: Feed, S: Source, K: Sink>(
     alloc: Global,
-    asked: &Asked<'_>,
+    words: &[String],
     feed: &mut F,
     input: &mut S,
     out: &mut K,
     budget: u64,
 ) -> Result<(), Fault>
-    requires civil { IsCivil asked.now.first }
-    requires year { asked.now.first < 21010000 }
-    ensures ok { OnOk result ((told : Told) (st : AState) (names : Names) (bytes : List ℕ) → F.tables feed.old ≡ Some told
-        → Holds told (asked_view asked.now) st names → S.left input.old ≡ Some bytes
-        → Appends (K.written out.old) (K.written out.new) (output network names st (lines_of true bytes))) }
+    ensures ok { OnOk result (WritesAll (map string_bytes words.now) (F.tables feed.old) (S.left input.old) (K.written out.old) (K.written out.new)) }
     ensures ended { OnOk result (IsAtEnd (S.left input.new)) }
-    ensures stopped { IfErr result (WhereLinesStop ((told : Told) (st : AState) (names : Names) → F.tables feed.old ≡ Some told
-        → Holds told (asked_view asked.now) st names → (bytes : List ℕ) × Consumes (S.left input.old) (S.left input.new) bytes
-        × Appends (K.written out.old) (K.written out.new) (replies network names st [] (lines_of false bytes)))) }
-    ensures front { IfErr result (λ f. (told : Told) (st : AState) (names : Names) (bytes : List ℕ) → F.tables feed.old ≡ Some told
-        → Holds told (asked_view asked.now) st names → S.left input.old ≡ Some bytes
-        → AppendsFront (K.written out.old) (K.written out.new) (output network names st (lines_of true bytes))) }
-    ensures fault { IfErr result (HasCause
-        ((input.new ≡ input.old) × (out.new ≡ out.old)
-        × ((told : Told) (st : AState) (names : Names) → F.tables feed.old ≡ Some told → Holds told (asked_view asked.now) st names → ⊥)
-        × ((told : Told) → F.tables feed.old ≡ Some told → Refusal told (asked_view asked.now)))
+    ensures no_words { asked_of (map string_bytes words.now) ≡ None → (result ≡ Err faults.Usage) ⊎ (result ≡ Err faults.Memory) }
+    ensures usage_untouched { asked_of (map string_bytes words.now) ≡ None → (feed.new ≡ feed.old) × (input.new ≡ input.old) × (out.new ≡ out.old) }
+    ensures refused { (why : FeedRefusal) → IsRefused (map string_bytes words.now) (F.tables feed.old) why
+        → (result ≡ Err (faults.FeedRefused why)) ⊎ (result ≡ Err faults.Memory) ⊎ ((result ≡ Err faults.ReadFault) × Rose (F.faults feed.old) (F.faults feed.new)) }
+    ensures refused_untouched { (why : FeedRefusal) → IsRefused (map string_bytes words.now) (F.tables feed.old) why → (input.new ≡ input.old) × (out.new ≡ out.old) }
+    ensures fault { IfErr result (HasFaultCause
+        ((asked_of (map string_bytes words.now) ≡ None) × (feed.new ≡ feed.old) × (input.new ≡ input.old) × (out.new ≡ out.old))
+        (λ why. ((told : Told) → F.tables feed.old ≡ Some told → IsRefused (map string_bytes words.now) (F.tables feed.old) why) × (input.new ≡ input.old) × (out.new ≡ out.old))
         (((input.new ≡ input.old) × (out.new ≡ out.old) × Rose (F.faults feed.old) (F.faults feed.new)) ⊎ Rose (S.faults input.old) (S.faults input.new))
         (Rose (K.faults out.old) (K.faults out.new)) (TookAll budget (S.left input.old) (S.left input.new))) }
-    ensures exactly_ok { OnOk result ((told : Told) → F.tables feed.old ≡ Some told → Refusal told (asked_view asked.now) → ⊥) }
-    ensures exactly { IfErr result (λ f. (told : Told) → F.tables feed.old ≡ Some told → Refusal told (asked_view asked.now)
-        → HasCause (Unit {0}) (Rose (F.faults feed.old) (F.faults feed.new)) ⊥ ⊥ f) }
-    ensures untouched { (told : Told) → F.tables feed.old ≡ Some told → Refusal told (asked_view asked.now) → (input.new ≡ input.old) × (out.new ≡ out.old) }
+    ensures stopped { IfErr result (WhereLinesStop (WritesReplies (map string_bytes words.now) (F.tables feed.old) (S.left input.old) (S.left input.new)
+        (K.written out.old) (K.written out.new))) }
+    ensures front { WritesFront (map string_bytes words.now) (F.tables feed.old) (S.left input.old) (K.written out.old) (K.written out.new) }
 {
-    let (mut timetable, directory) = load(alloc, asked, feed)?;
+    let asked = read_words(alloc, words)?;
+    let (mut timetable, directory) = load(alloc, &asked, feed)?;
     run_lines(alloc, &mut timetable, &directory, input, out, budget)
 }
 
-/// All that the program does for `times`. It reads the table of the feed, answers each line of the input at once, and at the end of
+/// Writes why a feed is refused.
+fn tell_refusal<E: Sink>(alloc: Global, why: &FeedRefusal, err: &mut E) -> Status
+    ensures status { (result ≡ Status.FeedRefused) ⊎ (result ≡ Status.Memory) }
+    ensures refused_line { result ≡ Status.FeedRefused → ¬ (Rose (E.faults err.old) (E.faults err.new))
+        → Appends (E.written err.old) (E.written err.new) (refusal_line why.now) }
+    ensures error_line { result ≢ Status.FeedRefused → ¬ (Rose (E.faults err.old) (E.faults err.new))
+        → Appends (E.written err.old) (E.written err.new) (error_line result) }
+{
+    match refusal_line(alloc, why) {
+        Ok(line) => {
+            let _ = put(err, line.as_bytes());
+            Status::FeedRefused
+        }
+        Err(_) => {
+            let _ = put(err, Status::Memory.error_line());
+            Status::Memory
+        }
+    }
+}
+
+/// Writes how a run ended. A failed write changes nothing.
+fn tell<E: Sink>(alloc: Global, run: Result<(), Fault>, err: &mut E) -> Status
+    ensures status { (result ≡ status_of run) ⊎ (result ≡ Status.Memory) }
+    ensures refused_line { result ≡ Status.FeedRefused → (why : FeedRefusal) × (run ≡ Err (faults.FeedRefused why))
+        × (¬ (Rose (E.faults err.old) (E.faults err.new)) → Appends (E.written err.old) (E.written err.new) (refusal_line why)) }
+    ensures error_line { result ≢ Status.FeedRefused → ¬ (Rose (E.faults err.old) (E.faults err.new))
+        → Appends (E.written err.old) (E.written err.new) (error_line result) }
+{
+    if let Err(Fault::FeedRefused(why)) = run {
+        return tell_refusal(alloc, &why, err);
+    }
+    let status = status_of(run);
+    let _ = put(err, status.error_line());
+    status
+}
+
+/// All that the program does for `times`. It reads the tables of the feed, answers each line of the input at once, and at the end of
 /// the input writes the table of all times. It stops where `budget` bytes of the input were taken and no end was read. It waits for
 /// nobody and returns.
 pub fn run_times<F: Feed, S: Source, K: Sink, E: Sink>(
@@ -102,16 +132,18 @@ pub fn run_times<F: Feed, S: Source, K: Sink, E: Sink>(
     budget: u64,
 ) -> Status
     requires budget { 1 ≤ budget }
-    ensures usage { (result ≡ Status.Usage) ↔ (asked_of (map string_bytes words.now) ≡ None) }
+    ensures usage { result ≡ Status.Usage → asked_of (map string_bytes words.now) ≡ None }
+    ensures usage_exactly { asked_of (map string_bytes words.now) ≡ None → (result ≡ Status.Usage) ⊎ (result ≡ Status.Memory) }
+    ensures usage_untouched { asked_of (map string_bytes words.now) ≡ None → (feed.new ≡ feed.old) × (input.new ≡ input.old) × (out.new ≡ out.old) }
     ensures ok { result ≡ Status.Ok → WritesAll (map string_bytes words.now) (F.tables feed.old) (S.left input.old) (K.written out.old) (K.written out.new) }
     ensures ended { result ≡ Status.Ok → IsAtEnd (S.left input.new) }
-    ensures refused { result ≡ Status.FeedRefused → HoldsNone (map string_bytes words.now) (F.tables feed.old) }
-    ensures refused_for { result ≡ Status.FeedRefused → (told : Told) → F.tables feed.old ≡ Some told → IsRefused (map string_bytes words.now) (F.tables feed.old) }
-    ensures refused_exactly { IsRefused (map string_bytes words.now) (F.tables feed.old)
+    ensures refused { result ≡ Status.FeedRefused → (why : FeedRefusal)
+        × ((told : Told) → F.tables feed.old ≡ Some told → IsRefused (map string_bytes words.now) (F.tables feed.old) why)
+        × (¬ (Rose (E.faults err.old) (E.faults err.new)) → Appends (E.written err.old) (E.written err.new) (refusal_line why)) }
+    ensures refused_exactly { (why : FeedRefusal) → IsRefused (map string_bytes words.now) (F.tables feed.old) why
         → (result ≡ Status.FeedRefused) ⊎ (result ≡ Status.Memory) ⊎ ((result ≡ Status.ReadFault) × Rose (F.faults feed.old) (F.faults feed.new)) }
-    ensures untouched { (result ≡ Status.Usage) ⊎ (result ≡ Status.FeedRefused) → (input.new ≡ input.old) × (out.new ≡ out.old) }
-    ensures usage_untouched { result ≡ Status.Usage → feed.new ≡ feed.old }
-    ensures refused_untouched { IsRefused (map string_bytes words.now) (F.tables feed.old) → (input.new ≡ input.old) × (out.new ≡ out.old) }
+    ensures untouched { result ≡ Status.FeedRefused → (input.new ≡ input.old) × (out.new ≡ out.old) }
+    ensures refused_untouched { (why : FeedRefusal) → IsRefused (map string_bytes words.now) (F.tables feed.old) why → (input.new ≡ input.old) × (out.new ≡ out.old) }
     ensures read_fault { result ≡ Status.ReadFault → ((input.new ≡ input.old) × (out.new ≡ out.old) × Rose (F.faults feed.old) (F.faults feed.new))
         ⊎ Rose (S.faults input.old) (S.faults input.new) }
     ensures write_fault { result ≡ Status.WriteFault → Rose (K.faults out.old) (K.faults out.new) }
@@ -122,14 +154,11 @@ pub fn run_times<F: Feed, S: Source, K: Sink, E: Sink>(
     ensures complete { CanEnd (map string_bytes words.now) (F.tables feed.old) (S.left input.old) budget
         → ¬ (Rose (F.faults feed.old) (F.faults feed.new)) → ¬ (Rose (S.faults input.old) (S.faults input.new)) → ¬ (Rose (K.faults out.old) (K.faults out.new))
         → (result ≡ Status.Ok) ⊎ (result ≡ Status.Memory) }
-    ensures error_line { ¬ (Rose (E.faults err.old) (E.faults err.new)) → Appends (E.written err.old) (E.written err.new) (error_line result) }
+    ensures error_line { result ≢ Status.FeedRefused → ¬ (Rose (E.faults err.old) (E.faults err.new))
+        → Appends (E.written err.old) (E.written err.new) (error_line result) }
 {
-    let status = match read_words(words) {
-        None => Status::Usage,
-        Some(asked) => status_of(times(alloc, &asked, feed, input, out, budget)),
-    };
-    let _ = put(err, status.error_line());
-    status
+    let run = run_words(alloc, words, feed, input, out, budget);
+    tell(alloc, run, err)
 }
 
 /// The program. It stops where `budget` bytes of the input were taken and no end was read. Its only command is `times`.
@@ -152,16 +181,18 @@ pub fn traind_within<
     budget: u64,
 ) -> Status
     requires budget { 1 ≤ budget }
-    ensures usage { (result ≡ Status.Usage) ↔ (asked_of (map string_bytes words.now) ≡ None) }
+    ensures usage { result ≡ Status.Usage → asked_of (map string_bytes words.now) ≡ None }
+    ensures usage_exactly { asked_of (map string_bytes words.now) ≡ None → (result ≡ Status.Usage) ⊎ (result ≡ Status.Memory) }
+    ensures usage_untouched { asked_of (map string_bytes words.now) ≡ None → (feed.new ≡ feed.old) × (input.new ≡ input.old) × (out.new ≡ out.old) }
     ensures ok { result ≡ Status.Ok → WritesAll (map string_bytes words.now) (F.tables feed.old) (S.left input.old) (K.written out.old) (K.written out.new) }
     ensures ended { result ≡ Status.Ok → IsAtEnd (S.left input.new) }
-    ensures refused { result ≡ Status.FeedRefused → HoldsNone (map string_bytes words.now) (F.tables feed.old) }
-    ensures refused_for { result ≡ Status.FeedRefused → (told : Told) → F.tables feed.old ≡ Some told → IsRefused (map string_bytes words.now) (F.tables feed.old) }
-    ensures refused_exactly { IsRefused (map string_bytes words.now) (F.tables feed.old)
+    ensures refused { result ≡ Status.FeedRefused → (why : FeedRefusal)
+        × ((told : Told) → F.tables feed.old ≡ Some told → IsRefused (map string_bytes words.now) (F.tables feed.old) why)
+        × (¬ (Rose (E.faults err.old) (E.faults err.new)) → Appends (E.written err.old) (E.written err.new) (refusal_line why)) }
+    ensures refused_exactly { (why : FeedRefusal) → IsRefused (map string_bytes words.now) (F.tables feed.old) why
         → (result ≡ Status.FeedRefused) ⊎ (result ≡ Status.Memory) ⊎ ((result ≡ Status.ReadFault) × Rose (F.faults feed.old) (F.faults feed.new)) }
-    ensures untouched { (result ≡ Status.Usage) ⊎ (result ≡ Status.FeedRefused) → (input.new ≡ input.old) × (out.new ≡ out.old) }
-    ensures usage_untouched { result ≡ Status.Usage → feed.new ≡ feed.old }
-    ensures refused_untouched { IsRefused (map string_bytes words.now) (F.tables feed.old) → (input.new ≡ input.old) × (out.new ≡ out.old) }
+    ensures untouched { result ≡ Status.FeedRefused → (input.new ≡ input.old) × (out.new ≡ out.old) }
+    ensures refused_untouched { (why : FeedRefusal) → IsRefused (map string_bytes words.now) (F.tables feed.old) why → (input.new ≡ input.old) × (out.new ≡ out.old) }
     ensures read_fault { result ≡ Status.ReadFault → ((input.new ≡ input.old) × (out.new ≡ out.old) × Rose (F.faults feed.old) (F.faults feed.new))
         ⊎ Rose (S.faults input.old) (S.faults input.new) }
     ensures write_fault { result ≡ Status.WriteFault → Rose (K.faults out.old) (K.faults out.new) }
@@ -172,7 +203,8 @@ pub fn traind_within<
     ensures complete { CanEnd (map string_bytes words.now) (F.tables feed.old) (S.left input.old) budget
         → ¬ (Rose (F.faults feed.old) (F.faults feed.new)) → ¬ (Rose (S.faults input.old) (S.faults input.new)) → ¬ (Rose (K.faults out.old) (K.faults out.new))
         → (result ≡ Status.Ok) ⊎ (result ≡ Status.Memory) }
-    ensures error_line { ¬ (Rose (E.faults err.old) (E.faults err.new)) → Appends (E.written err.old) (E.written err.new) (error_line result) }
+    ensures error_line { result ≢ Status.FeedRefused → ¬ (Rose (E.faults err.old) (E.faults err.new))
+        → Appends (E.written err.old) (E.written err.new) (error_line result) }
 {
     run_times(alloc, words, feed, input, out, err, budget)
 }
@@ -188,16 +220,18 @@ pub fn traind<R: Threads + Wait + Sync, F: Feed, S: Source, K: Sink, E: Sink, G:
     err: &mut E,
     gate: &G,
 ) -> Status
-    ensures usage { (result ≡ Status.Usage) ↔ (asked_of (map string_bytes words.now) ≡ None) }
+    ensures usage { result ≡ Status.Usage → asked_of (map string_bytes words.now) ≡ None }
+    ensures usage_exactly { asked_of (map string_bytes words.now) ≡ None → (result ≡ Status.Usage) ⊎ (result ≡ Status.Memory) }
+    ensures usage_untouched { asked_of (map string_bytes words.now) ≡ None → (feed.new ≡ feed.old) × (input.new ≡ input.old) × (out.new ≡ out.old) }
     ensures ok { result ≡ Status.Ok → WritesAll (map string_bytes words.now) (F.tables feed.old) (S.left input.old) (K.written out.old) (K.written out.new) }
     ensures ended { result ≡ Status.Ok → IsAtEnd (S.left input.new) }
-    ensures refused { result ≡ Status.FeedRefused → HoldsNone (map string_bytes words.now) (F.tables feed.old) }
-    ensures refused_for { result ≡ Status.FeedRefused → (told : Told) → F.tables feed.old ≡ Some told → IsRefused (map string_bytes words.now) (F.tables feed.old) }
-    ensures refused_exactly { IsRefused (map string_bytes words.now) (F.tables feed.old)
+    ensures refused { result ≡ Status.FeedRefused → (why : FeedRefusal)
+        × ((told : Told) → F.tables feed.old ≡ Some told → IsRefused (map string_bytes words.now) (F.tables feed.old) why)
+        × (¬ (Rose (E.faults err.old) (E.faults err.new)) → Appends (E.written err.old) (E.written err.new) (refusal_line why)) }
+    ensures refused_exactly { (why : FeedRefusal) → IsRefused (map string_bytes words.now) (F.tables feed.old) why
         → (result ≡ Status.FeedRefused) ⊎ (result ≡ Status.Memory) ⊎ ((result ≡ Status.ReadFault) × Rose (F.faults feed.old) (F.faults feed.new)) }
-    ensures untouched { (result ≡ Status.Usage) ⊎ (result ≡ Status.FeedRefused) → (input.new ≡ input.old) × (out.new ≡ out.old) }
-    ensures usage_untouched { result ≡ Status.Usage → feed.new ≡ feed.old }
-    ensures refused_untouched { IsRefused (map string_bytes words.now) (F.tables feed.old) → (input.new ≡ input.old) × (out.new ≡ out.old) }
+    ensures untouched { result ≡ Status.FeedRefused → (input.new ≡ input.old) × (out.new ≡ out.old) }
+    ensures refused_untouched { (why : FeedRefusal) → IsRefused (map string_bytes words.now) (F.tables feed.old) why → (input.new ≡ input.old) × (out.new ≡ out.old) }
     ensures read_fault { result ≡ Status.ReadFault → ((input.new ≡ input.old) × (out.new ≡ out.old) × Rose (F.faults feed.old) (F.faults feed.new))
         ⊎ Rose (S.faults input.old) (S.faults input.new) }
     ensures write_fault { result ≡ Status.WriteFault → Rose (K.faults out.old) (K.faults out.new) }
@@ -208,7 +242,8 @@ pub fn traind<R: Threads + Wait + Sync, F: Feed, S: Source, K: Sink, E: Sink, G:
     ensures complete { CanEnd (map string_bytes words.now) (F.tables feed.old) (S.left input.old) 1099511627776
         → ¬ (Rose (F.faults feed.old) (F.faults feed.new)) → ¬ (Rose (S.faults input.old) (S.faults input.new)) → ¬ (Rose (K.faults out.old) (K.faults out.new))
         → (result ≡ Status.Ok) ⊎ (result ≡ Status.Memory) }
-    ensures error_line { ¬ (Rose (E.faults err.old) (E.faults err.new)) → Appends (E.written err.old) (E.written err.new) (error_line result) }
+    ensures error_line { result ≢ Status.FeedRefused → ¬ (Rose (E.faults err.old) (E.faults err.new))
+        → Appends (E.written err.old) (E.written err.new) (error_line result) }
 {
     traind_within(
         rt,

@@ -3,6 +3,8 @@
 ghost use Rattle.std.specs.Prelude.{◌≡◌};
 ghost use Rattle.traind.specs.Statuses.{error_line, number_of, status_of};
 
+use command_words::WordsFault;
+use gtfs_tables::{FeedError, FeedRefusal};
 use mt_base::memory::OutOfMemory;
 use mt_io::Failed;
 
@@ -13,7 +15,7 @@ pub enum Status {
     Ok,
     /// The words are none that the program knows.
     Usage,
-    /// The feed has no table that makes a timetable.
+    /// The feed does not make a timetable.
     FeedRefused,
     /// The feed or the input failed.
     ReadFault,
@@ -41,14 +43,13 @@ impl Status {
         }
     }
 
-    /// The line on the error stream: none where all went well.
+    /// The line on the error stream: none where all went well. Where a feed is refused, its refusal gives the line.
     pub fn error_line(self) -> &'static [u8]
         ensures { result.now ≡ error_line self }
     {
         match self {
-            Status::Ok => b"",
+            Status::Ok | Status::FeedRefused => b"",
             Status::Usage => b"traind: usage: traind times FEED --from DATE\n",
-            Status::FeedRefused => b"traind: feed refused: stop_times.txt\n",
             Status::ReadFault => b"traind: read fault\n",
             Status::WriteFault => b"traind: write fault\n",
             Status::Memory => b"traind: out of memory\n",
@@ -60,7 +61,8 @@ impl Status {
 /// Why a run of the command stops before its end.
 #[derive(Clone, Copy, Debug, PartialEq, Eq)]
 pub(crate) enum Fault {
-    FeedRefused,
+    Usage,
+    FeedRefused(FeedRefusal),
     ReadFault,
     WriteFault,
     Memory,
@@ -73,7 +75,8 @@ pub(crate) fn status_of(run: Result<(), Fault>) -> Status
 {
     match run {
         Ok(()) => Status::Ok,
-        Err(Fault::FeedRefused) => Status::FeedRefused,
+        Err(Fault::Usage) => Status::Usage,
+        Err(Fault::FeedRefused(_)) => Status::FeedRefused,
         Err(Fault::ReadFault) => Status::ReadFault,
         Err(Fault::WriteFault) => Status::WriteFault,
         Err(Fault::Memory) => Status::Memory,
@@ -100,5 +103,34 @@ impl From<Failed> for Fault {
 
     fn from(_failed: Failed) -> Fault {
         Fault::WriteFault
+    }
+}
+
+impl From<FeedError> for Fault {
+    ghost use Rattle.std.specs.Prelude.{◌≡◌};
+    ghost use Rattle.traind.specs.Statuses.{feed_fault};
+
+    ghost from_gives = { λ error e. e ≡ feed_fault error };
+
+    fn from(error: FeedError) -> Fault {
+        match error {
+            FeedError::Refused(why) => Fault::FeedRefused(why),
+            FeedError::ReadFault => Fault::ReadFault,
+            FeedError::OutOfMemory => Fault::Memory,
+        }
+    }
+}
+
+impl From<WordsFault> for Fault {
+    ghost use Rattle.std.specs.Prelude.{◌≡◌};
+    ghost use Rattle.traind.specs.Statuses.{words_fault};
+
+    ghost from_gives = { λ fault e. e ≡ words_fault fault };
+
+    fn from(fault: WordsFault) -> Fault {
+        match fault {
+            WordsFault::Usage => Fault::Usage,
+            WordsFault::Memory => Fault::Memory,
+        }
     }
 }

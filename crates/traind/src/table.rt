@@ -4,7 +4,7 @@ ghost use Rattle.std.specs.Prelude.{◌≤◌, OnOk, IfErr};
 ghost use Rattle.std.specs.Io.KnownBytes.{Appends};
 ghost use Rattle.delay_report.specs.Table.{table};
 ghost use Rattle.mt_io.specs.Causes.{Rose};
-ghost use Rattle.traind.specs.Causes.{HasCause};
+ghost use Rattle.traind.specs.Causes.{HasFaultCause};
 ghost use Rattle.traind.specs.Fronts.{AppendsFront};
 
 use crate::status::Fault;
@@ -24,7 +24,7 @@ pub(crate) fn write_table<K: Sink>(
 ) -> Result<(), Fault>
     ensures ok { OnOk result (Appends (K.written out.old) (K.written out.new) (table timetable.now.network directory.now timetable.now.state)) }
     ensures front { IfErr result (λ f. AppendsFront (K.written out.old) (K.written out.new) (table timetable.now.network directory.now timetable.now.state)) }
-    ensures fault { IfErr result (HasCause ⊥ ⊥ (Rose (K.faults out.old) (K.faults out.new)) ⊥) }
+    ensures fault { IfErr result (HasFaultCause ⊥ (λ why. ⊥) ⊥ (Rose (K.faults out.old) (K.faults out.new)) ⊥) }
     ensures later { K.faults out.old ≤ K.faults out.new }
 {
     put(out, times_header())?;

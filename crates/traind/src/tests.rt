@@ -6,6 +6,28 @@ use mt_io::{
 use std::alloc::Global;
 use std::test::Fail;
 
+/// B1 and B2 are platforms of the station B.
+const STOPS: &str = "stop_id,stop_name,location_type,parent_station
+A,Astadt,0,
+B,Bruck,1,
+B1,Bruck 1,0,B
+B2,Bruck 2,0,B
+C,Cella,0,
+D,Dorf,0,
+";
+
+/// Both trips are of the service W.
+const TRIPS: &str = "route_id,service_id,trip_id
+R1,W,T1
+R2,W,T2
+";
+
+/// The service W runs from Monday to Friday.
+const CALENDAR: &str =
+    "service_id,monday,tuesday,wednesday,thursday,friday,saturday,sunday,start_date,end_date
+W,1,1,1,1,1,0,0,20260101,20261231
+";
+
 /// T1 runs A, B1, C and T2 runs B2, D.
 const STOP_TIMES: &str = "trip_id,arrival_time,departure_time,stop_id,stop_sequence
 T1,08:00:00,08:00:00,A,1
@@ -50,8 +72,8 @@ const REPORT: &str =
 /// The reply to the forecast where it is the first line.
 const ACCEPTED: &str = "{\"accepted\":1,\"changed\":4,\"line\":1}\n";
 
-/// The error line where the feed is refused.
-const REFUSED: &str = "traind: feed refused: stop_times.txt\n";
+/// How the error line begins where stop_times.txt has a fault.
+const REFUSED: &[u8] = b"traind: feed refused: stop_times.txt row ";
 
 /// What a run left behind.
 #[derive(Drop)]
@@ -77,14 +99,17 @@ fn words(alloc: Global) -> Result<Vec<String>, Fail> {
     Ok(words)
 }
 
-/// A feed with this table, which never fails.
+/// A feed with this table of calls, which never fails.
 fn feed(alloc: Global, stop_times: &[u8]) -> Result<MemFeed, Fail> {
     let mut feed = MemFeed::build(alloc, Vec::new(alloc));
-    feed.add(
-        "feed",
-        "stop_times.txt",
-        Vec::from_slice(alloc, stop_times)?,
-    )?;
+    for (name, table) in [
+        ("stops.txt", STOPS.as_bytes()),
+        ("trips.txt", TRIPS.as_bytes()),
+        ("calendar.txt", CALENDAR.as_bytes()),
+        ("stop_times.txt", stop_times),
+    ] {
+        feed.add("feed", name, Vec::from_slice(alloc, table)?)?;
+    }
     Ok(feed)
 }
 
@@ -161,7 +186,7 @@ fn no_table(rt: HostRuntime) -> Result<(), Fail> {
             &Ended { status, out, err },
             Status::FeedRefused,
             "",
-            REFUSED
+            "traind: feed refused: missing stops.txt\n"
         )
     );
     let mut reader = LineReader::build(alloc, 1_000)?;
@@ -224,10 +249,9 @@ fn table_cut_at_every_byte(rt: HostRuntime) -> Result<(), Fail> {
         if ended.status == Status::Ok {
             assert!(rt; ended.err.bytes().is_empty(), "{length} bytes");
         } else {
-            assert!(rt;
-                is_end(&ended, Status::FeedRefused, "", REFUSED),
-                "{length} bytes"
-            );
+            assert_eq!(rt; ended.status, Status::FeedRefused, "{length} bytes");
+            assert!(rt; ended.out.bytes().is_empty(), "{length} bytes");
+            assert!(rt; ended.err.bytes().starts_with(REFUSED), "{length} bytes");
         }
     }
     Ok(())
@@ -284,11 +308,14 @@ fn objects_that_never_fail(rt: HostRuntime) -> Result<(), Fail> {
     let alloc = rt.alloc();
     let words = words(alloc)?;
     let mut feed = SureFeed::build(alloc);
-    feed.add(
-        "feed",
-        "stop_times.txt",
-        Vec::from_slice(alloc, STOP_TIMES.as_bytes())?,
-    )?;
+    for (name, table) in [
+        ("stops.txt", STOPS),
+        ("trips.txt", TRIPS),
+        ("calendar.txt", CALENDAR),
+        ("stop_times.txt", STOP_TIMES),
+    ] {
+        feed.add("feed", name, Vec::from_slice(alloc, table.as_bytes())?)?;
+    }
     let mut input = SureSource::build(Vec::from_slice(alloc, FORECAST.as_bytes())?, 10);
     let mut out = SureSink::build();
     let mut err = SureSink::build();

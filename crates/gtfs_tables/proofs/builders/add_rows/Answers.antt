@@ -6,8 +6,7 @@ use Rattle.gtfs_tables.specs.Checks.{Fails, rows_from, ◌>>=◌}
 use Rattle.gtfs_tables.specs.Columns.{field_in}
 use Rattle.gtfs_tables.specs.Sheets.{Advances}
 use Rattle.gtfs_tables.specs.Texts.{Remains}
-use Rattle.gtfs_tables.proofs.RowLemmas.{under_kept, fails_bind}
-use Rattle.gtfs_tables.proofs.BuilderLemmas.{rows-none, rows-one, rows-refused}
+use Rattle.gtfs_tables.proofs.RowLemmas.{under_kept, fails_bind, rows-none, rows-one, rows-refused}
 use Rattle.gtfs_tables.proofs.builders.add_rows.Goals as goal
 
 pub returns-in_err-advance-clause-made : goal.returns-in_err-advance-clause-made

@@ -4,8 +4,7 @@ use Rattle.gtfs_tables.specs.declared.columns.Column.{Column}
 use Rattle.gtfs_tables.specs.declared.faults.Fault.{Fault}
 use Rattle.gtfs_tables.specs.Checks.{Fails, Gives, rows_from, ◌>>=◌}
 use Rattle.gtfs_tables.specs.Sheets.{IsUnder, header_of}
-use Rattle.gtfs_tables.proofs.RowLemmas.{fails_bind}
-use Rattle.gtfs_tables.proofs.BuilderLemmas.{table-rows}
+use Rattle.gtfs_tables.proofs.RowLemmas.{fails_bind, table-rows}
 use Rattle.gtfs_tables.proofs.builders.build_table.Goals as goal
 
 -- the header and the rows behind it

@@ -5,7 +5,8 @@ use Rattle.gtfs_tables.specs.declared.faults.Cause.TheVariants.{UntimedEnd}
 use Rattle.gtfs_tables.specs.declared.faults.Fault.{Fault}
 use Rattle.gtfs_tables.specs.Checks.{Fails, Gives, check, fault, ◌>>=◌}
 use Rattle.gtfs_tables.specs.StopTimes.{is_timed, check_order}
-use Rattle.gtfs_tables.proofs.RowLemmas.{fails_bind, check_trip-ends}
+use Rattle.gtfs_tables.proofs.CallLemmas.{check_trip-ends}
+use Rattle.gtfs_tables.proofs.RowLemmas.{fails_bind}
 use Rattle.gtfs_tables.proofs.stop_times.check_trip.Goals as goal
 
 -- what stands where no call is

@@ -3,8 +3,8 @@ use Rattle.std.proofs.Math.Dec.{ltb, leb}
 use Rattle.std.proofs.lemmas.Bool.{cases_lt, ltb-false, ltb-true, leb-true, leb-false}
 use Rattle.std.proofs.lemmas.List.Sorted.{IsPartitionPoint-from_clause, IsPartitionedBy-leb, IsPartitionedBy-ltb}
 use Rattle.std.specs.List.Sorted.{IsPartitionPoint}
-use Rattle.schedule_build.specs.Groups.{trip_of}
-use Rattle.schedule_build.proofs.GroupLemmas.{part-is, a-row}
+use Rattle.feed_tables.specs.Calls.{trip_of}
+use Rattle.feed_tables.proofs.TripRowLemmas.{part-is, a-row}
 use Rattle.schedule_build.proofs.groups.bounds.Goals as goal
 
 start-point : (c : goal.After-partition_point-end) → IsPartitionPoint (λ y. ltb (trip_of y) c.args.trip ≡ true) (λ y. ltb (trip_of y) c.args.trip ≡ false) c.args.all.now c.partition_point-start.result

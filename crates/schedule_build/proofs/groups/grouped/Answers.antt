@@ -2,9 +2,9 @@ use Rattle.std.proofs.Common.{rules, ◌≡◌, ◌∙◌, ◌++◌, ap, subst}
 use Rattle.std.proofs.lemmas.List.Sorted.{answers_always, IsNonDecreasingBy-from_sort}
 use Rattle.std.specs.List.{filter}
 use Rattle.std.specs.List.Sorted.{IsPermutation}
-use Rattle.schedule_build.specs.Groups.{trip_of}
-use Rattle.schedule_build.proofs.OrderLemmas.{tie}
-use Rattle.schedule_build.proofs.GroupLemmas.{rows-stay}
+use Rattle.feed_tables.specs.Calls.{trip_of}
+use Rattle.feed_tables.proofs.OrderLemmas.{tie}
+use Rattle.feed_tables.proofs.TripRowLemmas.{rows-stay}
 use Rattle.schedule_build.proofs.groups.grouped.Goals as goal
 
 pub returns : goal.returns

@@ -3,6 +3,7 @@ use Rattle.schedule_build.specs.Faults.{IsTrainsFault}
 use Rattle.schedule_build.specs.Services.{is_active}
 use Rattle.schedule_build.specs.Runs.{is_set, day_runs, runs_on}
 use Rattle.schedule_build.specs.Dates.{date_after}
+use Rattle.schedule_build.proofs.LawLemmas.{services-are}
 use Rattle.schedule_build.proofs.RunLemmas.{day_runs-same}
 use Rattle.schedule_build.proofs.runs.add_date.Goals as goal
 
@@ -12,7 +13,7 @@ day-is c =
     let marks : (s : ℕ) → s < length t.services → is_set c.as_slice-2.result.now s ≡ is_active t s (date_after c.args.first c.args.day) = λ s l.
     ap (λ xs. get_or xs s false) c.as_slice-2.ensures.value ∙ c.in_ok-active.ensures.marks s l ∙ ap (is_active t s) c.date_after.ensures.date in
     ap (day_runs (is_set c.as_slice-2.result.now) c.args.all.now c.args.day 0) c.as_slice.ensures
-    ∙ day_runs-same (length t.services) (is_set c.as_slice-2.result.now) (λ s. is_active t s (date_after c.args.first c.args.day)) c.args.all.now t.calls c.args.day 0 t.trips marks c.requires.grouped.same c.requires.lawful.services
+    ∙ day_runs-same (length t.services) (is_set c.as_slice-2.result.now) (λ s. is_active t s (date_after c.args.first c.args.day)) c.args.all.now t.calls c.args.day 0 t.trips marks c.requires.grouped.same (services-are (length t.routes) (length t.services) t.trips c.requires.lawful.trips)
 
 pub returns-clause-runs : goal.returns-clause-runs
 returns-clause-runs c =

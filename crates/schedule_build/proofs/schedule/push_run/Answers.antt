@@ -1,8 +1,8 @@
 use Rattle.std.proofs.Common.{length, ap, sym, subst, arith, nat_eq, All}
 use Rattle.std.proofs.lemmas.List.Elements.{All-filter}
-use Rattle.schedule_build.specs.Groups.{trip_of}
+use Rattle.feed_tables.specs.Calls.{trip_of}
 use Rattle.schedule_build.specs.TripCalls.{IsTimely}
-use Rattle.schedule_build.proofs.GroupLemmas.{few-rows}
+use Rattle.feed_tables.proofs.TripRowLemmas.{few-rows}
 use Rattle.schedule_build.proofs.schedule.push_run.Goals as goal
 
 pub trip_calls-requires-clause-few : goal.trip_calls-requires-clause-few

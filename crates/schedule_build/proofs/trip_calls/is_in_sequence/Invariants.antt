@@ -1,6 +1,5 @@
 use Rattle.std.proofs.Common.{◌≡◌, drop}
-use Rattle.schedule_build.specs.InOrder.{is_rising}
-use Rattle.schedule_build.specs.TripCalls.{sequence}
+use Rattle.feed_tables.specs.Calls.{is_rising, sequence}
 use Rattle.schedule_build.proofs.trip_calls.is_in_sequence.Given as goal
 
 abbrev pub invariant-loop-row : goal.invariant-loop-row

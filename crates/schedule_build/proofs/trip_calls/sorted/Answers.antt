@@ -1,8 +1,9 @@
 use Rattle.std.proofs.Common.{rules, ◌≡◌, ◌∙◌, ◌++◌, ap, subst, sym, All}
 use Rattle.std.proofs.lemmas.List.Sorted.{answers_always, IsNonDecreasingBy-from_sort, All-permutation}
 use Rattle.std.specs.List.{filter}
-use Rattle.schedule_build.specs.TripCalls.{sequence, IsTimely}
-use Rattle.schedule_build.proofs.OrderLemmas.{sorted-is, tie}
+use Rattle.feed_tables.specs.Calls.{sequence}
+use Rattle.schedule_build.specs.TripCalls.{IsTimely}
+use Rattle.feed_tables.proofs.OrderLemmas.{sorted-is, tie}
 use Rattle.schedule_build.proofs.trip_calls.sorted.Goals as goal
 
 pub returns-clause-order : goal.returns-clause-order

@@ -1,6 +1,7 @@
 use Rattle.std.proofs.Common.{◌≡◌, ◌∙◌, sym, subst, All, IfOk}
-use Rattle.schedule_build.specs.TripCalls.{timed_calls, sequence, IsTimely}
-use Rattle.schedule_build.proofs.OrderLemmas.{rising-same}
+use Rattle.feed_tables.specs.Calls.{sequence}
+use Rattle.schedule_build.specs.TripCalls.{timed_calls, IsTimely}
+use Rattle.feed_tables.proofs.OrderLemmas.{rising-same}
 use Rattle.schedule_build.proofs.trip_calls.trip_calls.Goals as goal
 
 pub returns-then-is_in_sequence : goal.returns-then-is_in_sequence

@@ -1,0 +1,3 @@
+pub mod Times
+pub mod Words
+pub mod Held

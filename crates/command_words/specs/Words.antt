@@ -1,0 +1,72 @@
+-- What the words after the program's name ask for.
+use Rattle.std.specs.Prelude.{ℕ, List, [], ◌∷◌, ◌&&◌, nat_le, if◌then◌else◌, Some, None, bytes_eq, codes, option_and_then}
+use Rattle.std.specs.declared.option.Option.{Option}
+use Rattle.clap.specs.Words.{Row, Text, fault_of, first_of, matches_of}
+use Rattle.clap.specs.Walk.{is_empty}
+use Rattle.gtfs_tables.specs.Fields.{date_of, number_of}
+use Rattle.mt_base.specs.declared.options.Opts.{Opts}
+use Rattle.command_words.specs.Times.{times_app}
+
+-- the folder of the feed, the first service day as the number YYYYMMDD, how many service days there are, the options of the timetable, and how many workers answer queries
+pub record Asked : Type 0 where
+  pub folder : Text
+  pub first : ℕ
+  pub days : ℕ
+  pub opts : Opts
+  pub workers : ℕ
+
+infixl 10 ◌>>=◌
+-- the next step, where there is a value
+abbrev pub ◌>>=◌ : {A B : Type 0} → Option A → (A → Option B) → Option B
+x >>= next = option_and_then next x
+
+-- the number, if it lies in the range
+abbrev pub within : ℕ → ℕ → ℕ → Option ℕ
+within least most n = if nat_le least n && nat_le n most then Some n else None
+
+-- the value of an option: one to nine digits that spell a number in its range
+abbrev pub number_within : Text → ℕ → ℕ → List Row → Option ℕ
+number_within name least most given = first_of name given >>= number_of >>= within least most
+
+-- the value of `--from`: eight digits that name a civil date of the years 1900 to 2100
+abbrev pub first_date : List Row → Option ℕ
+first_date given = first_of (codes "from") given >>= date_of >>= within 19000101 21001231
+
+-- the options of the timetable, each in its range
+abbrev pub options_of : List Row → Option Opts
+options_of given =
+    number_within (codes "slack") 0 50 given >>= λ slack.
+    number_within (codes "stop") 0 3600 given >>= λ stop.
+    number_within (codes "change") 1 3600 given >>= λ change.
+    number_within (codes "window") 0 3600 given >>= λ window.
+    number_within (codes "spare-trains") 0 2000 given >>= λ spare_trains.
+    number_within (codes "spare-calls") 0 40000 given >>= λ spare_calls.
+    number_within (codes "overrides") 0 100000 given >>= λ overrides.
+    Some (record {
+      slack = slack;
+      stop = stop;
+      change = change;
+      window = window;
+      spare_trains = spare_trains;
+      spare_calls = spare_calls;
+      overrides = overrides;
+    })
+
+-- what the values of the arguments ask for
+abbrev pub values_ask : List Row → Option Asked
+values_ask given =
+    first_of (codes "feed") given >>= λ folder.
+    first_date given >>= λ first.
+    number_within (codes "days") 1 31 given >>= λ days.
+    options_of given >>= λ opts.
+    number_within (codes "workers") 1 16 given >>= λ workers.
+    Some (record { folder = folder; first = first; days = days; opts = opts; workers = workers })
+
+-- what these words ask for, of which the first is `times`: clap reads them without a fault, and each value is well spelt and in its range
+abbrev pub times_asked : List Text → Option Asked
+times_asked words = if is_empty (fault_of times_app words) then values_ask (matches_of times_app words) else None
+
+-- what the words after the program's name ask for: the first is the command
+unfoldable pub asked_of : List Text → Option Asked
+asked_of [] = None
+asked_of (command ∷ rest) = if bytes_eq command (codes "times") then times_asked (command ∷ rest) else None

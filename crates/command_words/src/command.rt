@@ -1,0 +1,57 @@
+//! The commands as clap reads them.
+
+ghost use Rattle.std.specs.Prelude.{◌≡◌, IfOk, false};
+ghost use Rattle.clap.specs.Words.{app_of, rule_of};
+ghost use Rattle.command_words.specs.Times.{times_app, bare_app, feed_rule, from_rule, option_rule};
+
+use clap::{Arg, Command};
+use std::alloc::{AllocError, Global};
+
+// A command without flags for help and version.
+fn bare_command<'a>(alloc: Global, name: &'a str) -> Command<'a>
+    ensures { app_of result ≡ bare_app name.now }
+{
+    Command::new(alloc, name)
+        .disable_help_flag(true)
+        .disable_version_flag(true)
+}
+
+fn feed_argument<'a>(alloc: Global) -> Arg<'a>
+    ensures rule { rule_of result ≡ feed_rule }
+    ensures local { result.global ≡ false }
+{
+    Arg::new(alloc, "feed").required(true)
+}
+
+fn from_option<'a>(alloc: Global) -> Arg<'a>
+    ensures rule { rule_of result ≡ from_rule }
+    ensures local { result.global ≡ false }
+{
+    Arg::new(alloc, "from").required(true).long("from")
+}
+
+// An option with a value, and the value that counts where it is not given.
+fn option<'a>(alloc: Global, name: &'a str, default: &'a str) -> Arg<'a>
+    ensures rule { rule_of result ≡ option_rule name.now default.now }
+    ensures local { result.global ≡ false }
+{
+    Arg::new(alloc, name).long(name).default_value(default)
+}
+
+/// The command `times FEED --from DATE` with its options.
+pub(crate) fn times_command<'a>(alloc: Global) -> Result<Command<'a>, AllocError>
+    ensures { IfOk result (λ c. app_of c ≡ times_app) }
+{
+    bare_command(alloc, "times")
+        .arg(feed_argument(alloc))?
+        .arg(from_option(alloc))?
+        .arg(option(alloc, "days", "1"))?
+        .arg(option(alloc, "slack", "7"))?
+        .arg(option(alloc, "stop", "60"))?
+        .arg(option(alloc, "change", "180"))?
+        .arg(option(alloc, "window", "1800"))?
+        .arg(option(alloc, "spare-trains", "200"))?
+        .arg(option(alloc, "spare-calls", "4000"))?
+        .arg(option(alloc, "overrides", "10000"))?
+        .arg(option(alloc, "workers", "4"))
+}

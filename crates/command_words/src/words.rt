@@ -1,0 +1,107 @@
+//! What the words after the program's name ask for.
+
+ghost use Rattle.std.specs.Prelude.{◌≡◌, ◌≤◌, ◌<◌, [], IfOk, IfSome, IsErrOf, Some, None, map, option_map, string_bytes};
+ghost use Rattle.clap.specs.Words.{fault_of, found_of, matches_of, rows_of};
+ghost use Rattle.mt_base.specs.Civil.{IsCivil};
+ghost use Rattle.mt_base.specs.Options.{IsInRange};
+ghost use Rattle.command_words.specs.Held.{asked_view};
+ghost use Rattle.command_words.specs.Times.{times_app};
+ghost use Rattle.command_words.specs.Words.{asked_of, values_ask};
+ghost use Rattle.command_words.specs.declared.words.WordsFault.TheVariants.{Memory};
+
+use crate::command::times_command;
+use crate::values::{first_date, number_within, options, value};
+use clap::ArgMatches;
+use clap::error::ErrorKind;
+use mt_base::Opts;
+use std::alloc::{AllocError, Global};
+
+/// What the words ask for.
+#[derive(Clone, Copy, Debug)]
+pub struct Asked<'a> {
+    /// The folder of the feed.
+    pub folder: &'a str,
+
+    /// The date of the first service day, day 0, as the number YYYYMMDD: of the years 1900 to 2100.
+    pub first: u32,
+
+    /// How many service days there are: 1 to 31.
+    pub days: u32,
+
+    /// The options of the timetable.
+    pub opts: Opts,
+
+    /// How many workers answer queries: 1 to 16.
+    pub workers: u32,
+}
+
+/// Why words were not read.
+#[derive(Clone, Copy, Debug, PartialEq, Eq)]
+pub enum WordsFault {
+    /// The words ask for nothing that the program does.
+    Usage,
+
+    /// There was no memory.
+    Memory,
+}
+
+impl From<AllocError> for WordsFault {
+    ghost from_gives = { λ _ e. e ≡ Memory };
+
+    fn from(_: AllocError) -> WordsFault {
+        WordsFault::Memory
+    }
+}
+
+fn times_matches<'a>(alloc: Global, words: &'a [String]) -> Result<ArgMatches<'a>, WordsFault>
+    ensures taken { IfOk result (λ _. fault_of times_app (map string_bytes words.now) ≡ []) }
+    ensures values { IfOk result (λ m. rows_of (found_of m) ≡ matches_of times_app (map string_bytes words.now)) }
+    ensures usage { IsErrOf result WordsFault.Usage → fault_of times_app (map string_bytes words.now) ≡ [] → ⊥ }
+{
+    let command = times_command(alloc)?;
+    match command.try_get_matches_from(words) {
+        Ok(matches) => Ok(matches),
+        Err(error) => match error.kind() {
+            ErrorKind::OutOfMemory => Err(WordsFault::Memory),
+            _ => Err(WordsFault::Usage),
+        },
+    }
+}
+
+fn values_ask<'a>(given: &ArgMatches<'a>) -> Option<Asked<'a>>
+    ensures value { option_map asked_view result ≡ values_ask (rows_of (found_of given.now)) }
+    ensures civil { IfSome result (λ a. IsCivil a.first) }
+    ensures year { IfSome result (λ a. a.first < 21010000) }
+    ensures days { IfSome result (λ a. (1 ≤ a.days) × (a.days ≤ 31)) }
+    ensures options { IfSome result (λ a. IsInRange a.opts) }
+    ensures workers { IfSome result (λ a. (1 ≤ a.workers) × (a.workers ≤ 16)) }
+{
+    Some(Asked {
+        folder: value(given, "feed")?,
+        first: first_date(given)?,
+        days: number_within(given, "days", 1, 31)?,
+        opts: options(given)?,
+        workers: number_within(given, "workers", 1, 16)?,
+    })
+}
+
+/// What the words after the program's name ask for, of which the first is the command.
+/// `Usage` comes exactly where they ask for nothing that the program does, but for want of memory.
+#[tactic(auto, unfolding(crate::specs::Words::asked_of))]
+pub fn read_words<'a>(alloc: Global, words: &'a [String]) -> Result<Asked<'a>, WordsFault>
+    ensures ok { IfOk result (λ a. asked_of (map string_bytes words.now) ≡ Some (asked_view a)) }
+    ensures usage { IsErrOf result WordsFault.Usage → asked_of (map string_bytes words.now) ≡ None }
+    ensures civil { IfOk result (λ a. IsCivil a.first) }
+    ensures year { IfOk result (λ a. a.first < 21010000) }
+    ensures days { IfOk result (λ a. (1 ≤ a.days) × (a.days ≤ 31)) }
+    ensures options { IfOk result (λ a. IsInRange a.opts) }
+    ensures workers { IfOk result (λ a. (1 ≤ a.workers) × (a.workers ≤ 16)) }
+{
+    match words {
+        [command, ..] if command.as_str() == "times" => {
+            let given = times_matches(alloc, words)?;
+            values_ask(&given).ok_or(WordsFault::Usage)
+        }
+        _ => Err(WordsFault::Usage),
+    }
+}

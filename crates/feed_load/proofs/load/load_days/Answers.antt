@@ -1,0 +1,19 @@
+use Rattle.std.proofs.Common.{◌+◌, ◌*◌, ◌≤◌, All, length, refl, sym, subst}
+use Rattle.delay_model.specs.declared.state.State.{State}
+use Rattle.delay_model.specs.Events.{events}
+use Rattle.delay_model.specs.Valid.{IsValid}
+use Rattle.edge_rules.specs.Held.{IsUnderWay, bare}
+use Rattle.feed_load.proofs.LoadedDays.{runs-under_way, few-nodes}
+use Rattle.feed_load.proofs.load.load_days.Goals as goal
+
+pub returns-in-Ok-clause-under_way : goal.returns-in-Ok-clause-under_way
+returns-in-Ok-clause-under_way c =
+    subst (λ (st : State). All IsUnderWay st.trains) (sym c.in-Ok.ensures.schedule) (runs-under_way _ _)
+
+pub returns-in-Ok-clause-valid : goal.returns-in-Ok-clause-valid
+returns-in-Ok-clause-valid c =
+    subst (IsValid (bare c.args.opts.now)) (sym c.in-Ok.ensures.schedule) (c.schedules_are_valid.ensures.valid (bare c.args.opts.now) refl)
+
+pub returns-in-Ok-clause-nodes : goal.returns-in-Ok-clause-nodes
+returns-in-Ok-clause-nodes c =
+    subst (λ (st : State). length (events st) + 2 * st.spare_calls ≤ 2097152) (sym c.in-Ok.ensures.schedule) (few-nodes _ _ c.args.opts.now c.requires.options c.in-Ok.ensures.fits)
