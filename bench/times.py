@@ -5,13 +5,14 @@ Usage: bench/times.py [ROWS ..]      (10000 100000 1000000 where none are given)
 
 For each number of rows it makes a whole feed: `stop_times.txt` with so many
 rows, trains with ten calls each, at stations of four platforms, with a
-calendar, change times and waiting rules. It runs `times` on the feed without
-input, and prints the bytes of the tables, the seconds and the peak memory.
-1,000,000 rows are 100,000 trains and 2,000,000 events, the most that a feed
-may make on its loaded days. Then it runs 100,000 forecasts on the smallest
-feed, and prints the seconds without those of loading, and the messages per
-second. It proves nothing and tests nothing; build the program first
-(README.md).
+calendar and change times. It runs `times` on the feed without input, and
+prints the bytes of the tables, the seconds and the peak memory. 1,000,000 rows
+are 100,000 trains and 2,000,000 events, the most that a feed may make on its
+loaded days. Then it runs 100,000 forecasts on the smallest feed, and prints
+the seconds without those of loading, and the messages per second. It does the
+same for feeds with waiting rules of 1,000 and 10,000 rows, and 500 forecasts:
+there each departure is tested with each arrival today. It proves nothing and
+tests nothing; build the program first (README.md).
 """
 
 import os
@@ -28,6 +29,8 @@ ROUTES = 100
 STATIONS = 1_000
 PLATFORMS = 4
 MESSAGES = 100_000
+WAITING_ROWS = [1_000, 10_000]
+WAITING_MESSAGES = 500
 DATE = "20260105"
 WEEK = "monday,tuesday,wednesday,thursday,friday,saturday,sunday"
 
@@ -60,8 +63,8 @@ def call_rows(trains):
             yield f"G{train},{clock(departs - 60)},{clock(departs)},{stop},{call},0,0"
 
 
-def make_feed(folder, trains):
-    """Writes the tables of a feed with so many trains; gives their bytes."""
+def make_feed(folder, trains, waiting):
+    """Writes the tables of a feed with so many trains, with waiting rules or without; gives their bytes."""
     tables = {
         "stops.txt": ("stop_id,stop_name,location_type,parent_station", stop_rows()),
         "trips.txt": ("route_id,service_id,trip_id", (f"R{train % ROUTES},DAILY,G{train}" for train in range(trains))),
@@ -77,7 +80,7 @@ def make_feed(folder, trains):
         ),
         "waiting_rules.txt": (
             "feeder_route_id,connecting_route_id,stop_id,max_wait",
-            (f"R{route},R{(route + 1) % ROUTES},,300" for route in range(ROUTES)),
+            (f"R{route},R{(route + 1) % ROUTES},,300" for route in range(ROUTES if waiting else 0)),
         ),
     }
     for name, (header, rows) in tables.items():
@@ -87,10 +90,10 @@ def make_feed(folder, trains):
     return sum((folder / name).stat().st_size for name in tables)
 
 
-def make_lines(path, trains):
+def make_lines(path, trains, messages):
     """Writes forecasts for one train after the other, each of 1 to 15 minutes."""
     with path.open("w") as lines:
-        for number in range(MESSAGES):
+        for number in range(messages):
             train = number % trains
             time_of_day = clock(departure(train, 1) + 60 * (number % 15 + 1))
             lines.write(
@@ -113,23 +116,29 @@ def run(folder, lines):
     return seconds, usage.ru_maxrss / 1024
 
 
-def main():
-    sizes = sorted(int(word) for word in sys.argv[1:]) or [10_000, 100_000, 1_000_000]
+def measure(sizes, waiting, messages):
+    """Measures feeds of these numbers of rows, and so many forecasts on the first of them."""
+    print("with waiting rules" if waiting else "without waiting rules")
+    print(f"{'rows':>10} {'bytes':>12} {'seconds':>9} {'MiB':>7}")
     loads = []
     with tempfile.TemporaryDirectory() as folder:
-        print(f"{'rows':>10} {'bytes':>12} {'seconds':>9} {'MiB':>7}")
         for rows in sizes:
             feed = Path(folder) / str(rows)
             feed.mkdir()
-            size = make_feed(feed, rows // CALLS)
+            size = make_feed(feed, rows // CALLS, waiting)
             seconds, memory = run(feed, os.devnull)
             loads.append(seconds)
             print(f"{rows:>10,} {size:>12,} {seconds:>9.2f} {memory:>7.0f}", flush=True)
         smallest = sizes[0]
         lines = Path(folder) / "lines"
-        make_lines(lines, smallest // CALLS)
+        make_lines(lines, smallest // CALLS, messages)
         seconds = run(Path(folder) / str(smallest), lines)[0] - loads[0]
-        print(f"{MESSAGES:,} forecasts on {smallest:,} rows: {seconds:.2f} seconds, {MESSAGES / seconds:,.0f} a second")
+        print(f"{messages:,} forecasts on {smallest:,} rows: {seconds:.2f} seconds, {messages / seconds:,.0f} a second")
+
+
+def main():
+    measure(sorted(int(word) for word in sys.argv[1:]) or [10_000, 100_000, 1_000_000], False, MESSAGES)
+    measure(WAITING_ROWS, True, WAITING_MESSAGES)
 
 
 if __name__ == "__main__":

@@ -6,3 +6,6 @@ pub mod Forecasts
 pub mod Given
 pub mod Rule
 pub mod LoadedTrains
+pub mod WalkLemmas
+pub mod TransferLemmas
+pub mod NoRules

@@ -1,7 +1,6 @@
 -- The edges at an event of a state, by the names of the events beside it.
 use Rattle.std.proofs.Common.{◌≡◌, ℕ, Bool, true, false, ◌&&◌, List, [], ◌∷◌, ◌++◌, append_assoc, refl, sym, ◌∙◌, ap, subst, arith, Option, Some, None, find, is_some, slice_get}
 use Rattle.std.specs.List.{All, AllPairs, filter, list_any}
-use Rattle.std.specs.FinMap as map
 use Rattle.std.specs.Option.{option_map, option_map_or}
 use Rattle.std.proofs.lemmas.List.Elements.{All-get_or}
 use Rattle.std.proofs.lemmas.Option.{slice_get_within, get_or_from_slice_get}
@@ -18,16 +17,16 @@ use Rattle.delay_model.specs.declared.state.Edge.{Edge}
 use Rattle.delay_model.specs.Cuts.{before, after}
 use Rattle.delay_model.specs.Effect.{is_call, node_at}
 use Rattle.delay_model.specs.Events.{events_of, events_at, event_named, is_event, is_live, calls_of, train_events, arrival_of, departure_of}
-use Rattle.delay_model.specs.Edges.{edges, edges_along, edge_on}
+use Rattle.delay_model.specs.Edges.{train_edges, edges_along, edge_on}
 use Rattle.delay_model.specs.Timing.{incoming}
 use Rattle.delay_model.proofs.Apart.{AreApart}
 use Rattle.train_nodes.specs.Calls.{has_event, label_before, label_after}
 use Rattle.train_nodes.proofs.EventLemmas.{event_of_call, found_event}
-use Rattle.edge_rules.specs.AtEvent.{outgoing, edges_to, edges_from}
-use Rattle.edge_rules.specs.Held.{bare, timetabled, IsUnderWay}
+use Rattle.edge_rules.specs.AtEvent.{outgoing, along_to, along_from}
+use Rattle.edge_rules.specs.Held.{IsUnderWay}
 use Rattle.edge_rules.specs.Neighbours.{previous_of, previous_by, next_of, next_by}
 use Rattle.edge_rules.proofs.InLine.{find-own, live-own, along-into, along-first, along-out}
-use Rattle.edge_rules.proofs.Own.{own-train, train-apart, edges-along-trains}
+use Rattle.edge_rules.proofs.Own.{own-train, train-apart}
 use Rattle.edge_rules.proofs.Beside.{cut-at, label-of-found, last-is, last-none, first-is, first-none, events-append, found-of-live}
 
 -- where an event of a name stands: its train and its call
@@ -87,14 +86,14 @@ pub under-way : (ts : List Train) (i : ℕ) (t : Train) → All IsUnderWay ts �
 under-way ts i t h e = subst IsUnderWay (get_or_from_slice_get ts i t t e) (All-get_or IsUnderWay ts i t (slice_get_within ts i t e) h)
 
 -- the edges to an event by its key
-pub edges_to-named : (o : Opts) (st : State) (n : Node) (v : Event) → event_named st n ≡ Some v → edges_to (timetabled o st) n ≡ incoming (edges (bare o) st) v.key
-edges_to-named o st n v h = ap (λ (x : Option Event). option_map_or (λ (v : Event). incoming (edges (bare o) st) v.key) x []) h
+pub along_to-named : (o : Opts) (st : State) (n : Node) (v : Event) → event_named st n ≡ Some v → along_to o st n ≡ incoming (train_edges o 0 st.trains) v.key
+along_to-named o st n v h = ap (λ (x : Option Event). option_map_or (λ (v : Event). incoming (train_edges o 0 st.trains) v.key) x []) h
 
 -- and those that leave it
-edges_from-named : (o : Opts) (st : State) (n : Node) (v : Event) → event_named st n ≡ Some v → edges_from (timetabled o st) n ≡ outgoing (edges (bare o) st) v.key
-edges_from-named o st n v h = ap (λ (x : Option Event). option_map_or (λ (v : Event). outgoing (edges (bare o) st) v.key) x []) h
+along_from-named : (o : Opts) (st : State) (n : Node) (v : Event) → event_named st n ≡ Some v → along_from o st n ≡ outgoing (train_edges o 0 st.trains) v.key
+along_from-named o st n v h = ap (λ (x : Option Event). option_map_or (λ (v : Event). outgoing (train_edges o 0 st.trains) v.key) x []) h
 
-module _ (o : Opts) (st : State) (plain : st.overrides ≡ map.empty) (trains : All IsUnderWay st.trains) where
+module _ (o : Opts) (st : State) (trains : All IsUnderWay st.trains) where
   apart : (i : ℕ) (t : Train) → slice_get st.trains i ≡ Some t → AllPairs AreApart (events_of i t)
   apart i t there = train-apart i t.route t.calls (under-way st.trains i t trains there).labels
 
@@ -112,23 +111,21 @@ module _ (o : Opts) (st : State) (plain : st.overrides ≡ map.empty) (trains : 
       ∙ ap (list_any (λ v. is_event n v && v.live)) whole
       ∙ live-own xs u ys (subst (λ zs. AllPairs AreApart zs) whole (apart u.key.train t there))
 
-  into-own : (t : Train) (v : Event) (zs : List Event) (gs : List Edge) → slice_get st.trains v.key.train ≡ Some t → events_of v.key.train t ≡ zs → filter (λ e. is_same e.to v.key) (edges_along o zs) ≡ gs → incoming (edges (bare o) st) v.key ≡ gs
+  into-own : (t : Train) (v : Event) (zs : List Event) (gs : List Edge) → slice_get st.trains v.key.train ≡ Some t → events_of v.key.train t ≡ zs → filter (λ e. is_same e.to v.key) (edges_along o zs) ≡ gs → incoming (train_edges o 0 st.trains) v.key ≡ gs
   unfolding incoming
   into-own t v zs gs there whole own =
       let p : Edge → Bool = λ e. is_same e.to v.key in
       let i = v.key.train in
-      ap (filter p) (edges-along-trains o st plain)
-      ∙ own-train o i i 0 st.trains t p (λ e m h y. sym h.to_train ∙ ap (λ (k : Key). k.train) (same-is e.to v.key y)) (omega arith) there
+      own-train o i i 0 st.trains t p (λ e m h y. sym h.to_train ∙ ap (λ (k : Key). k.train) (same-is e.to v.key y)) (omega arith) there
       ∙ ap (λ zs. filter p (edges_along o zs)) whole
       ∙ own
 
-  out-own : (t : Train) (u : Event) (zs : List Event) (gs : List Edge) → slice_get st.trains u.key.train ≡ Some t → events_of u.key.train t ≡ zs → filter (λ e. is_same e.from u.key) (edges_along o zs) ≡ gs → outgoing (edges (bare o) st) u.key ≡ gs
+  out-own : (t : Train) (u : Event) (zs : List Event) (gs : List Edge) → slice_get st.trains u.key.train ≡ Some t → events_of u.key.train t ≡ zs → filter (λ e. is_same e.from u.key) (edges_along o zs) ≡ gs → outgoing (train_edges o 0 st.trains) u.key ≡ gs
   unfolding outgoing
   out-own t u zs gs there whole own =
       let p : Edge → Bool = λ e. is_same e.from u.key in
       let i = u.key.train in
-      ap (filter p) (edges-along-trains o st plain)
-      ∙ own-train o i i 0 st.trains t p (λ e m h y. sym h.from_train ∙ ap (λ (k : Key). k.train) (same-is e.from u.key y)) (omega arith) there
+      own-train o i i 0 st.trains t p (λ e m h y. sym h.from_train ∙ ap (λ (k : Key). k.train) (same-is e.from u.key y)) (omega arith) there
       ∙ ap (λ zs. filter p (edges_along o zs)) whole
       ∙ own
 
@@ -141,8 +138,8 @@ module _ (o : Opts) (st : State) (plain : st.overrides ≡ map.empty) (trains : 
     pub to_named : event_named st n ≡ Some v
     pub from_live : is_live st m ≡ u.live
     pub to_live : is_live st n ≡ v.live
-    pub into : edges_to (timetabled o st) n ≡ edge_on o u (v ∷ [])
-    pub out : edges_from (timetabled o st) m ≡ edge_on o u (v ∷ [])
+    pub into : along_to o st n ≡ edge_on o u (v ∷ [])
+    pub out : along_from o st m ≡ edge_on o u (v ∷ [])
 
   adjacent : (t : Train) (xs : List Event) (u v : Event) (ys : List Event) → slice_get st.trains u.key.train ≡ Some t → slice_get st.trains v.key.train ≡ Some t → events_of u.key.train t ≡ xs ++ u ∷ v ∷ ys → events_of v.key.train t ≡ xs ++ u ∷ v ∷ ys → Follows (node_of u.key) (node_of v.key)
   adjacent t xs u v ys at_u at_v whole_u whole_v =
@@ -158,8 +155,8 @@ module _ (o : Opts) (st : State) (plain : st.overrides ≡ map.empty) (trains : 
         to_named = to_named;
         from_live = live-named-own t xs u (v ∷ ys) at_u whole_u;
         to_live = live-named-own t (xs ++ u ∷ []) v ys at_v cut;
-        into = edges_to-named o st (node_of v.key) v to_named ∙ into-own t v (xs ++ u ∷ v ∷ ys) (edge_on o u (v ∷ [])) at_v whole_v (along-into o xs u v ys apart_v);
-        out = edges_from-named o st (node_of u.key) u from_named ∙ out-own t u (xs ++ u ∷ v ∷ ys) (edge_on o u (v ∷ [])) at_u whole_u (along-out o xs u (v ∷ ys) apart_u);
+        into = along_to-named o st (node_of v.key) v to_named ∙ into-own t v (xs ++ u ∷ v ∷ ys) (edge_on o u (v ∷ [])) at_v whole_v (along-into o xs u v ys apart_v);
+        out = along_from-named o st (node_of u.key) u from_named ∙ out-own t u (xs ++ u ∷ v ∷ ys) (edge_on o u (v ∷ [])) at_u whole_u (along-out o xs u (v ∷ ys) apart_u);
       }
 
   module _ (i : ℕ) (t : Train) (there : slice_get st.trains i ≡ Some t) where
@@ -182,24 +179,24 @@ module _ (o : Opts) (st : State) (plain : st.overrides ≡ map.empty) (trains : 
         adjacent t (xs ++ arrival_of i r b ∷ []) (departure_of i r b) (arrival_of i r c) ys there there whole whole
 
     -- nothing leads to the arrival of the first call
-    before-first : (c : Call) (rest : List Call) → t.calls ≡ c ∷ rest → edges_to (timetabled o st) (node_at i c.label false) ≡ []
+    before-first : (c : Call) (rest : List Call) → t.calls ≡ c ∷ rest → along_to o st (node_at i c.label false) ≡ []
     before-first c rest e =
         let r = t.route in
         let v = arrival_of i r c in
         let ys = departure_of i r c ∷ events_at i r rest in
         let whole = events-cut [] (c ∷ rest) e in
-        edges_to-named o st (node_of v.key) v (named-own t [] v ys there whole)
+        along_to-named o st (node_of v.key) v (named-own t [] v ys there whole)
         ∙ into-own t v (v ∷ ys) [] there whole (along-first o v ys (subst (λ zs. AllPairs AreApart zs) whole (apart i t there)))
 
     -- nothing leaves the departure of the last call
-    after-last : (front : List Call) (c : Call) → t.calls ≡ front ++ c ∷ [] → edges_from (timetabled o st) (node_at i c.label true) ≡ []
+    after-last : (front : List Call) (c : Call) → t.calls ≡ front ++ c ∷ [] → along_from o st (node_at i c.label true) ≡ []
     after-last front c e =
         let r = t.route in
         let u = departure_of i r c in
         let xs = events_at i r front in
         let whole = events-cut front (c ∷ []) e ∙ sym (append_assoc xs (arrival_of i r c ∷ []) (u ∷ [])) in
         let zs = xs ++ arrival_of i r c ∷ [] in
-        edges_from-named o st (node_of u.key) u (named-own t zs u [] there whole)
+        along_from-named o st (node_of u.key) u (named-own t zs u [] there whole)
         ∙ out-own t u (zs ++ u ∷ []) [] there whole (along-out o zs u [] (subst (λ zs. AllPairs AreApart zs) whole (apart i t there)))
 
     calls-same : calls_of st i ≡ t.calls
@@ -222,10 +219,10 @@ module _ (o : Opts) (st : State) (plain : st.overrides ≡ map.empty) (trains : 
           (subst (λ l. Follows (node_at i r.last.label true) (node_at i l false)) label-is
           (between-calls r.front r.last c rest (cut-at t.calls l c found ∙ ap (λ ds. ds ++ c ∷ rest) r.whole ∙ append_assoc r.front (r.last ∷ []) (c ∷ rest))))
 
-      none-before : label_before t.calls l ≡ None → edges_to (timetabled o st) (node_at i l false) ≡ []
+      none-before : label_before t.calls l ≡ None → along_to o st (node_at i l false) ≡ []
       none-before h =
           let rest = after (is_call l) t.calls in
-          subst (λ l. edges_to (timetabled o st) (node_at i l false) ≡ []) label-is
+          subst (λ l. along_to o st (node_at i l false) ≡ []) label-is
           (before-first c rest (cut-at t.calls l c found ∙ ap (λ ds. ds ++ c ∷ rest) (last-none (before (is_call l) t.calls) h)))
 
       after-departure : (k : ℕ) → label_after t.calls l ≡ Some k → Follows (node_at i l true) (node_at i k false)
@@ -236,10 +233,10 @@ module _ (o : Opts) (st : State) (plain : st.overrides ≡ map.empty) (trains : 
           (subst (λ l. Follows (node_at i l true) (node_at i r.first.label false)) label-is
           (between-calls front c r.first r.rest (cut-at t.calls l c found ∙ ap (λ ds. front ++ c ∷ ds) r.whole)))
 
-      none-after : label_after t.calls l ≡ None → edges_from (timetabled o st) (node_at i l true) ≡ []
+      none-after : label_after t.calls l ≡ None → along_from o st (node_at i l true) ≡ []
       none-after h =
           let front = before (is_call l) t.calls in
-          subst (λ l. edges_from (timetabled o st) (node_at i l true) ≡ []) label-is
+          subst (λ l. along_from o st (node_at i l true) ≡ []) label-is
           (after-last front c (cut-at t.calls l c found ∙ ap (λ ds. front ++ c ∷ ds) (first-none (after (is_call l) t.calls) h)))
 
       follows-previous : (dep : Bool) (m : Node) → previous_by st i l dep ≡ Some m → Follows m (node_at i l dep)
@@ -248,7 +245,7 @@ module _ (o : Opts) (st : State) (plain : st.overrides ≡ map.empty) (trains : 
           let k = some-mapped (λ before. node_at i before true) (label_before (calls_of st i) l) m h in
           subst (λ m. Follows m (node_at i l false)) k.2 (before-arrival k.0 (ap (λ cs. label_before cs l) (sym calls-same) ∙ k.1))
 
-      no-previous : (dep : Bool) → previous_by st i l dep ≡ None → edges_to (timetabled o st) (node_at i l dep) ≡ []
+      no-previous : (dep : Bool) → previous_by st i l dep ≡ None → along_to o st (node_at i l dep) ≡ []
       no-previous true h = absurd (cc)
       no-previous false h =
           none-before (ap (λ cs. label_before cs l) (sym calls-same) ∙ none-mapped (λ before. node_at i before true) (label_before (calls_of st i) l) h)
@@ -259,7 +256,7 @@ module _ (o : Opts) (st : State) (plain : st.overrides ≡ map.empty) (trains : 
           let k = some-mapped (λ after. node_at i after false) (label_after (calls_of st i) l) m h in
           subst (λ m. Follows (node_at i l true) m) k.2 (after-departure k.0 (ap (λ cs. label_after cs l) (sym calls-same) ∙ k.1))
 
-      no-next : (dep : Bool) → next_by st i l dep ≡ None → edges_from (timetabled o st) (node_at i l dep) ≡ []
+      no-next : (dep : Bool) → next_by st i l dep ≡ None → along_from o st (node_at i l dep) ≡ []
       no-next false h = absurd (cc)
       no-next true h =
           none-after (ap (λ cs. label_after cs l) (sym calls-same) ∙ none-mapped (λ after. node_at i after false) (label_after (calls_of st i) l) h)
@@ -272,7 +269,7 @@ module _ (o : Opts) (st : State) (plain : st.overrides ≡ map.empty) (trains : 
       follows-previous n.train at.train at.there n.label at.call at.found n.dep m h
 
   -- where there is none, no edge leads to it
-  pub without-previous : (n : Node) → is_live st n ≡ true → previous_of st n ≡ None → edges_to (timetabled o st) n ≡ []
+  pub without-previous : (n : Node) → is_live st n ≡ true → previous_of st n ≡ None → along_to o st n ≡ []
   without-previous n live h =
       let named = live-named st n live in
       let at = named-at st n named.0 named.1 in
@@ -286,8 +283,23 @@ module _ (o : Opts) (st : State) (plain : st.overrides ≡ map.empty) (trains : 
       followed-by-next n.train at.train at.there n.label at.call at.found n.dep m h
 
   -- where there is none, no edge leaves it
-  pub without-next : (n : Node) → is_live st n ≡ true → next_of st n ≡ None → edges_from (timetabled o st) n ≡ []
+  pub without-next : (n : Node) → is_live st n ≡ true → next_of st n ≡ None → along_from o st n ≡ []
   without-next n live h =
       let named = live-named st n live in
       let at = named-at st n named.0 named.1 in
       no-next n.train at.train at.there n.label at.call at.found n.dep h
+
+  live-kind : (i : ℕ) (t : Train) (there : slice_get st.trains i ≡ Some t) (l : ℕ) (c : Call) (found : find (is_call l) t.calls ≡ Some c) (dep : Bool) (v : Event) → event_named st (node_at i l dep) ≡ Some v → is_live st (node_at i l dep) ≡ v.live
+  live-kind i t there l c found false v h =
+      let f = own i t there l c found in
+      let same : f.u ≡ v = let k = sym f.from_named ∙ h in cc in
+      f.from_live ∙ ap (λ (w : Event). w.live) same
+  live-kind i t there l c found true v h =
+      let f = own i t there l c found in
+      let same : f.v ≡ v = let k = sym f.to_named ∙ h in cc in
+      f.to_live ∙ ap (λ (w : Event). w.live) same
+
+  -- the event of a name is live where the name is
+  pub named-live : (n : Node) (v : Event) → event_named st n ≡ Some v → is_live st n ≡ v.live
+  named-live n v h =
+      let at = named-at st n v h in live-kind n.train at.train at.there n.label at.call at.found n.dep v h

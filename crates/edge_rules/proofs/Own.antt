@@ -1,55 +1,19 @@
--- Of all edges those at an event are the ones of its train, where no connection is kept and no train waits.
-use Rattle.std.proofs.Common.{◌≡◌, ℕ, zero, suc, ◌+◌, ◌≤◌, Bool, true, false, List, [], ◌∷◌, ◌++◌, refl, sym, ◌∙◌, ap, arith, Option, Some, None, slice_get}
+-- Of the edges along trains those at an event are the ones of its train.
+use Rattle.std.proofs.Common.{◌≡◌, ℕ, zero, suc, ◌+◌, ◌≤◌, Bool, true, false, List, [], ◌∷◌, ◌++◌, refl, sym, ◌∙◌, ap, arith, Some, slice_get}
 use Rattle.std.proofs.Math.Logic.{◌≢◌}
-use Rattle.std.specs.List.{All, AllPairs, filter, flat_map}
-use Rattle.std.specs.FinMap as map
-use Rattle.std.specs.FinMap.{get-empty}
-use Rattle.std.proofs.lemmas.Bool.{cond_both}
+use Rattle.std.specs.List.{All, AllPairs, filter}
 use Rattle.std.proofs.lemmas.List.Elements.{All-cons, All-nil, All-tail, All-head, All-weaker, filter-append}
-use Rattle.mt_base.specs.Order.{node_of}
 use Rattle.mt_base.specs.declared.options.Opts.{Opts}
-use Rattle.delay_model.specs.declared.overrides.Override.{Override}
 use Rattle.delay_model.specs.declared.state.Call.{Call}
 use Rattle.delay_model.specs.declared.state.Train.{Train}
-use Rattle.delay_model.specs.declared.state.State.{State}
 use Rattle.delay_model.specs.declared.state.Event.{Event}
 use Rattle.delay_model.specs.declared.state.Edge.{Edge}
-use Rattle.delay_model.specs.Events.{events, events_of, events_at, arrival_of, departure_of}
-use Rattle.delay_model.specs.Edges.{edges, train_edges, edges_along, transfer, transfers_from, transfer_edges, edge_by_change, change_between, may_connect, override_of}
-use Rattle.delay_model.specs.Overrides.{connection, connection_cmp}
-use Rattle.delay_model.specs.Waits.{wait}
+use Rattle.delay_model.specs.Events.{events_of, events_at, arrival_of, departure_of}
+use Rattle.delay_model.specs.Edges.{train_edges, edges_along}
 use Rattle.delay_model.specs.Valid.{HasDistinctLabels}
 use Rattle.delay_model.proofs.Lists.{AllPairs-nil, AllPairs-cons}
 use Rattle.delay_model.proofs.Apart.{AreApart, events_at-train}
-use Rattle.edge_rules.specs.Held.{bare}
 use Rattle.edge_rules.proofs.InLine.{filter-none, append-none, not-then, along-to, along-from}
-
-flat_map-none : {X Y : Type 0} (f : X → List Y) (xs : List X) → ((x : X) → f x ≡ []) → flat_map f xs ≡ []
-flat_map-none f [] h = refl
-flat_map-none f (x ∷ xs) h = ap (λ ys. ys ++ flat_map f xs) (h x) ∙ flat_map-none f xs h
-
-by-change : (o : Opts) (u v : Event) (change : Option ℕ) → edge_by_change (bare o) None u v change ≡ []
-unfolding wait
-by-change o u v None = refl
-by-change o u v (Some w) = refl
-
-no-transfer : (o : Opts) (choice : Option Override) (u v : Event) → choice ≡ None → transfer (bare o) choice u v ≡ []
-unfolding transfer
-no-transfer o (Some c) u v e = absurd (cc)
-no-transfer o None u v e =
-    cond_both (may_connect u v) (edge_by_change (bare o) None u v (change_between (bare o) u v)) [] (λ gs. gs ≡ []) (λ _. by-change o u v (change_between (bare o) u v)) (λ _. refl)
-
--- where no connection is kept and no train waits, there is no edge between trains
-pub no-transfers : (o : Opts) (choices : Event → Event → Option Override) (es : List Event) → ((u v : Event) → choices u v ≡ None) → transfer_edges (bare o) choices es ≡ []
-no-transfers o choices es h =
-    flat_map-none (transfers_from (bare o) choices es) es (λ u. flat_map-none (λ v. transfer (bare o) (choices u v) u v) es (λ v. no-transfer o (choices u v) u v (h u v)))
-
--- so the edges are those along the trains
-pub edges-along-trains : (o : Opts) (st : State) → st.overrides ≡ map.empty → edges (bare o) st ≡ train_edges o 0 st.trains
-unfolding edges
-edges-along-trains o st h =
-    ap (λ gs. train_edges o 0 st.trains ++ gs) (no-transfers o (override_of st) (events st) (λ u v. ap (λ m. map.get m (connection (node_of u.key) (node_of v.key))) h ∙ get-empty connection_cmp (connection (node_of u.key) (node_of v.key))))
-    ∙ append-none (train_edges o 0 st.trains)
 
 -- the edges along a train join events of it
 pub record IsOf (train : ℕ) (e : Edge) : Type 0 where

@@ -1,30 +1,27 @@
--- The local rule at an event where nothing is reported and all edges run along trains.
-use Rattle.std.proofs.Common.{◌≡◌, ℕ, ◌+◌, ◌<◌, ◌^◌, Bool, true, false, ◌&&◌, List, [], ◌∷◌, map, max, nat_eq, refl, sym, ◌∙◌, ap, subst, arith, Some, None, unwrap_or, is_some, find}
+-- The local rule at an event where nothing is reported.
+use Rattle.std.proofs.Common.{◌≡◌, ℕ, ◌+◌, ◌<◌, ◌^◌, Bool, true, false, ◌&&◌, List, [], ◌∷◌, length, max, nat_eq, refl, sym, ◌∙◌, ap, subst, arith, Some, None, unwrap_or, is_some, find}
 use Rattle.std.specs.List.{All, fold}
-use Rattle.std.specs.Option.{option_map}
-use Rattle.std.proofs.lemmas.Bool.{cond_both, cond-true}
+use Rattle.std.specs.Option.{option_map, option_map_or}
+use Rattle.std.proofs.lemmas.Bool.{cond_both}
 use Rattle.std.proofs.lemmas.List.Elements.{All-append, All-cons, All-nil, All-tail, All-head}
 use Rattle.mt_base.specs.declared.keys.Key.{Key}
 use Rattle.mt_base.specs.declared.keys.Node.{Node}
-use Rattle.mt_base.specs.declared.options.Opts.{Opts}
 use Rattle.mt_base.specs.Order.{is_same, node_of}
 use Rattle.delay_model.specs.declared.state.Call.{Call}
 use Rattle.delay_model.specs.declared.state.Train.{Train}
 use Rattle.delay_model.specs.declared.state.State.{State}
 use Rattle.delay_model.specs.declared.state.Event.{Event}
 use Rattle.delay_model.specs.declared.state.Edge.{Edge as ModelEdge}
-use Rattle.delay_model.specs.declared.state.EdgeKind.{EdgeKind}
-use Rattle.delay_model.specs.declared.state.EdgeKind.TheVariants.{Train as AlongTrain, Planned, Kept as KeptEdge}
 use Rattle.delay_model.specs.Effect.{is_call}
 use Rattle.delay_model.specs.Events.{events, events_from, events_of, events_at, arrival_of, departure_of, event_named, live_report, is_live}
 use Rattle.delay_model.specs.Edges.{edges}
-use Rattle.delay_model.specs.Timing.{incoming, first_report, after_key, cap, floor_of, counts, later, capped, local}
+use Rattle.delay_model.specs.Timing.{incoming, first_report, after_key, cap, floor_of, counts, later_of, later, capped, local}
 use Rattle.train_nodes.specs.Kept.{Kept, time_of, has_time}
 use Rattle.train_nodes.proofs.EventLemmas.{event_of_call}
-use Rattle.edge_rules.specs.declared.edges.Edge.{Edge}
-use Rattle.edge_rules.specs.AtEvent.{edges_to, given, kept_time, local_at, is_transfer}
-use Rattle.edge_rules.specs.Held.{bare, timetabled, IsUnderWay, IsUnreported}
-use Rattle.edge_rules.proofs.Neighbours.{live-named, named-at, under-way, edges_to-named}
+use Rattle.edge_rules.specs.AtEvent.{edges_to, kept_time, local_at}
+use Rattle.edge_rules.specs.Timetabled.{Timetabled}
+use Rattle.edge_rules.specs.Held.{IsUnderWay, IsUnreported}
+use Rattle.edge_rules.proofs.Neighbours.{live-named, named-at, under-way}
 use Rattle.edge_rules.proofs.Given.{read}
 
 -- the event is not reported
@@ -91,73 +88,43 @@ rule es gs t v f h c e =
     ∙ ap (λ x. fold (later t) x (incoming gs v.key)) e
 
 -- the rule at a live event: the latest of its floor and of what the edges to it ask for
-pub rule-at : (o : Opts) (st : State) (k : Kept) (n : Node) (f x : ℕ) → All IsUnderWay st.trains → is_live st n ≡ true → option_map floor_of (event_named st n) ≡ Some f → x ≡ fold (later (kept_time k)) f (edges_to (timetabled o st) n) → local_at (timetabled o st) k n ≡ Some x
-rule-at o st k n f x h live floor e =
+pub rule-at : (g : Timetabled) (k : Kept) (n : Node) (f x : ℕ) → All IsUnderWay g.state.trains → is_live g.state n ≡ true → option_map floor_of (event_named g.state n) ≡ Some f → x ≡ fold (later (kept_time k)) f (edges_to g n) → local_at g k n ≡ Some x
+rule-at g k n f x h live floor e =
+    let st = g.state in
     let named = live-named st n live in
     let v = named.0 in
     let es = events st in
-    let gs = edges (bare o) st in
+    let gs = edges g.network st in
     let t = kept_time k in
     ap (option_map (local es gs t)) named.1
     ∙ ap Some (rule es gs t v f (named-open st n v h named.1) (no-cap st v h) (read floor_of (event_named st n) v f named.1 floor))
-    ∙ ap (λ ds. Some (fold (later t) f ds)) (sym (edges_to-named o st n v named.1))
+    ∙ ap (λ o. Some (fold (later t) f (option_map_or (λ (v : Event). incoming gs v.key) o []))) (sym named.1)
     ∙ ap Some (sym e)
 
--- the one edge of the model that is given out as this one
-pub record IsOne (gs : List ModelEdge) (e : Edge) : Type 0 where
-  pub model : ModelEdge
-  pub whole : gs ≡ model ∷ []
-  pub same : given model ≡ e
+-- part of an evaluation: the edges that are left give, from the time so far, what all give from the floor
+pub record IsAhead (k : Kept) (all : List ModelEdge) (floor steps : ℕ) (left : List ModelEdge) (time spent : ℕ) : Type 0 where
+  pub rule : fold (later (kept_time k)) time left ≡ fold (later (kept_time k)) floor all
+  pub cost : spent + length left ≡ steps + length all
+  pub held : All (λ (e : ModelEdge). has_time k (node_of e.from) ≡ true) left
+  pub fits : All (λ (e : ModelEdge). kept_time k e.from + e.weight < 2 ^ 25) left
+  pub small : time < 2 ^ 25
 
-pub one-edge : (gs : List ModelEdge) (e : Edge) → e ∷ [] ≡ map given gs → IsOne gs e
-one-edge [] e h = absurd (cc)
-one-edge (g ∷ []) e h = record { model = g; whole = refl; same = cc }
-one-edge (g ∷ d ∷ ds) e h = absurd (cc)
-
-pub no-edge : (gs : List ModelEdge) → [] ≡ map given gs → gs ≡ []
-no-edge [] h = refl
-no-edge (g ∷ gs) h = absurd (cc)
-
-counts-along : (kind : EdgeKind) (s asked : ℕ) → is_transfer kind ≡ false → counts kind s asked ≡ true
-counts-along AlongTrain s asked h = refl
-counts-along KeptEdge s asked h = absurd (cc)
-counts-along (Planned wait) s asked h = absurd (cc)
-
--- what an edge along a train asks for always counts
-later-along : (t : Key → ℕ) (f : ℕ) (g : ModelEdge) → is_transfer g.kind ≡ false → later t f g ≡ max f (t g.from + g.weight)
-later-along t f g h =
-    let asked = t g.from + g.weight in
-    cond-true (counts g.kind g.to.time asked) (max f asked) f (counts-along g.kind g.to.time asked h)
-
-kept-is : (k : Kept) (key : Key) (n : Node) (x : ℕ) → node_of key ≡ n → time_of k n ≡ Some x → kept_time k key ≡ x
-kept-is k key n x e h = ap (λ m. unwrap_or (time_of k m) 0) e ∙ ap (λ r. unwrap_or r 0) h
-
--- what holds of each of the edges holds of the one
-one-all : (P : ModelEdge → Type 0) (gs : List ModelEdge) (e : Edge) (r : IsOne gs e) → All P gs → P r.model
-one-all P gs e r h = All-head P r.model [] (subst (All P) r.whole h)
-
--- a time is kept for its origin
-pub one-held : (gs : List ModelEdge) (e : Edge) (k : Kept) → IsOne gs e → All (λ g. has_time k (node_of g.from) ≡ true) gs → has_time k e.from ≡ true
-one-held gs e k r h =
-    ap (λ (d : Edge). has_time k d.from) (sym r.same) ∙ one-all (λ g. has_time k (node_of g.from) ≡ true) gs e r h
-
-one-time : (gs : List ModelEdge) (e : Edge) (k : Kept) (x : ℕ) (r : IsOne gs e) → time_of k e.from ≡ Some x → kept_time k r.model.from + r.model.weight ≡ x + e.weight
-one-time gs e k x r h =
-    let time = kept-is k r.model.from e.from x (ap (λ (d : Edge). d.from) r.same) h in
-    let weight = ap (λ (d : Edge). d.weight) r.same in
-    omega arith
-
--- what it asks for fits
-pub one-fits : (gs : List ModelEdge) (e : Edge) (k : Kept) (x : ℕ) → IsOne gs e → All (λ g. kept_time k g.from + g.weight < 2 ^ 25) gs → time_of k e.from ≡ Some x → x + e.weight < 2 ^ 25
-one-fits gs e k x r h t =
-    let fits = one-all (λ g. kept_time k g.from + g.weight < 2 ^ 25) gs e r h in
-    let time = one-time gs e k x r t in
-    omega arith
-
--- and counts
-pub one-later : (gs : List ModelEdge) (e : Edge) (k : Kept) (f x : ℕ) → IsOne gs e → e.transfer ≡ false → time_of k e.from ≡ Some x → max f (x + e.weight) ≡ fold (later (kept_time k)) f gs
-one-later gs e k f x r along h =
-    let t = kept_time k in
-    ap (max f) (sym (one-time gs e k x r h))
-    ∙ sym (later-along t f r.model (ap (λ (d : Edge). d.transfer) r.same ∙ along))
-    ∙ sym (ap (fold (later t) f) r.whole)
+-- one edge more
+pub ahead-more : (k : Kept) (all : List ModelEdge) (floor steps : ℕ) (left : List ModelEdge) (time spent : ℕ) (e : ModelEdge) (rest : List ModelEdge) (n : Node) (x new more : ℕ) → IsAhead k all floor steps left time spent → left ≡ e ∷ rest → n ≡ node_of e.from → time_of k n ≡ Some x → new ≡ later_of e time (x + e.weight) → more ≡ spent + 1 → IsAhead k all floor steps rest new more
+ahead-more k all floor steps left time spent e rest n x new more part is name read next cost =
+    let Has : ModelEdge → Type 0 = λ e. has_time k (node_of e.from) ≡ true in
+    let Fits : ModelEdge → Type 0 = λ e. kept_time k e.from + e.weight < 2 ^ 25 in
+    let fits = subst (All Fits) is part.fits in
+    let kept : kept_time k e.from ≡ x = ap (λ m. unwrap_or (time_of k m) 0) (sym name) ∙ ap (λ o. unwrap_or o 0) read in
+    let asked : x + e.weight < 2 ^ 25 = subst (λ y. y + e.weight < 2 ^ 25) kept (All-head Fits e rest fits) in
+    let small = part.small in
+    let count = sym (ap (λ es. spent + length es) is) ∙ part.cost in
+    record {
+      rule = ap (λ y. fold (later (kept_time k)) y rest) (next ∙ ap (λ y. later_of e time (y + e.weight)) (sym kept))
+          ∙ sym (ap (fold (later (kept_time k)) time) is)
+          ∙ part.rule;
+      cost = omega arith;
+      held = All-tail Has e rest (subst (All Has) is part.held);
+      fits = All-tail Fits e rest fits;
+      small = subst (λ y. y < 2 ^ 25) (sym next) (cond_both (counts e.kind e.to.time (x + e.weight)) (max time (x + e.weight)) time (λ y. y < 2 ^ 25) (λ _. omega arith) (λ _. small));
+    }

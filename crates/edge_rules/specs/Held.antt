@@ -1,26 +1,23 @@
 -- How a graph is seen, and what holds of it.
-use Rattle.std.specs.Prelude.{◌≡◌, [], None, All}
-use Rattle.std.specs.FinMap as map
+use Rattle.std.specs.Prelude.{◌≡◌, None, All, map}
+use Rattle.std.specs.FinMap as finmap
 use Rattle.mt_base.specs.declared.options.Opts.{Opts}
 use Rattle.mt_base.specs.Options.{IsInRange}
 use Rattle.delay_model.specs.declared.network.Network.{Network}
 use Rattle.delay_model.specs.declared.state.Call.{Call}
 use Rattle.delay_model.specs.declared.state.Train.{Train}
-use Rattle.delay_model.specs.declared.state.State.{State}
 use Rattle.delay_model.specs.Valid.{HasDistinctLabels}
+use Rattle.change_times.specs.ChangeTables.{ChangeTables}
+use Rattle.waiting_rules.specs.WaitTable.{WaitTable, parent_station}
 use Rattle.edge_rules.specs.Timetabled.{Timetabled}
 use Rattle.edge_rules.specs.declared.graph.Graph.TheInside.{Inside}
 
--- these options, and no stops, change rows or waiting rules
-abbrev pub bare : Opts → Network
-bare o = record { stops = []; transfers = []; rules = []; opts = o }
-
--- a state by these options alone: there are no stops, change rows or waiting rules yet
-abbrev pub timetabled : Opts → State → Timetabled
-timetabled o st = record { network = bare o; state = st }
+-- what no message changes: the stops with the change times between them, the waiting rules and the options
+abbrev pub network_of : ChangeTables → WaitTable → Opts → Network
+network_of changes waits o = record { stops = changes.stops; transfers = changes.transfers; rules = waits.rules; opts = o }
 
 abbrev pub seen : Inside → Timetabled
-seen a = timetabled a.opts a.trains
+seen a = record { network = network_of a.changes a.waits a.opts; state = a.trains }
 
 -- no event of the call is reported
 pub record IsUnreported (c : Call) : Type 0 where
@@ -32,8 +29,11 @@ pub record IsUnderWay (t : Train) : Type 0 where
   pub labels : HasDistinctLabels t.calls
   pub unreported : All IsUnreported t.calls
 
--- no connection is kept or dropped, no two calls of a train have one label, and nothing is reported
+-- no connection is kept or dropped, no two calls of a train have one label, and nothing is reported; the change times and the
+-- waits are of the same stops, and the change time where no row says one is the options'
 pub record IsHeld (a : Inside) : Type 0 where
   pub options : IsInRange a.opts
-  pub overrides : a.trains.overrides ≡ map.empty
+  pub default : a.changes.default ≡ a.opts.change
+  pub parents : a.waits.parents ≡ map parent_station a.changes.stops
+  pub overrides : a.trains.overrides ≡ finmap.empty
   pub trains : All IsUnderWay a.trains.trains

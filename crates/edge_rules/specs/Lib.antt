@@ -2,3 +2,5 @@ pub mod Timetabled
 pub mod AtEvent
 pub mod Held
 pub mod Neighbours
+pub mod Walk
+pub mod Located

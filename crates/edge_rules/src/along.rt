@@ -1,18 +1,17 @@
 //! The edges along the trains, found by the events beside an event.
 
-ghost use Rattle.std.specs.Prelude.{◌≡◌, ◌<◌, ◌^◌, [], ◌∷◌, IsTrue, Some, None, IfSome, All, map, false};
-ghost use Rattle.std.specs.FinMap as finmap;
+ghost use Rattle.std.specs.Prelude.{◌≡◌, ◌<◌, ◌^◌, [], ◌∷◌, IsTrue, Some, All};
 ghost use Rattle.std.specs.Option.{option_map, option_to_list};
 ghost use Rattle.delay_model.specs.declared.state.Event.{Event as AnEvent};
 ghost use Rattle.delay_model.specs.Edges.{edge_on};
 ghost use Rattle.delay_model.specs.Events.{event_named, is_live};
 ghost use Rattle.delay_model.specs.Timing.{floor_of};
 ghost use Rattle.train_nodes.specs.Calls.{has_event};
-ghost use Rattle.edge_rules.specs.AtEvent.{edges_to, edges_from, given};
-ghost use Rattle.edge_rules.specs.Held.{timetabled, IsUnderWay};
+ghost use Rattle.edge_rules.specs.AtEvent.{along_to, along_from};
+ghost use Rattle.edge_rules.specs.Held.{IsUnderWay};
 ghost use Rattle.edge_rules.specs.Neighbours.{previous_of, next_of, minimum_by};
 
-use crate::edges::Edge;
+use delay_model::state::{Edge, EdgeKind};
 use mt_base::keys::Node;
 use mt_base::numbers::Time;
 use mt_base::options::Opts;
@@ -80,32 +79,28 @@ fn minimum(opts: &Opts, dep: bool, from: Time, to: Time) -> u32
 fn edge_between(trains: &Trains, opts: &Opts, from: &Node, to: &Node) -> Option<Edge>
     requires from_there { IsTrue (has_event trains.now from.now) }
     requires to_there { IsTrue (has_event trains.now to.now) }
-    ensures edge { (u v : AnEvent) → event_named trains.now from.now ≡ Some u → event_named trains.now to.now ≡ Some v
+    ensures { (u v : AnEvent) → event_named trains.now from.now ≡ Some u → event_named trains.now to.now ≡ Some v
         → is_live trains.now from.now ≡ u.live → is_live trains.now to.now ≡ v.live
-        → option_to_list result ≡ map given (edge_on opts.now u (v ∷ [])) }
-    ensures along { IfSome result (λ e. e.transfer ≡ false) }
+        → option_to_list result ≡ edge_on opts.now u (v ∷ []) }
 {
     if !trains.live(*from) || !trains.live(*to) {
         return None;
     }
-    let departed = trains.scheduled(*from);
-    let arrived = trains.scheduled(*to);
+    let departed = trains.key(*from);
+    let arrived = trains.key(*to);
     Some(Edge {
-        from: *from,
-        to: *to,
-        weight: minimum(opts, from.dep, departed, arrived),
-        kept: false,
-        transfer: false,
+        from: departed,
+        to: arrived,
+        weight: minimum(opts, from.dep, departed.time, arrived.time),
+        kind: EdgeKind::Train,
     })
 }
 
 /// The edge along its train that leads to an event, if there is one.
 pub(crate) fn edge_into(trains: &Trains, opts: &Opts, n: &Node) -> Option<Edge>
-    requires overrides { trains.now.overrides ≡ finmap.empty }
     requires trains { All IsUnderWay trains.now.trains }
     requires live { IsTrue (is_live trains.now n.now) }
-    ensures edge { option_to_list result ≡ map given (edges_to (timetabled opts.now trains.now) n.now) }
-    ensures along { IfSome result (λ e. e.transfer ≡ false) }
+    ensures { option_to_list result ≡ along_to opts.now trains.now n.now }
 {
     match previous(trains, n) {
         None => None,
@@ -115,11 +110,9 @@ pub(crate) fn edge_into(trains: &Trains, opts: &Opts, n: &Node) -> Option<Edge>
 
 /// The edge along its train that leaves an event, if there is one.
 pub(crate) fn edge_out(trains: &Trains, opts: &Opts, n: &Node) -> Option<Edge>
-    requires overrides { trains.now.overrides ≡ finmap.empty }
     requires trains { All IsUnderWay trains.now.trains }
     requires live { IsTrue (is_live trains.now n.now) }
-    ensures edge { option_to_list result ≡ map given (edges_from (timetabled opts.now trains.now) n.now) }
-    ensures along { IfSome result (λ e. e.transfer ≡ false) }
+    ensures { option_to_list result ≡ along_from opts.now trains.now n.now }
 {
     match next(trains, n) {
         None => None,

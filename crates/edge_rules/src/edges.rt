@@ -1,11 +1,13 @@
 //! Edges by the names of their events, and the edges at one event one after another.
 
-ghost use Rattle.std.specs.Prelude.{◌≡◌, List};
-ghost use Rattle.std.specs.Option.{option_to_list};
+ghost use Rattle.std.specs.Prelude.{◌≡◌};
 ghost use Rattle.std.specs.Iterator.{YieldsFirst, item_count};
+ghost use Rattle.edge_rules.specs.AtEvent.{given};
 
+use crate::edges_at::EdgesAt;
+use delay_model::state::{Edge as ModelEdge, EdgeKind};
 use mt_base::keys::Node;
-use std::marker::{Model, PhantomData};
+use std::marker::Model;
 
 /// An edge of the dependency graph: it asks that `to` takes place `weight` seconds after `from` or later.
 #[derive(Clone, Copy, Debug, PartialEq, Eq)]
@@ -29,30 +31,17 @@ pub struct Edge {
 /// The edges at one event of a graph, each once. It is seen as the list of the edges that are still to come.
 #[derive(Drop)]
 pub struct Edges<'a> {
-    next: Option<Edge>,
-    graph: PhantomData<&'a Edge>,
+    pub(crate) edges: EdgesAt<'a>,
 }
 
 impl<'a> Model for Edges<'a> {
-    ghost use Rattle.std.specs.Prelude.{List};
-    ghost use Rattle.std.specs.Option.{option_to_list};
+    ghost use Rattle.std.specs.Prelude.{List, map};
+    ghost use Rattle.edge_rules.specs.AtEvent.{given};
     ghost use Rattle.edge_rules.specs.declared.edges.Edge.{Edge};
 
     ghost Value = { List Edge };
 
-    ghost view = { λ s. option_to_list s.next };
-}
-
-impl<'a> Edges<'a> {
-    /// The edge along a train, if there is one.
-    pub(crate) fn along(next: Option<Edge>) -> Edges<'a>
-        ensures { result ≡ option_to_list next }
-    {
-        Edges {
-            next,
-            graph: PhantomData,
-        }
-    }
+    ghost view = { λ s. map given s.edges };
 }
 
 impl<'a> Iterator for Edges<'a> {
@@ -63,6 +52,22 @@ impl<'a> Iterator for Edges<'a> {
     ghost remaining = { item_count (λ s. s) };
 
     fn next(&mut self) -> Option<Edge> {
-        self.next.take()
+        match self.edges.next() {
+            Some(edge) => Some(given(&edge)),
+            None => None,
+        }
+    }
+}
+
+/// An edge with its events by name.
+fn given(edge: &ModelEdge) -> Edge
+    ensures { result ≡ given edge.now }
+{
+    Edge {
+        from: edge.from.node(),
+        to: edge.to.node(),
+        weight: edge.weight,
+        kept: matches!(edge.kind, EdgeKind::Kept),
+        transfer: !matches!(edge.kind, EdgeKind::Train),
     }
 }

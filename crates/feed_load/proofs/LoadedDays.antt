@@ -1,9 +1,12 @@
 -- What holds of a timetable that was loaded.
-use Rattle.std.proofs.Common.{rules, ◌≡◌, ℕ, ◌+◌, ◌*◌, ◌≤◌, List, [], ◌∷◌, true, false, cond, nat_lt, None, Some, length, map, All, refl, arith, inl, inr, length-append}
+use Rattle.std.proofs.Common.{rules, ◌≡◌, ℕ, ◌+◌, ◌*◌, ◌≤◌, List, [], ◌∷◌, true, false, cond, nat_lt, None, Some, length, map, All, refl, ap, arith, inl, inr, length-append}
 use Rattle.std.proofs.lemmas.Bool.{cases_lt}
 use Rattle.std.proofs.lemmas.List.Sums.{sum_by-cons}
 use Rattle.std.proofs.lemmas.List.Elements.{All-nil, All-cons}
 use Rattle.mt_base.specs.declared.options.Opts.{Opts}
+use Rattle.change_times.specs.ChangeTables.{without_id}
+use Rattle.waiting_rules.specs.WaitTable.{parent_station}
+use Rattle.mt_base.specs.declared.tables.StopRow.{StopRow}
 use Rattle.mt_base.specs.declared.tables.CallRow.{CallRow}
 use Rattle.mt_base.specs.declared.tables.What.TheVariants.{Trains, Nodes}
 use Rattle.mt_base.specs.Options.{IsInRange}
@@ -56,3 +59,8 @@ few-nodes calls rs o range h =
     let many = from-length calls 0 rs in
     let few = few-calls (length rs) (count_calls calls rs) h in
     omega (arith, many, few, range.spare_calls)
+
+-- the parent stations of locations without their ids
+pub parents-without-ids : (stops : List StopRow) → map parent_station (map without_id stops) ≡ map parent_station stops
+parents-without-ids [] = refl
+parents-without-ids (row ∷ rows) = ap (λ ps. parent_station row ∷ ps) (parents-without-ids rows)

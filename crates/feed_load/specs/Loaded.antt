@@ -3,13 +3,16 @@ use Rattle.std.specs.Prelude.{ℕ, Option, None, Some, Result, Ok, Err}
 use Rattle.mt_base.specs.declared.options.Opts.{Opts}
 use Rattle.mt_base.specs.declared.tables.Tables.{Tables}
 use Rattle.mt_base.specs.declared.tables.What.{What}
+use Rattle.mt_base.specs.declared.tables.What.TheVariants.{Pairs}
+use Rattle.change_times.specs.ChangeTables.{tables_of}
+use Rattle.change_times.specs.Reach.{pairs}
 use Rattle.delay_model.specs.declared.state.State.{State}
 use Rattle.gtfs_tables.specs.declared.refusals.FeedRefusal.{FeedRefusal}
 use Rattle.gtfs_tables.specs.declared.refusals.FeedRefusal.TheVariants.{TooMany}
 use Rattle.gtfs_tables.specs.declared.refusals.FeedError.{FeedError}
 use Rattle.gtfs_tables.specs.declared.refusals.FeedError.TheVariants.{Refused, OutOfMemory}
 use Rattle.gtfs_tables.specs.Checks.{◌>>=◌}
-use Rattle.gtfs_tables.specs.Feeds.{Contents, tables_of}
+use Rattle.gtfs_tables.specs.Feeds.{Contents, at_most, tables_of as tables_in}
 use Rattle.schedule_build.specs.declared.faults.ExpandFault.{ExpandFault}
 use Rattle.schedule_build.specs.declared.faults.ExpandFault.TheVariants as build
 use Rattle.schedule_build.specs.Directory.{Names, names_of}
@@ -29,9 +32,16 @@ unless_too_many (Some what) timetable = Err (TooMany what)
 abbrev pub days_loaded : Tables → ℕ → ℕ → Opts → Result Timetable FeedRefusal
 days_loaded t first days o = unless_too_many (too_many t.calls (all_runs t first days)) (schedule t first days o, names_of t first days)
 
--- the same, from what the feed holds: first of all its tables are read
+-- there are not too many pairs of a stop or station and a stop to which one can change from it
+abbrev pub few_pairs : Tables → Opts → Result (Unit {0}) FeedRefusal
+few_pairs t o = at_most 4000000 Pairs (pairs (tables_of t o.change))
+
+-- the same, from what the feed holds: first of all its tables are read, and then its pairs are counted
 unfoldable pub loaded : Contents → ℕ → ℕ → Opts → Result Timetable FeedRefusal
-loaded contents first days o = tables_of contents >>= λ t. days_loaded t first days o
+loaded contents first days o = do
+  t ← tables_in contents
+  _ ← few_pairs t o
+  days_loaded t first days o
 
 -- why a feed is not loaded, where its schedule is not built
 abbrev pub schedule_error : ExpandFault → FeedError

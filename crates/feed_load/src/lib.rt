@@ -3,4 +3,4 @@
 
 pub mod load;
 
-pub use load::load_feed;
+pub use load::{Loaded, load_feed};

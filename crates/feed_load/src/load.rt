@@ -1,24 +1,33 @@
 //! A timetable from a feed.
 
-ghost use Rattle.std.specs.Prelude.{◌≡◌, ◌+◌, ◌*◌, ◌<◌, ◌≤◌, ℕ, List, Option, Some, All, IfOk, IsErrOf, length};
+ghost use Rattle.std.specs.Prelude.{◌≡◌, ◌+◌, ◌*◌, ◌<◌, ◌≤◌, ℕ, List, Option, Ok, Some, All, IfOk, IsErrOf, length, map};
 ghost use Rattle.std.specs.FinMap.{empty};
 ghost use Rattle.mt_base.specs.Civil.{IsCivil};
 ghost use Rattle.mt_base.specs.Options.{IsInRange};
+ghost use Rattle.mt_base.specs.declared.tables.What.TheVariants.{Pairs};
 ghost use Rattle.mt_io.specs.Causes.{Rose};
+ghost use Rattle.delay_model.specs.declared.network.Network.{Network as ANetwork};
+ghost use Rattle.change_times.specs.Reach.{pairs};
 ghost use Rattle.delay_model.specs.Events.{events};
 ghost use Rattle.delay_model.specs.Valid.{IsValid};
-ghost use Rattle.edge_rules.specs.Held.{IsUnderWay, bare};
-ghost use Rattle.gtfs_tables.specs.Feeds.{contents_of};
+ghost use Rattle.change_times.specs.ChangeTables.{HaveSameChanges, tables_of};
+ghost use Rattle.waiting_rules.specs.WaitTable.{parent_station, wait_table};
+ghost use Rattle.edge_rules.specs.Held.{IsUnderWay, network_of};
+ghost use Rattle.mt_base.specs.declared.tables.Tables.{Tables as ATables};
+ghost use Rattle.gtfs_tables.specs.Feeds.{at_most, contents_of, tables_of as tables_in};
 ghost use Rattle.gtfs_tables.specs.Refusals.{Yields};
 ghost use Rattle.feed_load.specs.Loaded.{days_loaded, loaded, schedule_error};
 
+use change_times::{BuildFault, Changes};
 use feed_tables::FeedTables;
 use gtfs_tables::{FeedError, FeedRefusal, read_tables};
 use mt_base::options::Opts;
+use mt_base::tables::What;
 use mt_io::Feed;
 use schedule_build::{Directory, ExpandFault, expand, schedules_are_valid};
 use std::alloc::Global;
 use train_nodes::Trains;
+use waiting_rules::Waits;
 
 /// Why a feed is not loaded, where its schedule is not built.
 fn schedule_error(fault: ExpandFault) -> FeedError
@@ -30,7 +39,37 @@ fn schedule_error(fault: ExpandFault) -> FeedError
     }
 }
 
-/// The timetable of so many days from the date `first` on, from the tables of a feed.
+/// What a feed makes: its trains with their names, its change times and its waits.
+#[derive(Drop)]
+pub struct Loaded {
+    /// The trains of the loaded days.
+    pub trains: Trains,
+    /// The names of what they number.
+    pub directory: Directory,
+    /// The change times between its stops.
+    pub changes: Changes,
+    /// How long its trains wait.
+    pub waits: Waits,
+}
+
+/// The change times of a feed.
+fn load_changes(alloc: Global, t: &FeedTables, default: u32) -> Result<Changes, FeedError>
+    requires default_least { 1 ≤ default }
+    requires default_most { default ≤ 3600 }
+    ensures few { Yields (λ _. tt) result (at_most 4000000 Pairs (pairs (tables_of t.now default))) }
+    ensures same { IfOk result (HaveSameChanges (tables_of t.now default)) }
+    ensures failed { IsErrOf result FeedError.ReadFault → ⊥ }
+{
+    match Changes::build(alloc, t, default) {
+        Ok(changes) => Ok(changes),
+        Err(BuildFault::TooMany) => Err(FeedError::Refused(FeedRefusal::TooMany {
+            what: What::Pairs,
+        })),
+        Err(BuildFault::OutOfMemory) => Err(FeedError::OutOfMemory),
+    }
+}
+
+/// The trains and the names of so many days from the date `first` on, from the tables of a feed.
 fn load_days(
     alloc: Global,
     t: &FeedTables,
@@ -46,7 +85,7 @@ fn load_days(
     ensures failed { IsErrOf result FeedError.ReadFault → ⊥ }
     ensures under_way { IfOk result (λ r. All IsUnderWay r.0.trains) }
     ensures overrides { IfOk result (λ r. r.0.overrides ≡ empty) }
-    ensures valid { IfOk result (λ r. IsValid (bare opts.now) r.0) }
+    ensures valid { IfOk result (λ r. (nw : ANetwork) → nw.opts ≡ opts.now → IsValid nw r.0) }
     ensures nodes { IfOk result (λ r. length (events r.0) + 2 * r.0.spare_calls ≤ 2097152) }
 {
     schedules_are_valid(t, first, days, opts);
@@ -56,9 +95,10 @@ fn load_days(
     }
 }
 
-/// The timetable of so many days from `first` on, a date as the number YYYYMMDD of a year up to 2100, from the feed in a folder, and the
-/// names of what it numbers. There is room for what the options spare. `Refused` has the first cause to refuse the feed: a fault of its
-/// tables, or more than 200,000 trains, or else more than 2,000,000 events, two for each call. `ReadFault` comes only where the feed failed.
+/// What the feed in a folder makes on so many days from `first` on, a date as the number YYYYMMDD of a year up to 2100. There is room
+/// for what the options spare. `Refused` has the first cause to refuse the feed: a fault of its tables; more than 4,000,000 pairs of a
+/// stop or station and a stop with a change from the first to the second; more than 200,000 trains; or more than 2,000,000 nodes, two for
+/// each call. `ReadFault` comes only where the feed failed.
 pub fn load_feed<F: Feed>(
     alloc: Global,
     feed: &mut F,
@@ -66,20 +106,32 @@ pub fn load_feed<F: Feed>(
     first: u32,
     days: u32,
     opts: &Opts,
-) -> Result<(Trains, Directory), FeedError>
+) -> Result<Loaded, FeedError>
     requires civil { IsCivil first }
     requires year { first < 21010000 }
     requires days { (1 ≤ days) × (days ≤ 31) }
     requires options { IsInRange opts.now }
     ensures exact { (files : List ℕ → List ℕ → Option (List ℕ)) → F.tables feed.old ≡ Some files
-        → Yields (λ r. r) result (loaded (contents_of files folder.now) first days opts.now) }
+        → Yields (λ r. (r.trains, r.directory)) result (loaded (contents_of files folder.now) first days opts.now) }
+    ensures network { IfOk result (λ r. (files : List ℕ → List ℕ → Option (List ℕ)) (t : ATables) → F.tables feed.old ≡ Some files
+        → tables_in (contents_of files folder.now) ≡ Ok t → HaveSameChanges (tables_of t opts.now.change) r.changes × (r.waits ≡ wait_table t.stops t.rules)) }
+    ensures default { IfOk result (λ r. r.changes.default ≡ opts.now.change) }
+    ensures parents { IfOk result (λ r. r.waits.parents ≡ map parent_station r.changes.stops) }
+    ensures valid { IfOk result (λ r. IsValid (network_of r.changes r.waits opts.now) r.trains) }
+    ensures under_way { IfOk result (λ r. All IsUnderWay r.trains.trains) }
+    ensures overrides { IfOk result (λ r. r.trains.overrides ≡ empty) }
+    ensures nodes { IfOk result (λ r. length (events r.trains) + 2 * r.trains.spare_calls ≤ 2097152) }
     ensures failed { IsErrOf result FeedError.ReadFault → Rose (F.faults feed.old) (F.faults feed.new) }
     ensures later { F.faults feed.old ≤ F.faults feed.new }
-    ensures under_way { IfOk result (λ r. All IsUnderWay r.0.trains) }
-    ensures overrides { IfOk result (λ r. r.0.overrides ≡ empty) }
-    ensures valid { IfOk result (λ r. IsValid (bare opts.now) r.0) }
-    ensures nodes { IfOk result (λ r. length (events r.0) + 2 * r.0.spare_calls ≤ 2097152) }
 {
     let tables = read_tables(alloc, feed, folder)?;
-    load_days(alloc, &tables, first, days, opts)
+    let changes = load_changes(alloc, &tables, opts.change)?;
+    let (trains, directory) = load_days(alloc, &tables, first, days, opts)?;
+    let waits = Waits::build(alloc, &tables)?;
+    Ok(Loaded {
+        trains,
+        directory,
+        changes,
+        waits,
+    })
 }

@@ -1,18 +1,20 @@
 //! The timetable.
 
-ghost use Rattle.std.specs.Prelude.{◌≡◌, ◌+◌, ◌*◌, ◌≤◌, None, Some, All, IfOk, IfErr, length};
+ghost use Rattle.std.specs.Prelude.{◌≡◌, ◌+◌, ◌*◌, ◌≤◌, None, Some, All, IfOk, IfErr, length, map};
 ghost use Rattle.std.specs.FinMap as finmap;
 ghost use Rattle.delay_model.specs.Events.{events};
 ghost use Rattle.delay_model.specs.Refusals.{refusal};
 ghost use Rattle.delay_model.specs.Touched.{changed_count};
 ghost use Rattle.delay_model.specs.Valid.{IsValid};
-ghost use Rattle.edge_rules.specs.Held.{bare, IsUnderWay};
+ghost use Rattle.waiting_rules.specs.WaitTable.{parent_station};
+ghost use Rattle.edge_rules.specs.Held.{network_of, IsUnderWay};
 ghost use Rattle.graph_edit.specs.Values.{IsForecast, Answers};
 ghost use Rattle.timetable.specs.LiveTimes.{live_time};
 ghost use Rattle.timetable.specs.Running.{stepped};
 
 use crate::events::{blank_times, key_order, list_nodes};
 use crate::settle::{settle, settle_all};
+use change_times::Changes;
 use delay_model::messages::Refusal;
 use edge_rules::Graph;
 use graph_edit::{apply_value, check_value};
@@ -24,6 +26,7 @@ use std::alloc::Global;
 use std::marker::{Brand, Model};
 use std::sync::ledger::{Blank, Ledger};
 use train_nodes::{Msg, NodeTimes, Steps, Trains};
+use waiting_rules::Waits;
 
 /// The trains with the time of each live event, and how many messages were accepted.
 #[derive(Drop)]
@@ -50,18 +53,26 @@ impl Model for Timetable {
 }
 
 impl Timetable {
-    /// The timetable of these trains, by these options and with no stops, change rows or waiting rules yet. No message was accepted.
-    pub fn build(alloc: Global, trains: Trains, opts: Opts) -> Result<Timetable, OutOfMemory>
-        requires valid { IsValid (bare opts) trains }
+    /// The timetable of these trains, by these change times, waiting rules and options. No message was accepted.
+    pub fn build(
+        alloc: Global,
+        trains: Trains,
+        changes: Changes,
+        waits: Waits,
+        opts: Opts,
+    ) -> Result<Timetable, OutOfMemory>
+        requires valid { IsValid (network_of changes waits opts) trains }
+        requires default { changes.default ≡ opts.change }
+        requires parents { waits.parents ≡ map parent_station changes.stops }
         requires overrides { trains.overrides ≡ finmap.empty }
         requires trains { All IsUnderWay trains.trains }
         requires nodes { length (events trains) + 2 * trains.spare_calls ≤ 2097152 }
-        ensures { IfOk result (λ t. t ≡ record { network = bare opts; state = trains; count = 0 }) }
+        ensures { IfOk result (λ t. t ≡ record { network = network_of changes waits opts; state = trains; count = 0 }) }
     {
         let nodes = list_nodes(alloc, &trains)?;
         let mut times = blank_times(alloc, &nodes, 2 * trains.spare_calls())?;
         let order = key_order(alloc, &trains, &nodes)?;
-        let graph = Graph::build(trains, opts);
+        let graph = Graph::build(trains, changes, waits, opts);
         settle_all::<Brand>(&graph, &order, &mut times, Blank::new(1));
         Ok(Timetable {
             graph,

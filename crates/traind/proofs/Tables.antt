@@ -1,5 +1,5 @@
 -- What the words and the feed give is one thing.
-use Rattle.std.proofs.Common.{◌≡◌, ◌∙◌, ℕ, List, Option, Some, None, Result, Ok, Err, sym, subst, ap, arith}
+use Rattle.std.proofs.Common.{◌≡◌, ◌∙◌, ℕ, List, [], Option, Some, None, Result, Ok, Err, sym, subst, ap, arith}
 use Rattle.std.specs.Prelude.{unwrap_or}
 use Rattle.delay_model.specs.declared.network.Network.{Network}
 use Rattle.delay_model.specs.declared.state.State.{State}
@@ -8,7 +8,12 @@ use Rattle.feed_load.specs.Loaded.{Timetable}
 use Rattle.gtfs_tables.specs.declared.refusals.FeedRefusal.{FeedRefusal}
 use Rattle.schedule_build.specs.Directory.{Names}
 use Rattle.timetable.specs.Running.{Running}
-use Rattle.traind.specs.Feeds.{network, Told, asked_in}
+use Rattle.mt_base.specs.declared.tables.Tables.{Tables}
+use Rattle.mt_io.specs.Lines.{Line}
+use Rattle.traind.specs.Feeds.{network, Told, tables_in, asked_in}
+use Rattle.traind.specs.Networks.{IsSame}
+use Rattle.traind.specs.Output.{output, replies}
+use Rattle.traind.proofs.Networks.{output-same, replies-same}
 use Rattle.traind.specs.Runs.{Loads, IsRefused}
 
 pub some-same : (a b : List ℕ) → Some a ≡ Some b → a ≡ b
@@ -35,16 +40,35 @@ pub nothing-asked : (words : List (List ℕ)) (a : Asked) → asked_of words ≡
 nothing-asked words a none some = absurd (cc (none, some))
 
 -- the timetable that was loaded is the one that the words ask for
-pub same-start : (words : List (List ℕ)) (tables : Option Told) (a : Asked) (t : Running) (dir : Names) (P : Network → State → Names → Type 0) → asked_of words ≡ Some a
-    → ((told : Told) → tables ≡ Some told → asked_in told a ≡ Ok (t.state, dir)) → t.network ≡ network a.opts
-    → P t.network t.state dir → (nw : Network) (st : State) (names : Names) → Loads words tables nw st names → P nw st names
-same-start words tables a t dir P asked held nw_is p nw st names loads =
+pub record IsStart (nw : Network) (st : State) (names : Names) (t : Running) (dir : Names) : Type 0 where
+  pub network : IsSame nw t.network
+  pub state : st ≡ t.state
+  pub named : names ≡ dir
+
+pub same-start : (words : List (List ℕ)) (tables : Option Told) (a : Asked) (t : Running) (dir : Names) → asked_of words ≡ Some a
+    → ((told : Told) → tables ≡ Some told → asked_in told a ≡ Ok (t.state, dir))
+    → ((told : Told) (rows : Tables) → tables ≡ Some told → tables_in told a ≡ Ok rows → IsSame (network rows a.opts) t.network)
+    → (nw : Network) (st : State) (names : Names) → Loads words tables nw st names → IsStart nw st names t dir
+same-start words tables a t dir asked held same_nw nw st names loads =
     let same : loads.asked ≡ a = asked-same words loads.asked a loads.asked_is asked in
     let both : Ok (st, names) ≡ Ok (t.state, dir) = sym (subst (λ (b : Asked). asked_in loads.told b ≡ Ok (st, names)) same loads.holds) ∙ held loads.told loads.told_is in
-    let state : st ≡ t.state = ap (λ (r : Result Timetable FeedRefusal). (made r (st, names)).0) both in
-    let named : names ≡ dir = ap (λ (r : Result Timetable FeedRefusal). (made r (st, names)).1) both in
-    let of : t.network ≡ nw = nw_is ∙ ap (λ (b : Asked). network b.opts) (sym same) ∙ loads.network_is in
-    subst (λ (n : Network). P n st names) of (subst (λ (s : State). P t.network s names) (sym state) (subst (λ (ns : Names). P t.network t.state ns) (sym named) p))
+    let rows_are : tables_in loads.told a ≡ Ok loads.rows = subst (λ (b : Asked). tables_in loads.told b ≡ Ok loads.rows) same loads.rows_are in
+    let nw_is : network loads.rows a.opts ≡ nw = ap (λ (b : Asked). network loads.rows b.opts) (sym same) ∙ loads.network_is in
+    record {
+      network = subst (λ (n : Network). IsSame n t.network) nw_is (same_nw loads.told loads.rows loads.told_is rows_are);
+      state = ap (λ (r : Result Timetable FeedRefusal). (made r (st, names)).0) both;
+      named = ap (λ (r : Result Timetable FeedRefusal). (made r (st, names)).1) both;
+    }
+
+-- its output is the one for the words and the feed
+pub output-is : (nw : Network) (st : State) (names : Names) (t : Running) (dir : Names) → IsStart nw st names t dir → (lines : List Line) → output t.network dir t.state lines ≡ output nw names st lines
+output-is nw st names t dir h lines =
+    output-same nw t.network h.network dir t.state lines ∙ ap (λ (ns : Names). output nw ns t.state lines) (sym h.named) ∙ ap (λ (s : State). output nw names s lines) (sym h.state)
+
+-- and so are its replies
+pub replies-are : (nw : Network) (st : State) (names : Names) (t : Running) (dir : Names) → IsStart nw st names t dir → (lines : List Line) → replies t.network dir t.state [] lines ≡ replies nw names st [] lines
+replies-are nw st names t dir h lines =
+    replies-same nw t.network h.network dir t.state [] lines ∙ ap (λ (ns : Names). replies nw ns t.state [] lines) (sym h.named) ∙ ap (λ (s : State). replies nw names s [] lines) (sym h.state)
 
 -- a feed from which a timetable was loaded is not refused
 pub not-refused : (words : List (List ℕ)) (tables : Option Told) (a : Asked) (timetable : Timetable) (why : FeedRefusal) → asked_of words ≡ Some a

@@ -2,6 +2,7 @@ pub mod Causes
 pub mod Feeds
 pub mod Fronts
 pub mod Lines
+pub mod Networks
 pub mod Output
 pub mod Runs
 pub mod Standing

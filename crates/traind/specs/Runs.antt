@@ -2,13 +2,14 @@
 use Rattle.std.specs.Prelude.{ℕ, ◌≡◌, ◌<◌, List, [], Some, Ok, Err, true, false, length}
 use Rattle.std.specs.declared.option.Option.{Option}
 use Rattle.std.specs.Io.KnownBytes.{Appends, Consumes}
+use Rattle.mt_base.specs.declared.tables.Tables.{Tables}
 use Rattle.delay_model.specs.declared.network.Network.{Network}
 use Rattle.delay_model.specs.declared.state.State.{State}
 use Rattle.command_words.specs.Words.{Asked, asked_of}
 use Rattle.gtfs_tables.specs.declared.refusals.FeedRefusal.{FeedRefusal}
 use Rattle.mt_io.specs.Lines.{lines_of}
 use Rattle.schedule_build.specs.Directory.{Names}
-use Rattle.traind.specs.Feeds.{network, Told, asked_in}
+use Rattle.traind.specs.Feeds.{network, Told, tables_in, asked_in}
 use Rattle.traind.specs.Fronts.{AppendsFront}
 use Rattle.traind.specs.Output.{output, replies}
 
@@ -18,7 +19,9 @@ pub record Loads (words : List (List ℕ)) (tables : Option Told) (nw : Network)
   pub told : Told
   pub asked_is : asked_of words ≡ Some asked
   pub told_is : tables ≡ Some told
-  pub network_is : network asked.opts ≡ nw
+  pub rows : Tables
+  pub rows_are : tables_in told asked ≡ Ok rows
+  pub network_is : network rows asked.opts ≡ nw
   pub holds : asked_in told asked ≡ Ok (st, names)
 
 -- the words ask for a feed that tells its tables and is to be refused for this

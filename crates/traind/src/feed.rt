@@ -1,12 +1,14 @@
 //! The timetable that a feed holds.
 
-ghost use Rattle.std.specs.Prelude.{◌≡◌, ◌<◌, ◌≤◌, Some, IfOk, IsErrOf};
+ghost use Rattle.std.specs.Prelude.{◌≡◌, ◌<◌, ◌≤◌, Ok, Some, IfOk, IsErrOf};
 ghost use Rattle.command_words.specs.Held.{asked_view};
 ghost use Rattle.gtfs_tables.specs.Refusals.{Yields};
 ghost use Rattle.mt_base.specs.Civil.{IsCivil};
 ghost use Rattle.mt_base.specs.Options.{IsInRange};
 ghost use Rattle.mt_io.specs.Causes.{Rose};
-ghost use Rattle.traind.specs.Feeds.{network, Told, asked_in};
+ghost use Rattle.mt_base.specs.declared.tables.Tables.{Tables as ATables};
+ghost use Rattle.traind.specs.Feeds.{network, Told, tables_in, asked_in};
+ghost use Rattle.traind.specs.Networks.{IsSame};
 
 use command_words::Asked;
 use feed_load::load_feed;
@@ -27,12 +29,14 @@ pub(crate) fn load<F: Feed>(
     requires days { (1 ≤ asked.now.days) × (asked.now.days ≤ 31) }
     requires options { IsInRange asked.now.opts }
     ensures exact { (told : Told) → F.tables feed.old ≡ Some told → Yields (λ r. (r.0.state, r.1)) result (asked_in told (asked_view asked.now)) }
-    ensures network { IfOk result (λ r. r.0.network ≡ network asked.now.opts) }
+    ensures network { IfOk result (λ r. (told : Told) (rows : ATables) → F.tables feed.old ≡ Some told → tables_in told (asked_view asked.now) ≡ Ok rows
+        → IsSame (network rows asked.now.opts) r.0.network) }
     ensures new { IfOk result (λ r. r.0.count ≡ 0) }
     ensures failed { IsErrOf result FeedError.ReadFault → Rose (F.faults feed.old) (F.faults feed.new) }
     ensures later { F.faults feed.old ≤ F.faults feed.new }
 {
     let opts = asked.opts;
-    let (trains, directory) = load_feed(alloc, feed, asked.folder, asked.first, asked.days, &opts)?;
-    Ok((Timetable::build(alloc, trains, opts)?, directory))
+    let loaded = load_feed(alloc, feed, asked.folder, asked.first, asked.days, &opts)?;
+    let timetable = Timetable::build(alloc, loaded.trains, loaded.changes, loaded.waits, opts)?;
+    Ok((timetable, loaded.directory))
 }

@@ -1,8 +1,8 @@
-use Rattle.std.proofs.Common.{◌+◌, ◌*◌, ◌≤◌, All, length, refl, sym, subst}
+use Rattle.std.proofs.Common.{◌+◌, ◌*◌, ◌≤◌, All, length, sym, subst}
 use Rattle.delay_model.specs.declared.state.State.{State}
 use Rattle.delay_model.specs.Events.{events}
 use Rattle.delay_model.specs.Valid.{IsValid}
-use Rattle.edge_rules.specs.Held.{IsUnderWay, bare}
+use Rattle.edge_rules.specs.Held.{IsUnderWay}
 use Rattle.feed_load.proofs.LoadedDays.{runs-under_way, few-nodes}
 use Rattle.feed_load.proofs.load.load_days.Goals as goal
 
@@ -11,8 +11,8 @@ returns-in-Ok-clause-under_way c =
     subst (λ (st : State). All IsUnderWay st.trains) (sym c.in-Ok.ensures.schedule) (runs-under_way _ _)
 
 pub returns-in-Ok-clause-valid : goal.returns-in-Ok-clause-valid
-returns-in-Ok-clause-valid c =
-    subst (IsValid (bare c.args.opts.now)) (sym c.in-Ok.ensures.schedule) (c.schedules_are_valid.ensures.valid (bare c.args.opts.now) refl)
+returns-in-Ok-clause-valid c = λ nw same.
+    subst (IsValid nw) (sym c.in-Ok.ensures.schedule) (c.schedules_are_valid.ensures.valid nw same)
 
 pub returns-in-Ok-clause-nodes : goal.returns-in-Ok-clause-nodes
 returns-in-Ok-clause-nodes c =

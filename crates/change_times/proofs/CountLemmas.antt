@@ -1,0 +1,81 @@
+-- The lists of all locations, and how many pairs they have.
+use Rattle.std.proofs.Common.{◌≡◌, ℕ, zero, suc, ◌+◌, ◌-◌, ◌≤◌, List, [], ◌∷◌, ◌++◌, Bool, true, false, cond, map, length, get_or, refl, sym, subst, ◌∙◌, ap, arith, inl, inr}
+use Rattle.std.proofs.lemmas.Bool.{cases_lt}
+use Rattle.std.proofs.lemmas.List.{map-id, get_or_past}
+use Rattle.std.proofs.lemmas.List.Elements.{filter-append}
+use Rattle.std.proofs.lemmas.List.FromFn.{map-range_with_len_more, get_or-map-range_with_len, length-map-range_with_len}
+use Rattle.std.proofs.lemmas.List.Sums.{sum_by-append}
+use Rattle.std.specs.List.{filter, range_with_len, sum_by}
+use Rattle.delay_model.specs.Changes.{is_stop_or_station}
+use Rattle.change_times.specs.declared.change.Change.{Change}
+use Rattle.change_times.specs.declared.near.Direction.{Direction}
+use Rattle.change_times.specs.declared.near.Direction.TheVariants.{Onward, Back}
+use Rattle.change_times.specs.ChangeTables.{ChangeTables}
+use Rattle.change_times.specs.Listed.{listed}
+use Rattle.change_times.specs.Reach.{reached, reached_back, pairs}
+use Rattle.change_times.specs.Stored.{IsKept}
+use Rattle.change_times.proofs.ListedLemmas.{listed-past}
+
+-- the lists of the first locations
+abbrev pub lists_of : ChangeTables → Direction → ℕ → List (List Change)
+lists_of t direction n = map (listed t direction) (range_with_len 0 n)
+
+pub lists-more : (t : ChangeTables) (direction : Direction) (n : ℕ) → lists_of t direction (n + 1) ≡ lists_of t direction n ++ listed t direction n ∷ []
+lists-more t direction n = map-range_with_len_more (listed t direction) 0 n n (omega arith)
+
+-- the lists of all locations are those of all numbers
+pub lists-all : (t : ChangeTables) (direction : Direction) (n a : ℕ) → IsKept t → n ≡ length t.stops → get_or (lists_of t direction n) a [] ≡ listed t direction a
+lists-all t direction n a h e =
+    elim (cases_lt a n) [
+      | inl l ↦ get_or-map-range_with_len (listed t direction) 0 n a a [] l (omega arith)
+      | inr l ↦
+          get_or_past (lists_of t direction n) a [] (omega (arith, length-map-range_with_len (listed t direction) 0 n, l))
+          ∙ sym (listed-past t direction a h (omega (arith, l, e)))
+    ]
+
+-- how many pairs the first locations have
+abbrev pub counted : ChangeTables → ℕ → ℕ
+counted t n =
+    sum_by (λ a. length (listed t Onward a)) (filter (is_stop_or_station t.stops) (range_with_len 0 n))
+
+range-more : (n : ℕ) → range_with_len 0 (n + 1) ≡ range_with_len 0 n ++ n ∷ []
+range-more n =
+    sym (map-id (range_with_len 0 (n + 1))) ∙ map-range_with_len_more (λ x. x) 0 n n (omega arith)
+    ∙ ap (λ xs. xs ++ n ∷ []) (map-id (range_with_len 0 n))
+
+sum-one : (f : ℕ → ℕ) (n : ℕ) (b : Bool) → sum_by f (cond b (n ∷ []) []) ≡ cond b (f n) 0
+sum-one f n true = omega arith
+sum-one f n false = refl
+
+-- with one more location, its pairs are added if it is a stop or station
+pub counted-next : (t : ChangeTables) (n : ℕ) (b : Bool) → is_stop_or_station t.stops n ≡ b → counted t (n + 1) ≡ counted t n + cond b (length (listed t Onward n)) 0
+counted-next t n b e =
+    let f : ℕ → ℕ = λ a. length (listed t Onward a) in
+    let p = is_stop_or_station t.stops in
+    ap (λ xs. sum_by f (filter p xs)) (range-more n) ∙ ap (sum_by f) (filter-append p (range_with_len 0 n) (n ∷ []))
+    ∙ sum_by-append f (filter p (range_with_len 0 n)) (filter p (n ∷ []))
+    ∙ ap (λ c. counted t n + sum_by f (cond c (n ∷ []) [])) e ∙ ap (λ m. counted t n + m) (sum-one f n b)
+
+counted-above : (t : ChangeTables) (m k : ℕ) → counted t m ≤ counted t (k + m)
+counted-above t m zero = let e : 0 + m ≡ m = omega arith in subst (λ n. counted t m ≤ counted t n) (sym e) (omega arith)
+counted-above t m (suc k) =
+    let e : suc k + m ≡ (k + m) + 1 = omega arith in
+    let below = counted-above t m k in
+    let next = counted-next t (k + m) (is_stop_or_station t.stops (k + m)) refl in
+    subst (λ n. counted t m ≤ counted t n) (sym e) (omega (arith, below, next))
+
+pub counted-below : (t : ChangeTables) (m n : ℕ) → m ≤ n → counted t m ≤ counted t n
+counted-below t m n l =
+    let e : (n - m) + m ≡ n = omega (arith, l) in subst (λ k. counted t m ≤ counted t k) e (counted-above t m (n - m))
+
+pub counted-all : (t : ChangeTables) → counted t (length t.stops) ≡ pairs t
+unfolding listed reached pairs
+counted-all t = refl
+
+pub onward-is : (t : ChangeTables) (a : ℕ) → listed t Onward a ≡ reached t a
+unfolding listed reached
+onward-is t a = refl
+
+pub back-is : (t : ChangeTables) (b : ℕ) → listed t Back b ≡ reached_back t b
+unfolding listed reached_back
+back-is t b = refl

@@ -1,0 +1,10 @@
+pub mod SortLemmas
+pub mod RowLemmas
+pub mod NearLemmas
+pub mod CutLemmas
+pub mod TableLemmas
+pub mod WalkLemmas
+pub mod JoinLemmas
+pub mod ListedLemmas
+pub mod CountLemmas
+pub mod SameLemmas

@@ -1,0 +1,32 @@
+-- Tables with the same change times have as many pairs.
+use Rattle.std.proofs.Common.{◌≡◌, ℕ, Option, None, false, nat_eq, length, refl, sym, ◌∙◌, ap}
+use Rattle.std.proofs.lemmas.List.{length-map}
+use Rattle.std.specs.Prelude.{nat_le, if◌then◌else◌}
+use Rattle.std.specs.List.{filter, filter_map, range_with_len, sum_by}
+use Rattle.std.specs.Option.{option_map, option_map_or}
+use Rattle.delay_model.specs.Changes.{kind_of, change}
+use Rattle.change_times.specs.declared.change.Change.{Change}
+use Rattle.change_times.specs.ChangeTables.{ChangeTables, HaveSameChanges, without_id}
+use Rattle.change_times.specs.Reach.{pairs, reached}
+
+change-if : ℕ → Option ℕ → Option ℕ → Option Change
+change-if b kind seconds =
+    if option_map_or (λ k. nat_eq k 0) kind false then option_map (λ s. record { stop = b; seconds = s }) seconds else None
+
+-- the pairs by the types of the locations, the change times, and how many locations there are
+pairs-by : (ℕ → Option ℕ) → (ℕ → ℕ → Option ℕ) → ℕ → ℕ
+pairs-by kind seconds n =
+    sum_by (λ a. length (filter_map (λ b. change-if b (kind b) (seconds a b)) (range_with_len 0 n))) (filter (λ a. option_map_or (λ k. nat_le k 1) (kind a) false) (range_with_len 0 n))
+
+pairs-is : (t : ChangeTables) → pairs t ≡ pairs-by (kind_of t.stops) (change t.stops t.transfers t.default) (length t.stops)
+unfolding pairs reached pairs-by change-if
+pairs-is t = refl
+
+pub pairs-same : (t c : ChangeTables) → HaveSameChanges t c → pairs c ≡ pairs t
+pairs-same t c h =
+    let kind : kind_of c.stops ≡ kind_of t.stops = λ i a. h.kind a i in
+    let seconds : change c.stops c.transfers c.default ≡ change t.stops t.transfers t.default = λ i a b. h.change a b i in
+    let count : length c.stops ≡ length t.stops = ap length h.stops ∙ length-map t.stops without_id in
+    pairs-is c ∙ ap (λ k. pairs-by k (change c.stops c.transfers c.default) (length c.stops)) kind
+    ∙ ap (λ s. pairs-by (kind_of t.stops) s (length c.stops)) seconds
+    ∙ ap (pairs-by (kind_of t.stops) (change t.stops t.transfers t.default)) count ∙ sym (pairs-is t)

@@ -1,0 +1,13 @@
+use Rattle.std.proofs.Common.{List, subst}
+use Rattle.mt_base.specs.declared.tables.StopRow.{StopRow}
+use Rattle.mt_base.specs.declared.tables.TransferRow.{TransferRow}
+use Rattle.change_times.specs.declared.near.Direction.TheVariants.{Onward, Back}
+use Rattle.change_times.specs.Near.{HaveMembers, HaveRows}
+use Rattle.change_times.proofs.near.Nearby.build.Goals as goal
+
+pub returns : goal.returns
+returns c = record {
+  members = subst (λ (stops : List StopRow). HaveMembers stops c.in_ok-members.field-0) c.places.ensures.places c.in_ok-members.ensures;
+  onward = subst (λ (rows : List TransferRow). HaveRows Onward rows c.in_ok-links.field-0) c.rows.ensures c.in_ok-links.ensures;
+  back = subst (λ (rows : List TransferRow). HaveRows Back rows c.in_ok-links-2.field-0) c.rows-2.ensures c.in_ok-links-2.ensures;
+}

@@ -1,0 +1,9 @@
+use Rattle.std.proofs.Common.{◌≡◌, ◌++◌, drop}
+use Rattle.std.specs.List.{filter_map}
+use Rattle.change_times.specs.Listed.{change_at}
+use Rattle.change_times.proofs.reach.push_changes.Given as goal
+
+abbrev pub invariant-loop-other : goal.invariant-loop-other
+invariant-loop-other l =
+    l.list.items ++ filter_map (change_at l.table l.direction l.place) (drop l.other-index l.near)
+    ≡ l.initial.list.items ++ filter_map (change_at l.table l.direction l.place) l.near

@@ -1,0 +1,18 @@
+use Rattle.std.proofs.Common.{rules, ◌≡◌, true, false, arith}
+use Rattle.std.proofs.Math.Dec.{ltb}
+use Rattle.std.proofs.lemmas.Bool.{ltb-false, ltb-true}
+use Rattle.std.proofs.lemmas.List.Sorted.{IsPartitionPoint-from_clause, IsPartitionedBy-ltb}
+use Rattle.std.specs.List.Sorted.{IsPartitionPoint}
+use Rattle.change_times.specs.Stored.{to_of}
+use Rattle.change_times.proofs.SortLemmas.{first-is}
+use Rattle.change_times.proofs.transfers.start_of.Goals as goal
+
+point : (c : goal.After-partition_point) → IsPartitionPoint (λ y. ltb (to_of y) c.args.b ≡ true) (λ y. ltb (to_of y) c.args.b ≡ false) c.args.rows.now c.partition_point.result
+point c =
+    IsPartitionPoint-from_clause (λ y. ltb (to_of y) c.args.b) c.args.rows.now c.partition_point.result c.partition_point.ensures.partitioned (IsPartitionedBy-ltb to_of c.args.rows.now c.args.b c.requires) (λ a r f h. search rules)
+
+pub returns : goal.returns
+returns c =
+    first-is to_of c.args.b c.args.rows.now c.partition_point.result c.requires
+    (λ j d l m. ltb-true _ _ ((point c).0 j d (omega arith) l))
+    (λ j d l m. ltb-false _ _ ((point c).1 j d l m))

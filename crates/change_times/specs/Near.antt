@@ -1,0 +1,56 @@
+-- The locations that a change may join to a location.
+use Rattle.std.specs.Prelude.{ℕ, ◌<◌, List, All, ◌∷◌, ◌++◌, map, length}
+use Rattle.std.specs.List.{Contains, filter, flat_map}
+use Rattle.delay_model.specs.Changes.{station}
+use Rattle.mt_base.specs.declared.tables.StopRow.{StopRow}
+use Rattle.mt_base.specs.declared.tables.TransferRow.{TransferRow}
+use Rattle.change_times.specs.declared.links.Link.{Link}
+use Rattle.change_times.specs.declared.near.Direction.{Direction}
+use Rattle.change_times.specs.declared.near.Direction.TheVariants.{Onward, Back}
+use Rattle.change_times.specs.declared.near.Nearby.{Nearby}
+use Rattle.change_times.specs.ChangeTables.{ChangeTables}
+use Rattle.change_times.specs.Stored.{is_at}
+
+-- the second of a pair
+abbrev pub other_of : Link → ℕ
+other_of link = link.other
+
+-- the locations that are paired with a location
+abbrev pub others : List Link → ℕ → List ℕ
+others links place = map other_of (filter (is_at place) links)
+
+-- the second of a pair, and the locations of which it is the station
+abbrev pub with_members : List Link → Link → List ℕ
+with_members members link = other_of link ∷ others members (other_of link)
+
+-- the locations that are paired with a location, and those of which they are the station
+abbrev pub linked : List Link → List Link → ℕ → List ℕ
+linked members links place = flat_map (with_members members) (filter (is_at place) links)
+
+-- the locations of the same station, and those that are linked to the location or to its station
+abbrev pub near : List Link → List Link → ℕ → ℕ → List ℕ
+near members links place at = others members at ++ (linked members links place ++ linked members links at)
+
+-- where a row leads to, after where it leads from, or the other way round
+abbrev pub link_of : Direction → TransferRow → Link
+link_of Onward row = record { place = row.from_stop; other = row.to_stop }
+link_of Back row = record { place = row.to_stop; other = row.from_stop }
+
+-- the pairs of a direction
+abbrev pub links_in : Direction → Nearby → List Link
+links_in Onward nearby = nearby.onward
+links_in Back nearby = nearby.back
+
+-- each location stands after its station
+abbrev pub HaveMembers : List StopRow → List Link → Type 0
+HaveMembers stops members = (b : ℕ) → b < length stops → Contains members (record { place = station stops b; other = b })
+
+-- each row is there as a pair
+abbrev pub HaveRows : Direction → List TransferRow → List Link → Type 0
+HaveRows direction rows links = All (λ row. Contains links (link_of direction row)) rows
+
+-- the pairs are those of a table
+pub record AreOf (t : ChangeTables) (nearby : Nearby) : Type 0 where
+  pub members : HaveMembers t.stops nearby.members
+  pub onward : HaveRows Onward t.transfers nearby.onward
+  pub back : HaveRows Back t.transfers nearby.back

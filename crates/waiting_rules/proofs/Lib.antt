@@ -1,0 +1,4 @@
+pub mod Firsts
+pub mod Asked
+pub mod PlaceLemmas
+pub mod WaitLemmas

@@ -1,0 +1,4 @@
+pub mod WaitTable
+pub mod Scopes
+pub mod Indexed
+pub mod Held

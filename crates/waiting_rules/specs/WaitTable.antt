@@ -1,0 +1,21 @@
+-- What a feed says of waits.
+use Rattle.std.specs.Prelude.{ℕ, List, Option, None, unwrap_or, slice_get, map, nat_eq, if◌then◌else◌}
+use Rattle.mt_base.specs.declared.tables.RuleRow.{RuleRow}
+use Rattle.mt_base.specs.declared.tables.StopRow.{StopRow}
+
+-- the parent station of a stop or platform; any other location has none (GTFS Schedule, stops.txt)
+abbrev pub parent_station : StopRow → Option ℕ
+parent_station row = if nat_eq row.kind 0 then row.parent else None
+
+-- the station of a location, by the parent stations of all
+abbrev pub station_in : List (Option ℕ) → ℕ → ℕ
+station_in parents stop = unwrap_or (unwrap_or (slice_get parents stop) None) stop
+
+-- the parent station of each location, where it has one, and the waiting rules in the order of their file
+pub record WaitTable : Type 0 where
+  pub parents : List (Option ℕ)
+  pub rules : List RuleRow
+
+-- what these locations and rules say of waits
+abbrev pub wait_table : List StopRow → List RuleRow → WaitTable
+wait_table stops rules = record { parents = map parent_station stops; rules = rules }
