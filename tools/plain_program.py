@@ -1,235 +1,305 @@
 """The rules of docs/MODEL.md as a plain, slow program, to be read beside that page.
 
-It reads a feed from its folder and answers forecasts as `traind times` does, from
-Monday 2026-01-05. It takes feeds that are not refused, and does nothing fast:
-every pair of events is tried for a planned connection, and after each message
-every event gets its time anew. The program tools/compare runs it.
+It reads a feed from its folder and answers lines as `traind times` does, from
+Monday 2026-01-05: all eight messages, and flush lines. It takes feeds that are
+not refused and lines that are not bad, and does nothing fast: every pair of
+events is tried for a planned connection, and after each message every event
+gets its time anew. The feed is read by tools/plain_feed.py; the program
+tools/compare runs all this.
 """
 
-import csv
 import itertools
 import json
 from collections import namedtuple
-from dataclasses import dataclass
-from datetime import date, timedelta
 
-DAY = 86_400
-MONDAY = date(2026, 1, 5)
-WEEKDAYS = ("monday", "tuesday", "wednesday", "thursday", "friday", "saturday", "sunday")
-DEFAULTS = {"days": 1, "slack": 7, "stop": 60, "change": 180, "window": 1800}
+from plain_feed import Feed, Train, date_text, seconds_of
 
+DEFAULTS = {
+    "days": 1, "slack": 7, "stop": 60, "change": 180, "window": 1800,
+    "spare-trains": 200, "spare-calls": 4000, "overrides": 10_000,
+}  # fmt: skip
+UNKNOWN = {"refused": "Unknown"}
 
-# Section 1: trains, calls, events, keys.
-
-
-@dataclass(eq=False)
-class Event:
-    """A live arrival or departure. Times are seconds from the beginning of service day 0."""
-
-    train: "Train"
-    label: int
-    stop: str
-    kind: str
-    scheduled: int
-    forecast: int | None = None
-
-    def key(self):
-        return self.scheduled, self.train.number, self.label, self.kind == "dep"
-
-    def name(self):
-        return self.train.trip, date_text(self.train.day), self.label, self.kind
-
-
-@dataclass(eq=False)
-class Train:
-    """A trip on one service day, with its live events in its order."""
-
-    number: int
-    trip: str
-    route: str
-    day: int
-    events: tuple[Event, ...] = ()
-
-
-# Event v is not before event u plus the least time; a train edge has no limit (None).
+# Event v is not before event u plus the least time; a train edge and a kept connection have no limit (None).
 Edge = namedtuple("Edge", "u v least limit")
 
 
-def rows_of(folder, name):
-    """The rows of a table, each by column; a table that is not there has no rows."""
-    path = folder / name
-    return list(csv.DictReader(path.read_text().splitlines())) if path.exists() else []
-
-
-def seconds_of(text):
-    """The seconds of a time text, counted from the beginning of its service day."""
-    hours, minutes, seconds = map(int, text.split(":"))
-    return 3600 * hours + 60 * minutes + seconds
-
-
-def time_text(seconds):
-    return f"{seconds // 3600:02}:{seconds // 60 % 60:02}:{seconds % 60:02}"
-
-
-def date_text(day):
-    return (MONDAY + timedelta(days=day)).strftime("%Y%m%d")
-
-
 class Plain:
-    """The first state of a feed, and the forecasts that come to it."""
+    """The first state of a feed, and the messages that come to it."""
 
     def __init__(self, folder, options):
         self.options = DEFAULTS | options
-        self.stops = {row["stop_id"]: row for row in rows_of(folder, "stops.txt")}
-        self.transfers = [row for row in rows_of(folder, "transfers.txt") if self.is_general(row)]
-        self.rules = rows_of(folder, "waiting_rules.txt")
-        self.trains = self.first_trains(folder)
-        self.events = sorted((event for train in self.trains for event in train.events), key=Event.key)
-        self.edges = {event: [] for event in self.events}
-        for edge in itertools.chain(self.train_edges(), self.transfer_edges()):
-            self.edges[edge.v].append(edge)
+        self.feed = Feed(folder, self.options["days"], self.options["change"])
+        self.trains = self.feed.trains()
+        self.spare = {"trains": self.options["spare-trains"], "calls": self.options["spare-calls"]}
+        # For each departure, the planned connections by feeder; and what was chosen for each feeder: keep or drop.
+        self.planned, self.overrides = {}, {}
+        self.plan({*self.live_events()})
         self.times = self.event_times()
         self.accepted = 0
 
-    def first_trains(self, folder):
-        """Section 1, the first state: the loaded days in order, and for each the trips in order."""
-        calendar = {row["service_id"]: row for row in rows_of(folder, "calendar.txt")}
-        exceptions = {(row["service_id"], row["date"]): row for row in rows_of(folder, "calendar_dates.txt")}
-        calls = rows_of(folder, "stop_times.txt")
-        trains = []
-        for day, trip in itertools.product(range(self.options["days"]), rows_of(folder, "trips.txt")):
-            rows = [row for row in calls if row["trip_id"] == trip["trip_id"]]
-            timed = [row for row in rows if row["arrival_time"] or row["departure_time"]]
-            if timed and runs(trip["service_id"], day, calendar, exceptions):
-                timed.sort(key=lambda row: int(row["stop_sequence"]))
-                train = Train(len(trains), trip["trip_id"], trip["route_id"], day)
-                train.events = tuple(live_events(train, timed))
-                trains.append(train)
-        return trains
-
-    # Section 2: what is fixed.
-
-    def place_type(self, place):
-        return self.stops[place].get("location_type") or "0"
-
-    def station(self, place):
-        parent = self.stops[place].get("parent_station")
-        return parent if parent and self.place_type(place) == "0" else place
-
-    def is_general(self, row):
-        """Whether a row of transfers.txt is not passed over."""
-        trip_columns = ("from_route_id", "to_route_id", "from_trip_id", "to_trip_id")
-        places = (row["from_stop_id"], row["to_stop_id"])
-        return (
-            not any(row.get(column) for column in trip_columns)
-            and all(place and self.place_type(place) in ("0", "1") for place in places)
-            and int(row["transfer_type"] or 0) <= 3
-        )
-
-    def change(self, a, b):
-        """The change time from place a to place b in seconds, or None where no change is possible."""
-        default = self.options["change"]
-        for pair in ((a, b), (a, self.station(b)), (self.station(a), b), (self.station(a), self.station(b))):
-            for row in self.transfers:
-                if (row["from_stop_id"], row["to_stop_id"]) == pair:
-                    if int(row["transfer_type"] or 0) == 3:
-                        return None
-                    if int(row["transfer_type"] or 0) == 2 and row.get("min_transfer_time"):
-                        return max(1, int(row["min_transfer_time"]))
-                    return default
-        return default if self.station(a) == self.station(b) else None
-
-    def wait(self, feeder_route, connecting_route, stop):
-        """How long a departure of a route from a stop waits for a feeder of another route, in seconds."""
-        for row in self.rules:
-            if (
-                row["feeder_route_id"] in ("", feeder_route)
-                and row["connecting_route_id"] in ("", connecting_route)
-                and row["stop_id"] in ("", stop, self.station(stop))
-            ):
-                return int(row["max_wait"])
-        return 0
+    def live_events(self):
+        """All live events, in the order of their keys."""
+        events = (event for train in self.trains for event in train.events if event.live)
+        return sorted(events, key=lambda event: event.key())
 
     # Section 3: edges.
 
-    def train_edges(self):
-        """All events between the first and the last of a train are live, so each has an edge to the next."""
-        for train in self.trains:
-            for u, v in itertools.pairwise(train.events):
-                d = max(0, v.scheduled - u.scheduled)
-                travelling = u.kind == "dep"
-                least = d - d * self.options["slack"] // 100 if travelling else min(d, self.options["stop"])
-                yield Edge(u, v, least, None)
+    def plan(self, new):
+        """Finds the planned connections of a set of new events with all that are live."""
+        for v in new:
+            self.planned[v], self.overrides[v] = {}, {}
+        live = self.live_events()
+        arrivals, departures = ([event for event in live if event.kind == kind] for kind in ("arr", "dep"))
+        from_new = ((u, v) for u in arrivals if u in new for v in departures)
+        to_new = ((u, v) for v in departures if v in new for u in arrivals)
+        for u, v in itertools.chain(from_new, to_new):
+            edge = self.planned_edge(u, v)
+            if edge:
+                self.planned[v][u] = edge
 
-    def transfer_edges(self):
-        """The planned connections: every live arrival with every live departure of another train."""
-        change = {(a, b): self.change(a, b) for a in self.stops for b in self.stops}
-        arrivals = [event for event in self.events if event.kind == "arr"]
-        departures = [event for event in self.events if event.kind == "dep"]
-        for u, v in itertools.product(arrivals, departures):
-            w = change[u.stop, v.stop]
-            if u.train is v.train or w is None or not 0 <= v.scheduled - u.scheduled - w <= self.options["window"]:
-                continue
-            wait = self.wait(u.train.route, v.train.route, v.stop)
-            if wait > 0:
-                yield Edge(u, v, w, v.scheduled + wait)
+    def planned_edge(self, u, v):
+        """The edge of a planned connection, or None where it is not planned."""
+        w = self.feed.changes[u.stop, v.stop]
+        if u.train is v.train or w is None or not 0 <= v.scheduled - u.scheduled - w <= self.options["window"]:
+            return None
+        wait = self.feed.wait(u.train.route, v.train.route, v.stop)
+        return Edge(u, v, w, v.scheduled + wait) if wait > 0 else None
 
-    # Section 4: event time. There are no reports here, so no event has a cap.
+    def train_edge(self, u, v):
+        """The edge between two neighbouring live events of a train."""
+        d = max(0, v.scheduled - u.scheduled)
+        travelling = u.kind == "dep"
+        least = d - d * self.options["slack"] // 100 if travelling else min(d, self.options["stop"])
+        return Edge(u, v, least, None)
+
+    def train_edges(self, events):
+        """The edges along a train."""
+        return (self.train_edge(u, v) for u, v in itertools.pairwise(events) if u.live and v.live)
+
+    def transfer_edges(self, v):
+        """The edges into a departure that no override replaces, and those of the kept connections."""
+        planned, chosen = self.planned[v], self.overrides[v]
+        yield from (edge for u, edge in planned.items() if u.live and u not in chosen)
+        yield from (Edge(u, v, self.feed.changes[u.stop, v.stop], None) for u in chosen if chosen[u] == "keep")
+
+    # Section 4: event time.
 
     def event_times(self):
-        """The time of each event; each edge leads from a smaller key to a greater one."""
+        """The time of each live event; each edge leads from a smaller key to a greater one."""
+        train_edges = {edge.v: edge for train in self.trains for edge in self.train_edges(train.events)}
         times = {}
-        for v in self.events:
-            floor = v.scheduled if v.forecast is None else v.forecast
-            if v.kind == "dep":
-                floor = max(floor, v.scheduled)
-            asked = ((times[edge.u] + edge.least, edge.limit) for edge in self.edges[v])
-            times[v] = max([floor, *(time for time, limit in asked if limit is None or time <= limit)])
+        for v in self.live_events():
+            edges = [*self.transfer_edges(v), *([train_edges[v]] if v in train_edges else [])]
+            times[v] = due_time(v, edges, times) if v.report is None else v.report
         return times
 
-    # Sections 7 to 9: a forecast is accepted where its event is live, and is not known elsewhere.
+    # Sections 6 and 7: each `take` answers the refusal; or else None, and the message has its effect.
 
-    def reply(self, number, line):
-        members = json.loads(line)
-        named = tuple(members[name] for name in ("trip", "date", "call", "event"))
-        event = next((event for event in self.events if event.name() == named), None)
-        if event is None:
-            return {"line": number, "refused": "Unknown"}
-        event.forecast = event.train.day * DAY + seconds_of(members["time"])
+    def train(self, trip, date):
+        """The train of this name, or None."""
+        return next((train for train in self.trains if train.trip == trip and date_text(train.day) == date), None)
+
+    def event(self, kind, trip, date, call):
+        """The event of this name, or None."""
+        train = self.train(trip, date)
+        events = train.events if train else ()
+        return next((event for event in events if (event.label, event.kind) == (call, kind)), None)
+
+    def take_value(self, message):
+        """Report and forecast."""
+        event = self.event(message["event"], message["trip"], message["date"], message["call"])
+        if event is None or not event.live:
+            return UNKNOWN
+        time = seconds_of(message["time"], event.train.day)
+        contradicted = first_contradicted(event, time)
+        if contradicted:
+            return contradiction(contradicted)
+        setattr(event, message["type"], time)
+        return None
+
+    def stretch(self, message):
+        """The events from the departure of one call to the arrival of a later one; none where they are not there so."""
+        ends = ("dep", message["from"]), ("arr", message["to"])
+        u, v = (self.event(kind, message["trip"], message["date"], call) for kind, call in ends)
+        return u.train.events[place_of(u) : place_of(v) + 1] if u and v else []
+
+    def take_cancel(self, message):
+        stretch = self.stretch(message)
+        if not stretch:
+            return UNKNOWN
+        reported = first_reported(stretch)
+        if reported:
+            return contradiction(reported)
+        self.take_out(stretch)
+        return None
+
+    def take_reroute(self, message):
+        stretch = self.stretch(message)
+        if not stretch or not (stretch[0].live and stretch[-1].live and self.are_at_stops(message["via"])):
+            return UNKNOWN
+        train = stretch[0].train
+        reported = first_reported(after(stretch[0]))
+        if reported:
+            return contradiction(reported)
+        new = list(train.new_calls(read_calls(message["via"], train.day)))
+        events = [*train.events[: place_of(stretch[0]) + 1], *new, *train.events[place_of(stretch[-1]) :]]
+        refusal = self.against_rank(self.train_edges(events)) or self.shortage(calls=len(message["via"]))
+        if refusal:
+            return refusal
+        self.take_out(stretch[1:-1])
+        train.events, train.next_label = events, train.next_label + len(message["via"])
+        self.spare["calls"] -= len(message["via"])
+        self.plan({*new})
+        return None
+
+    def take_extra(self, message):
+        days = {date_text(day): day for day in range(self.options["days"])}
+        if message["date"] not in days or message["route"] not in self.feed.routes:
+            return UNKNOWN
+        if not self.are_at_stops(message["calls"]):
+            return UNKNOWN
+        if self.train(message["trip"], message["date"]):
+            return {"refused": "Known"}
+        train = Train(len(self.trains), message["trip"], message["route"], days[message["date"]])
+        train.begin(read_calls(message["calls"], train.day))
+        refusal = self.against_rank(self.train_edges(train.events)) or self.shortage(trains=1, calls=train.next_label)
+        if refusal:
+            return refusal
+        self.trains.append(train)
+        self.spare["trains"] -= 1
+        self.spare["calls"] -= train.next_label
+        self.plan({event for event in train.events if event.live})
+        return None
+
+    def take_choice(self, message):
+        """Keep, drop and rule."""
+        u, v = self.event("arr", **message["feeder"]), self.event("dep", **message["train"])
+        if not (u and v and u.live and v.live):
+            return UNKNOWN
+        w = self.feed.changes[u.stop, v.stop]
+        if u.train is v.train or w is None:
+            return {"refused": "NoConnection"}
+        if message["type"] == "rule":
+            self.overrides[v].pop(u, None)
+            return None
+        if v.report is not None:
+            return contradiction(v)
+        refusal = message["type"] == "keep" and self.against_rank([Edge(u, v, w, None)])
+        if refusal:
+            return refusal
+        if u not in self.overrides[v] and sum(map(len, self.overrides.values())) == self.options["overrides"]:
+            return full("overrides")
+        self.overrides[v][u] = message["type"]
+        return None
+
+    def are_at_stops(self, calls):
+        return all(self.feed.is_stop(call["stop"]) for call in calls)
+
+    def against_rank(self, edges):
+        """The refusal for the first of these edges that is against rank, or None."""
+        for u, v, least, _ in edges:
+            if u.key() >= v.key() or u.scheduled + least > v.scheduled:
+                return {"refused": "AgainstRank", "from": u.name(), "to": v.name()}
+        return None
+
+    def shortage(self, **needed):
+        """The refusal for the first thing of which more is needed than is spare, or None."""
+        return next((full(what) for what, number in needed.items() if number > self.spare[what]), None)
+
+    def take_out(self, events):
+        """These events are live no more, and no override names them."""
+        for event in events:
+            event.live = False
+        for v, chosen in self.overrides.items():
+            self.overrides[v] = {u: choice for u, choice in chosen.items() if u.live and v.live}
+
+    # Sections 8 and 9: the replies, and the table.
+
+    def reply(self, line):
+        """The reply to a line, without its number."""
+        message = json.loads(line)
+        if message["type"] == "flush":
+            return {"flush": self.accepted}
+        take = TAKES[message["type"]]
+        refusal = take(self, message)
+        if refusal:
+            return refusal
         before, self.times = self.times, self.event_times()
         self.accepted += 1
-        changed = sum(before[event] != self.times[event] for event in self.events)
-        return {"accepted": self.accepted, "changed": changed, "line": number}
+        changed = sum(before.get(v) != self.times.get(v) for v in before.keys() | self.times.keys())
+        return {"accepted": self.accepted, "changed": changed}
 
-    def output(self, lines):
-        """The replies to the lines, and then the table of times."""
-        for number, line in enumerate(lines, 1):
-            yield json.dumps(self.reply(number, line), separators=(",", ":"))
+    def table(self):
+        """The lines of the table of times."""
         yield "trip,date,call,stop,event,scheduled,time"
-        for event in (event for train in self.trains for event in train.events):
-            trip, day, label, kind = event.name()
-            times = (time_text(time - event.train.day * DAY) for time in (event.scheduled, self.times[event]))
-            yield ",".join((trip, day, str(label), event.stop, kind, *times))
+        for v in (event for train in self.trains for event in train.events if event.live):
+            times = v.day_time(v.scheduled), v.day_time(self.times[v])
+            yield ",".join((v.train.trip, date_text(v.train.day), str(v.label), v.stop, v.kind, *times))
 
 
-def runs(service, day, calendar, exceptions):
-    """Whether a service runs on a loaded day."""
-    today = date_text(day)
-    exception = exceptions.get((service, today))
-    if exception:
-        return exception["exception_type"] == "1"
-    row = calendar.get(service)
-    weekday = WEEKDAYS[(MONDAY + timedelta(days=day)).weekday()]
-    return row is not None and row[weekday] == "1" and row["start_date"] <= today <= row["end_date"]
+TAKES = {
+    "report": Plain.take_value,
+    "forecast": Plain.take_value,
+    "cancel": Plain.take_cancel,
+    "reroute": Plain.take_reroute,
+    "extra": Plain.take_extra,
+    "keep": Plain.take_choice,
+    "drop": Plain.take_choice,
+    "rule": Plain.take_choice,
+}
 
 
-def live_events(train, timed):
-    """The events of the calls with a time, but for the arrival at the first and the departure from the last."""
-    base = train.day * DAY
-    for label, row in enumerate(timed):
-        if label > 0:
-            arrival = row["arrival_time"] or row["departure_time"]
-            yield Event(train, label, row["stop_id"], "arr", base + seconds_of(arrival))
-        if label < len(timed) - 1:
-            departure = row["departure_time"] or row["arrival_time"]
-            yield Event(train, label, row["stop_id"], "dep", base + seconds_of(departure))
+def due_time(v, edges, times):
+    """The time of an event without report, from the edges into it and the times of the events before it by key."""
+    floor = v.scheduled if v.forecast is None else v.forecast
+    if v.kind == "dep":
+        floor = max(floor, v.scheduled)
+    asked = ((times[edge.u] + edge.least, edge.limit) for edge in edges)
+    due = max([floor, *(time for time, limit in asked if limit is None or time <= limit)])
+    reported = first_reported(after(v))
+    return min(reported.report, due) if reported else due
+
+
+def place_of(event):
+    return event.train.events.index(event)
+
+
+def after(event):
+    """The events after an event, in the order of its train."""
+    return event.train.events[place_of(event) + 1 :]
+
+
+def read_calls(calls, day):
+    """The stop and the times of each call of a line."""
+    return [(call["stop"], seconds_of(call["arr"], day), seconds_of(call["dep"], day)) for call in calls]
+
+
+def first_reported(events, contradicts=lambda report: True):
+    """The first of these events that is live and reported, at a time for which a test holds; or None."""
+    reported = (event for event in events if event.live and event.report is not None)
+    return next((event for event in reported if contradicts(event.report)), None)
+
+
+def first_contradicted(event, time):
+    """The first event, in the order of the train, whose report does not go with this time of an event; or None."""
+    before = event.train.events[: place_of(event)]
+    return (
+        first_reported(before, lambda report: report > time)
+        or first_reported([event], lambda report: report != time)
+        or first_reported(after(event), lambda report: report < time)
+    )
+
+
+def contradiction(event):
+    """The refusal that shows a reported event."""
+    return {"refused": "Contradiction", "event": event.name(), "reported": event.day_time(event.report)}
+
+
+def full(what):
+    return {"refused": "Full", "full": what}
+
+
+def numbered(reply, line):
+    """The text of a reply, with the number of its line."""
+    return json.dumps(reply | {"line": line}, separators=(",", ":"), sort_keys=True)

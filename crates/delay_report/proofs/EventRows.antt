@@ -1,26 +1,26 @@
 -- The rows of one event: its own, if it is live, or none.
-use Rattle.std.proofs.Common.{◌≡◌, ℕ, Bool, true, false, cond, ◌&&◌, List, [], ◌∷◌, ◌++◌, Option, Some, None, find, slice_get, append_assoc, refl, sym, ◌∙◌, ap}
-use Rattle.std.proofs.lemmas.Bool.{cond-false, and_left}
+use Rattle.std.proofs.Common.{◌≡◌, ℕ, Bool, true, false, cond, ◌&&◌, List, [], ◌∷◌, ◌++◌, Option, Some, None, find, slice_get, append_assoc, get_or, refl, sym, ◌∙◌, ap}
+use Rattle.std.proofs.lemmas.Bool.{cond-false, cond-true, and_left}
 use Rattle.std.proofs.lemmas.Grind.{flat_map-append}
 use Rattle.std.proofs.lemmas.List.{append-nil}
-use Rattle.std.proofs.lemmas.List.Elements.{filter-append, All-head, All-tail, All-weaker}
+use Rattle.std.proofs.lemmas.List.Elements.{filter-append, All-head, All-tail, All-weaker, All-nil, All-cons}
 use Rattle.std.specs.List.{All, AllPairs, flat_map}
 use Rattle.std.specs.Option.{option_map, option_map_or}
 use Rattle.mt_base.specs.declared.keys.Key.{Key}
 use Rattle.mt_base.specs.declared.keys.Node.{Node}
 use Rattle.mt_base.specs.Order.{node_of}
-use Rattle.mt_base.proofs.KeyLemmas.{same_node-is}
+use Rattle.mt_base.proofs.KeyLemmas.{same_node-is, same_node-itself}
 use Rattle.delay_model.specs.declared.network.Network.{Network}
 use Rattle.delay_model.specs.declared.state.Train.{Train}
 use Rattle.delay_model.specs.declared.state.State.{State}
 use Rattle.delay_model.specs.declared.state.Event.{Event}
-use Rattle.delay_model.specs.Events.{event_named, is_event, events_of, live_events}
+use Rattle.delay_model.specs.Events.{event_named, is_event, events_of, train_events, live_events}
 use Rattle.delay_model.specs.Timing.{event_time}
-use Rattle.delay_model.proofs.Apart.{AreApart}
+use Rattle.delay_model.proofs.Apart.{AreApart, events_at-train}
 use Rattle.delay_model.proofs.Lists.{AllPairs-tail, AllPairs-after}
-use Rattle.edge_rules.specs.Held.{IsUnderWay}
+use Rattle.edge_rules.specs.Held.{HasOwnLabels}
 use Rattle.edge_rules.proofs.InLine.{not-then}
-use Rattle.edge_rules.proofs.Neighbours.{under-way}
+use Rattle.edge_rules.proofs.Neighbours.{own-labels}
 use Rattle.edge_rules.proofs.Own.{train-apart}
 use Rattle.schedule_build.specs.Directory.{Names}
 use Rattle.timetable.specs.LiveTimes.{live_event, live_time}
@@ -33,18 +33,13 @@ rows-append names times us vs =
     ap (flat_map (λ v. row (fields names times v))) (filter-append (λ (v : Event). v.live) us vs)
     ∙ flat_map-append (λ v. row (fields names times v)) (live_events us) (live_events vs)
 
--- no events have no rows
-pub no-rows : (names : Names) (times : Key → ℕ) (es : List Event) → es ≡ [] → rows_of_events names times es ≡ []
-unfolding rows_of_events
-no-rows names times es none = ap (λ (es : List Event). rows_of_events names times es) none
-
--- with the rows of a call's events, fewer are to come
-pub rows-pass : (names : Names) (times : Key → ℕ) (start was now : List ℕ) (call left whole all : List Event) → now ≡ was ++ rows_of_events names times call → call ++ left ≡ whole → was ++ rows_of_events names times whole ≡ start ++ rows_of_events names times all → now ++ rows_of_events names times left ≡ start ++ rows_of_events names times all
-rows-pass names times start was now call left whole all e is so_far =
+-- with the rows of some events, fewer are to come
+pub rows-pass : (names : Names) (times : Key → ℕ) (start was now : List ℕ) (these left whole all : List Event) → now ≡ was ++ rows_of_events names times these → these ++ left ≡ whole → was ++ rows_of_events names times whole ≡ start ++ rows_of_events names times all → now ++ rows_of_events names times left ≡ start ++ rows_of_events names times all
+rows-pass names times start was now these left whole all e is so_far =
     let rows = rows_of_events names times in
     ap (λ (xs : List ℕ). xs ++ rows left) e
-    ∙ append_assoc was (rows call) (rows left)
-    ∙ ap (λ (xs : List ℕ). was ++ xs) (sym (rows-append names times call left))
+    ∙ append_assoc was (rows these) (rows left)
+    ∙ ap (λ (xs : List ℕ). was ++ xs) (sym (rows-append names times these left))
     ∙ ap (λ (es : List Event). was ++ rows es) is
     ∙ so_far
 
@@ -90,13 +85,13 @@ live-found n (e ∷ es) v apart h =
     (λ is. find-none (λ v. is_event n v && v.live) es (All-weaker (AreApart e) (λ w. (is_event n w && w.live) ≡ false) (λ w other. no-other n e w is other) es (AllPairs-after AreApart [] e es apart)))
     (λ _ later. live-found n es v (AllPairs-tail AreApart e es apart) later)
 
-live-at : (st : State) (n : Node) (v : Event) (o : Option Train) → All IsUnderWay st.trains → slice_get st.trains n.train ≡ o → find (is_event n) (option_map_or (events_of n.train) o []) ≡ Some v → find (λ v. is_event n v && v.live) (option_map_or (events_of n.train) o []) ≡ cond v.live (Some v) None
+live-at : (st : State) (n : Node) (v : Event) (o : Option Train) → All HasOwnLabels st.trains → slice_get st.trains n.train ≡ o → find (is_event n) (option_map_or (events_of n.train) o []) ≡ Some v → find (λ v. is_event n v && v.live) (option_map_or (events_of n.train) o []) ≡ cond v.live (Some v) None
 live-at st n v None trains e h = absurd (cc)
 live-at st n v (Some t) trains e h =
-    live-found n (events_of n.train t) v (train-apart n.train t.route t.calls (under-way st.trains n.train t trains e).labels) h
+    live-found n (events_of n.train t) v (train-apart n.train t.route t.calls (own-labels st.trains n.train t trains e)) h
 
 -- the live event of a name is the event of that name, if it is live
-live-named : (st : State) (n : Node) (v : Event) → All IsUnderWay st.trains → event_named st n ≡ Some v → live_event st n ≡ cond v.live (Some v) None
+live-named : (st : State) (n : Node) (v : Event) → All HasOwnLabels st.trains → event_named st n ≡ Some v → live_event st n ≡ cond v.live (Some v) None
 live-named st n v trains h = live-at st n v (slice_get st.trains n.train) trains refl h
 
 timed : (f : Event → ℕ) (v : Event) (time : ℕ) (b : Bool) → v.live ≡ b → option_map f (cond b (Some v) None) ≡ Some time → (v.live ≡ true) × (f v ≡ time)
@@ -108,13 +103,45 @@ untimed f v true e h = absurd (cc)
 untimed f v false e h = e
 
 -- an event that has a time is live, and that is its time
-pub time-live : (nw : Network) (st : State) (n : Node) (v : Event) (time : ℕ) → All IsUnderWay st.trains → event_named st n ≡ Some v → live_time nw st n ≡ Some time → (v.live ≡ true) × (event_time nw st v.key ≡ time)
+pub time-live : (nw : Network) (st : State) (n : Node) (v : Event) (time : ℕ) → All HasOwnLabels st.trains → event_named st n ≡ Some v → live_time nw st n ≡ Some time → (v.live ≡ true) × (event_time nw st v.key ≡ time)
 time-live nw st n v time trains h t =
     let f : Event → ℕ = λ v. event_time nw st v.key in
     timed f v time v.live refl (sym (ap (option_map f) (live-named st n v trains h)) ∙ t)
 
 -- an event that has none is not live
-pub time-dead : (nw : Network) (st : State) (n : Node) (v : Event) → All IsUnderWay st.trains → event_named st n ≡ Some v → live_time nw st n ≡ None → v.live ≡ false
+pub time-dead : (nw : Network) (st : State) (n : Node) (v : Event) → All HasOwnLabels st.trains → event_named st n ≡ Some v → live_time nw st n ≡ None → v.live ≡ false
 time-dead nw st n v trains h t =
     let f : Event → ℕ = λ v. event_time nw st v.key in
     untimed f v v.live refl (sym (ap (option_map f) (live-named st n v trains h)) ∙ t)
+
+-- each of these events is the one of its name
+abbrev pub AreNamed : State → List Event → Type 0
+AreNamed st es = All (λ v. event_named st (node_of v.key) ≡ Some v) es
+
+-- events that differ by name are found by their names
+self-found : (es : List Event) → AllPairs AreApart es → All (λ v. find (is_event (node_of v.key)) es ≡ Some v) es
+self-found [] h = All-nil (λ (v : Event). find (is_event (node_of v.key)) [] ≡ Some v)
+self-found (e ∷ es) h =
+    let rest = self-found es (AllPairs-tail AreApart e es h) in
+    let apart = AllPairs-after AreApart [] e es h in
+    All-cons (λ v. find (is_event (node_of v.key)) (e ∷ es) ≡ Some v) e es
+    (cond-true (is_event (node_of e.key) e) (Some e) (find (is_event (node_of e.key)) es) (same_node-itself (node_of e.key)))
+    (λ k d l.
+    let v = get_or es k d in
+    let other = not-then (is_event (node_of v.key) e) (λ is. apart k d l (same_node-is (node_of e.key) (node_of v.key) is)) in
+    cond-false (is_event (node_of v.key) e) (Some e) (find (is_event (node_of v.key)) es) other ∙ rest k d l)
+
+named-in : (st : State) (train : ℕ) (o : Option Train) → All HasOwnLabels st.trains → slice_get st.trains train ≡ o → AreNamed st (option_map_or (events_of train) o [])
+named-in st train None labels e = All-nil (λ (v : Event). event_named st (node_of v.key) ≡ Some v)
+named-in st train (Some t) labels e =
+    let es = events_of train t in
+    let own = self-found es (train-apart train t.route t.calls (own-labels st.trains train t labels e)) in
+    λ k d l.
+    let v = get_or es k d in
+    ap (λ n. find (is_event (node_of v.key)) (train_events st n)) (events_at-train train t.route t.calls k d l)
+    ∙ ap (λ (r : Option Train). find (is_event (node_of v.key)) (option_map_or (events_of train) r [])) e
+    ∙ own k d l
+
+-- and so are the events of a train
+pub all-named : (st : State) (train : ℕ) → All HasOwnLabels st.trains → AreNamed st (train_events st train)
+all-named st train labels = named-in st train (slice_get st.trains train) labels refl

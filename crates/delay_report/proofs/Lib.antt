@@ -2,4 +2,3 @@ mod EventRows
 mod ReplyTexts
 mod RowTexts
 mod Texts
-mod Walks

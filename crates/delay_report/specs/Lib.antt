@@ -1,4 +1,3 @@
-pub mod CallsLeft
 pub mod Clocks
 pub mod Replies
 pub mod Table

@@ -1,29 +1,28 @@
 //! The table of times.
 
-ghost use Rattle.std.specs.Prelude.{◌≡◌, ◌+◌, ◌<◌, [], ◌∷◌, ◌++◌, Some, IsTrue, IfOk, OnOk, length};
-ghost use Rattle.delay_model.specs.declared.state.Event.{Event as AnEvent};
-ghost use Rattle.delay_model.specs.Events.{event_named, train_events};
+ghost use Rattle.std.specs.Prelude.{◌≡◌, ◌+◌, ◌<◌, [], ◌∷◌, ◌++◌, Some, All, IfOk, OnOk};
+ghost use Rattle.mt_base.specs.Order.{node_of};
+ghost use Rattle.delay_model.specs.Events.{event_named};
 ghost use Rattle.delay_model.specs.Timing.{event_time};
-ghost use Rattle.train_nodes.specs.Calls.{has_call, has_event};
 ghost use Rattle.csv.specs.Writing.{default_writer, writer_setup, fields_written, next_sep, field_text, end_text};
+ghost use Rattle.edge_rules.specs.Held.{HasOwnLabels};
 ghost use Rattle.delay_report.specs.Clocks.{clock};
-ghost use Rattle.delay_report.specs.CallsLeft.{events_of_call};
 ghost use Rattle.delay_report.specs.Table.{row, header, fields, rows_of_events, rows_of_train};
 ghost use Rattle.delay_report.specs.Written.{bytes_of, IsBetweenRows};
 
 use crate::clocks::write_clock;
 use crate::objects::{date_of_train, event_word, seconds_on_day};
 use csv::{Writer, WriterBuilder};
+use delay_model::state::Event;
 use itoa::Buffer;
-use mt_base::keys::Node;
 use mt_base::memory::OutOfMemory;
-use mt_base::numbers::{Label, Time, TrainNo};
+use mt_base::numbers::{Time, TrainNo};
 use schedule_build::Directory;
 use std::alloc::{AllocError, Global};
 use std::marker::Brand;
 use std::sync::ledger::{Blank, Ledger};
 use timetable::Timetable;
-use train_nodes::{Steps, Trains};
+use train_nodes::Steps;
 
 /// The header of the table of times.
 #[tactic(auto, unfolding(crate::specs::Table::header))]
@@ -109,73 +108,42 @@ impl RowWriter {
 fn push_event(
     out: &mut RowWriter,
     dir: &Directory,
-    trains: &Trains,
-    n: &Node,
+    event: &Event,
     time: Time,
 ) -> Result<(), OutOfMemory>
-    requires there { IsTrue (has_event trains.now n.now) }
     requires between { IsBetweenRows out.old.writer }
     ensures between { OnOk result (IsBetweenRows out.new.writer) }
-    ensures row { (v : AnEvent) → event_named trains.now n.now ≡ Some v → OnOk result (bytes_of out.new.writer ≡ bytes_of out.old.writer ++ row (fields dir.now (λ _. time) v)) }
+    ensures row { OnOk result (bytes_of out.new.writer ≡ bytes_of out.old.writer ++ row (fields dir.now (λ _. time) event.now)) }
 {
-    let stop = trains.stop(n.train, n.label);
-    let scheduled = trains.scheduled(*n);
-    out.push(dir.trip_name(n.train).as_bytes())?;
-    out.push(&date_of_train(dir, n.train))?;
-    out.push(Buffer::new().format(n.label.get()).as_bytes())?;
-    out.push(dir.stop_name(stop).as_bytes())?;
-    out.push(event_word(n.dep).as_bytes())?;
-    out.push_clock(seconds_on_day(dir, n.train, scheduled))?;
-    out.push_clock(seconds_on_day(dir, n.train, time))?;
+    let key = &event.key;
+    out.push(dir.trip_name(key.train).as_bytes())?;
+    out.push(&date_of_train(dir, key.train))?;
+    out.push(Buffer::new().format(key.label.get()).as_bytes())?;
+    out.push(dir.stop_name(event.stop).as_bytes())?;
+    out.push(event_word(key.dep).as_bytes())?;
+    out.push_clock(seconds_on_day(dir, key.train, key.time))?;
+    out.push_clock(seconds_on_day(dir, key.train, time))?;
     out.end()
 }
 
-/// Writes the row of an event, if it is live.
+/// Writes the row of an event of the timetable, if it is live.
 fn push_live<L: Ledger>(
     out: &mut RowWriter,
     t: &Timetable,
     dir: &Directory,
-    n: &Node,
+    event: &Event,
     steps: &mut Steps<L>,
 ) -> Result<(), OutOfMemory>
-    requires there { IsTrue (has_event t.now.state n.now) }
+    requires labels { All HasOwnLabels t.now.state.trains }
+    requires there { event_named t.now.state (node_of event.now.key) ≡ Some event.now }
     requires between { IsBetweenRows out.old.writer }
     ensures between { OnOk result (IsBetweenRows out.new.writer) }
-    ensures rows { (v : AnEvent) → event_named t.now.state n.now ≡ Some v → OnOk result (bytes_of out.new.writer ≡ bytes_of out.old.writer ++ rows_of_events dir.now (event_time t.now.network t.now.state) (v ∷ [])) }
+    ensures rows { OnOk result (bytes_of out.new.writer ≡ bytes_of out.old.writer ++ rows_of_events dir.now (event_time t.now.network t.now.state) (event.now ∷ [])) }
 {
-    let trains = t.graph().trains();
-    match t.time(*n, steps) {
-        Some(time) => push_event(out, dir, trains, n, time),
+    match t.time(event.key.node(), steps) {
+        Some(time) => push_event(out, dir, event, time),
         None => Ok(()),
     }
-}
-
-/// Writes the rows of a call's live events.
-fn push_call<L: Ledger>(
-    out: &mut RowWriter,
-    t: &Timetable,
-    dir: &Directory,
-    train: TrainNo,
-    label: Label,
-    steps: &mut Steps<L>,
-) -> Result<(), OutOfMemory>
-    requires there { IsTrue (has_call t.now.state train label) }
-    requires between { IsBetweenRows out.old.writer }
-    ensures between { OnOk result (IsBetweenRows out.new.writer) }
-    ensures rows { OnOk result (bytes_of out.new.writer ≡ bytes_of out.old.writer ++ rows_of_events dir.now (event_time t.now.network t.now.state) (events_of_call t.now.state train label)) }
-{
-    let arrival = Node {
-        train,
-        label,
-        dep: false,
-    };
-    push_live(out, t, dir, &arrival, steps)?;
-    let departure = Node {
-        train,
-        label,
-        dep: true,
-    };
-    push_live(out, t, dir, &departure, steps)
 }
 
 /// Writes the rows of a train.
@@ -189,16 +157,12 @@ fn push_train<L: Ledger>(
     requires name { blank.name ≡ L.name }
     requires parts { blank.parts ≡ L.parts }
     requires some { 0 < blank.parts }
-    requires there { train < length t.now.state.trains }
     requires between { IsBetweenRows out.old.writer }
     ensures { OnOk result (bytes_of out.new.writer ≡ bytes_of out.old.writer ++ rows_of_train dir.now t.now.network t.now.state train) }
 {
     let mut steps = Steps::<L>::open(blank);
-    let trains = t.graph().trains();
-    let mut next = Some(trains.first_call(train));
-    while let Some(label) = next {
-        push_call(out, t, dir, train, label, &mut steps)?;
-        next = trains.next_call(train, label);
+    for event in t.graph().trains().events(train) {
+        push_live(out, t, dir, &event, &mut steps)?;
     }
     Ok(())
 }
@@ -212,9 +176,6 @@ pub fn times_rows(
 ) -> Result<Vec<u8>, OutOfMemory>
     ensures { IfOk result (λ b. b.items ≡ rows_of_train dir.now t.now.network t.now.state train) }
 {
-    if train.get() >= t.graph().trains().count() {
-        return Ok(Vec::new(alloc));
-    }
     let mut out = RowWriter::new(alloc);
     push_train::<Brand>(&mut out, t, dir, train, Blank::new(1))?;
     out.finish()

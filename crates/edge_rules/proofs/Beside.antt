@@ -6,19 +6,17 @@ use Rattle.delay_model.specs.declared.state.Call.{Call}
 use Rattle.delay_model.specs.declared.state.Event.{Event}
 use Rattle.delay_model.specs.Cuts.{before, after}
 use Rattle.delay_model.specs.Effect.{is_call}
-use Rattle.delay_model.specs.Events.{events_at, arrival_of, departure_of}
 use Rattle.train_nodes.specs.Calls.{first_label, last_label}
 use Rattle.train_nodes.proofs.Numbered.{nat_eq-from}
 
-cut-step : (b : Bool) (d c : Call) (ds front rest : List Call) (o : Option Call) → cond b (Some d) o ≡ Some c → (o ≡ Some c → ds ≡ front ++ c ∷ rest) → d ∷ ds ≡ cond b [] (d ∷ front) ++ c ∷ cond b ds rest
-cut-step true d c ds front rest o h k = let same : d ≡ c = cc in ap (λ e. e ∷ ds) same
-cut-step false d c ds front rest o h k = ap (λ es. d ∷ es) (k h)
-
--- the calls are cut at the one that is found
-pub cut-at : (cs : List Call) (l : ℕ) (c : Call) → find (is_call l) cs ≡ Some c → cs ≡ before (is_call l) cs ++ c ∷ after (is_call l) cs
-cut-at [] l c h = absurd (cc)
-cut-at (d ∷ ds) l c h =
-    cut-step (is_call l d) d c ds (before (is_call l) ds) (after (is_call l) ds) (find (is_call l) ds) h (cut-at ds l c)
+-- a list is cut at the first element that passes
+pub cut-at : {X : Type 0} (p : X → Bool) (xs : List X) (x : X) → find p xs ≡ Some x → xs ≡ before p xs ++ x ∷ after p xs
+cut-at p [] x h = absurd (cc)
+cut-at p (y ∷ ys) x h =
+    cond_both (p y) (Some y) (find p ys) (λ o. o ≡ Some x → y ∷ ys ≡ cond (p y) [] (y ∷ before p ys) ++ x ∷ cond (p y) ys (after p ys))
+    (λ hit k. let same : y ≡ x = cc in rw (hit, same) refl)
+    (λ miss k. rw miss (ap (λ zs. y ∷ zs) (cut-at p ys x k)))
+    h
 
 -- what is found has the label
 pub label-of-found : (cs : List Call) (l : ℕ) (c : Call) → find (is_call l) cs ≡ Some c → c.label ≡ l
@@ -62,11 +60,6 @@ first-is (c ∷ cs) l h = record { first = c; rest = cs; whole = refl; is = cc }
 pub first-none : (cs : List Call) → first_label cs ≡ None → cs ≡ []
 first-none [] h = refl
 first-none (c ∷ cs) h = absurd (cc)
-
--- the events of calls that follow one another
-pub events-append : (train route : ℕ) (cs ds : List Call) → events_at train route (cs ++ ds) ≡ events_at train route cs ++ events_at train route ds
-events-append train route [] ds = refl
-events-append train route (c ∷ cs) ds = ap (λ es. arrival_of train route c ∷ departure_of train route c ∷ es) (events-append train route cs ds)
 
 live-step : (b l r : Bool) (e : Event) (o : Option Event) → ((b && l) || r) ≡ true → (r ≡ true → is_some o ≡ true) → is_some (cond b (Some e) o) ≡ true
 live-step true l r e o h k = refl

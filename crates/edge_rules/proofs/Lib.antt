@@ -2,10 +2,9 @@ pub mod InLine
 pub mod Own
 pub mod Beside
 pub mod Neighbours
-pub mod Forecasts
+pub mod Labels
 pub mod Given
-pub mod Rule
-pub mod LoadedTrains
-pub mod WalkLemmas
+pub mod Caps
+pub mod LocalRule
 pub mod TransferLemmas
-pub mod NoRules
+pub mod TrainByTrain

@@ -1,10 +1,8 @@
 -- How a graph is seen, and what holds of it.
-use Rattle.std.specs.Prelude.{◌≡◌, None, All, map}
-use Rattle.std.specs.FinMap as finmap
+use Rattle.std.specs.Prelude.{◌≡◌, All, map}
 use Rattle.mt_base.specs.declared.options.Opts.{Opts}
 use Rattle.mt_base.specs.Options.{IsInRange}
 use Rattle.delay_model.specs.declared.network.Network.{Network}
-use Rattle.delay_model.specs.declared.state.Call.{Call}
 use Rattle.delay_model.specs.declared.state.Train.{Train}
 use Rattle.delay_model.specs.Valid.{HasDistinctLabels}
 use Rattle.change_times.specs.ChangeTables.{ChangeTables}
@@ -19,21 +17,14 @@ network_of changes waits o = record { stops = changes.stops; transfers = changes
 abbrev pub seen : Inside → Timetabled
 seen a = record { network = network_of a.changes a.waits a.opts; state = a.trains }
 
--- no event of the call is reported
-pub record IsUnreported (c : Call) : Type 0 where
-  pub arrival : c.arrival.report ≡ None
-  pub departure : c.departure.report ≡ None
+-- no two calls of the train have one label
+abbrev pub HasOwnLabels : Train → Type 0
+HasOwnLabels t = HasDistinctLabels t.calls
 
--- no two calls of the train have one label, and none of its events is reported
-pub record IsUnderWay (t : Train) : Type 0 where
-  pub labels : HasDistinctLabels t.calls
-  pub unreported : All IsUnreported t.calls
-
--- no connection is kept or dropped, no two calls of a train have one label, and nothing is reported; the change times and the
--- waits are of the same stops, and the change time where no row says one is the options'
+-- no two calls of a train have one label; the change times and the waits are of the same stops, and the change time where no row
+-- says one is the options'
 pub record IsHeld (a : Inside) : Type 0 where
   pub options : IsInRange a.opts
   pub default : a.changes.default ≡ a.opts.change
   pub parents : a.waits.parents ≡ map parent_station a.changes.stops
-  pub overrides : a.trains.overrides ≡ finmap.empty
-  pub trains : All IsUnderWay a.trains.trains
+  pub labels : All HasOwnLabels a.trains.trains

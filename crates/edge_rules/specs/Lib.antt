@@ -2,5 +2,4 @@ pub mod Timetabled
 pub mod AtEvent
 pub mod Held
 pub mod Neighbours
-pub mod Walk
-pub mod Located
+pub mod Transfers

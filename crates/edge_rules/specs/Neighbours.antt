@@ -1,11 +1,9 @@
 -- The events before and after an event on its train, by name.
-use Rattle.std.specs.Prelude.{ℕ, ◌-◌, Bool, true, false, Option, Some, if◌then◌else◌}
+use Rattle.std.specs.Prelude.{ℕ, Bool, true, false, Option, Some}
 use Rattle.std.specs.Option.{option_map}
 use Rattle.mt_base.specs.declared.keys.Node.{Node}
-use Rattle.mt_base.specs.declared.options.Opts.{Opts}
 use Rattle.delay_model.specs.declared.state.State.{State}
 use Rattle.delay_model.specs.Effect.{node_at}
-use Rattle.delay_model.specs.Edges.{minimum_running, minimum_dwell}
 use Rattle.delay_model.specs.Events.{calls_of}
 use Rattle.train_nodes.specs.Calls.{label_after, label_before}
 
@@ -26,7 +24,3 @@ next_by st train label true = option_map (λ after. node_at train after false) (
 -- the event after this one on its train
 abbrev pub next_of : State → Node → Option Node
 next_of st n = next_by st n.train n.label n.dep
-
--- the least time from an event of a train to the next one, by the times at which they are scheduled
-abbrev pub minimum_by : Opts → Bool → ℕ → ℕ → ℕ
-minimum_by o dep from to = if dep then minimum_running o (to - from) else minimum_dwell o (to - from)

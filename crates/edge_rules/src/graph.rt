@@ -1,30 +1,32 @@
 //! The graph over the trains.
 
-ghost use Rattle.std.specs.Prelude.{◌≡◌, ◌+◌, ◌++◌, [], ◌&&◌, nat_eq, ◌<◌, ◌^◌, IsTrue, Some, All, IfOk, map, flat_map, length, not, if◌then◌else◌};
+ghost use Rattle.std.specs.Prelude.{◌≡◌, ◌+◌, ◌++◌, [], ◌&&◌, nat_eq, ◌<◌, ◌^◌, false, IsTrue, Some, All, IfOk, map, flat_map, length, not, if◌then◌else◌};
 ghost use Rattle.std.specs.Option.{option_to_list};
 ghost use Rattle.std.specs.FinMap as finmap;
 ghost use Rattle.std.specs.List.Sorted.{IsPermutation};
 ghost use Rattle.mt_base.specs.Options.{IsInRange};
 ghost use Rattle.mt_base.specs.Order.{node_of};
 ghost use Rattle.delay_model.specs.declared.state.Event.{Event as AnEvent};
-ghost use Rattle.delay_model.specs.Edges.{change_between, edge_by_change};
-ghost use Rattle.delay_model.specs.Effect.{with_event, forecasted};
-ghost use Rattle.delay_model.specs.Events.{event_named, is_live};
+ghost use Rattle.delay_model.specs.Edges.{change_between, edge_by_change, is_planned, override_of, transfer_kind, wait_between};
+ghost use Rattle.delay_model.specs.Effect.{with_event, forecasted, reported, has_override, with_override, without_override};
+ghost use Rattle.delay_model.specs.Events.{events, event_named, is_live};
+ghost use Rattle.delay_model.specs.Overrides.{connection};
+ghost use Rattle.train_nodes.specs.Calls.{has_event};
 ghost use Rattle.train_nodes.specs.Kept.{has_time};
 ghost use Rattle.waiting_rules.specs.WaitTable.{parent_station};
 ghost use Rattle.edge_rules.specs.AtEvent.{edges_to, edges_from, given, kept_time, local_at};
-ghost use Rattle.edge_rules.specs.Held.{network_of, IsUnderWay};
-ghost use Rattle.edge_rules.specs.Located.{live_event, transfer_with};
-ghost use Rattle.edge_rules.specs.Walk.{one_kind};
+ghost use Rattle.edge_rules.specs.Held.{network_of, HasOwnLabels};
+ghost use Rattle.edge_rules.specs.Transfers.{transfer_between, transfer_with};
 
-use crate::along::{edge_into, edge_out, floor};
+use crate::all_events::AllEvents;
+use crate::along::{edge_into, edge_out};
+use crate::connections::{is_planned, may_connect};
 use crate::edges::Edges;
 use crate::edges_at::EdgesAt;
-use crate::limits::{is_planned, later};
-use crate::located::{Located, locate};
-use crate::walk::first_of;
+use crate::rule::{by_reports, floor, later};
 use change_times::Changes;
-use delay_model::state::{Edge as ModelEdge, EdgeKind};
+use delay_model::overrides::Override;
+use delay_model::state::{Edge as ModelEdge, EdgeKind, Event};
 use mt_base::keys::Node;
 use mt_base::memory::OutOfMemory;
 use mt_base::numbers::Time;
@@ -64,8 +66,7 @@ impl Graph {
         requires options { IsInRange opts }
         requires default { changes.default ≡ opts.change }
         requires parents { waits.parents ≡ map parent_station changes.stops }
-        requires overrides { trains.overrides ≡ finmap.empty }
-        requires trains { All IsUnderWay trains.trains }
+        requires labels { All HasOwnLabels trains.trains }
         ensures { result ≡ record { network = network_of changes waits opts; state = trains } }
     {
         Graph {
@@ -88,10 +89,10 @@ impl Graph {
         })
     }
 
-    /// The trains. No two calls of one of them have one label, and nothing is reported.
+    /// The trains. No two calls of one of them have one label.
     pub fn trains(&self) -> &Trains
         ensures trains { result.now ≡ self.now.state }
-        ensures under_way { All IsUnderWay self.now.state.trains }
+        ensures labels { All HasOwnLabels self.now.state.trains }
     {
         &self.trains
     }
@@ -134,12 +135,13 @@ impl Graph {
         ensures rule { local_at self.now times.now n ≡ Some result }
         ensures cost { steps.new ≡ steps.old + length (edges_to self.now n) }
     {
-        let mut time = floor(&self.trains, &n);
+        let event = self.trains.event(n);
+        let mut time = floor(&event);
         for edge in self.edges_to(&n) {
             let asked = times.read(edge.from.node(), steps).seconds() + edge.weight;
             time = later(&edge, time, asked);
         }
-        Time::new(time)
+        by_reports(&self.trains, &event, time)
     }
 
     /// Sets the forecast of an event, in seconds from the base of day 0.
@@ -150,11 +152,35 @@ impl Graph {
         self.trains.set_forecast(n, t);
     }
 
-    /// Whether edges between trains can be at an event of this kind: where there is no waiting rule, nowhere.
-    fn has_transfers(&self, kind: bool) -> bool
-        ensures { result ≡ (kind && not (nat_eq (length self.now.network.rules) 0)) }
+    /// Sets the report of an event, in seconds from the base of day 0.
+    pub fn set_report(&mut self, n: Node, t: Time)
+        requires { IsTrue (is_live self.old.state n) }
+        ensures { self.new ≡ record self.old { state = with_event n (reported t) self.old.state } }
     {
-        kind && !self.waits.is_empty()
+        self.trains.set_report(n, t);
+    }
+
+    /// Keeps or drops a connection, in place of what was chosen before. It takes no memory.
+    pub fn set_override(&mut self, feeder: Node, train: Node, choice: Override)
+        requires spare { has_override self.old.state (connection feeder train) ≡ false → 0 < self.old.state.spare_overrides }
+        ensures { self.new ≡ record self.old { state = with_override (connection feeder train) choice self.old.state } }
+    {
+        self.trains.set_override(feeder, train, choice);
+    }
+
+    /// Takes back what was chosen for a connection.
+    pub fn clear_override(&mut self, feeder: Node, train: Node)
+        ensures { self.new ≡ record self.old { state = without_override (connection feeder train) self.old.state } }
+    {
+        self.trains.clear_override(feeder, train);
+    }
+
+    /// Whether edges between trains can be at an event of this kind: where there is no waiting rule and nothing is kept or dropped,
+    /// nowhere.
+    fn has_transfers(&self, kind: bool) -> bool
+        ensures { result ≡ (kind && not (nat_eq (length self.now.network.rules) 0 && nat_eq (finmap.len self.now.state.overrides) 0)) }
+    {
+        kind && !(self.waits.is_empty() && self.trains.has_no_overrides())
     }
 
     /// The edges that lead to an event. Edges between trains lead to departures.
@@ -177,43 +203,66 @@ impl Graph {
 
     /// The given edge along a train at an event, and the edges between trains there if they are wanted.
     fn edges_at(&self, n: &Node, along: Option<ModelEdge>, transfers: bool) -> EdgesAt<'_>
-        requires { IsTrue (is_live self.now.state n.now) }
+        requires { IsTrue (has_event self.now.state n.now) }
         ensures { (v : AnEvent) → event_named self.now.state n.now ≡ Some v
-            → result ≡ option_to_list along
-            ++ (if transfers then flat_map (transfer_with self.now.network v) (one_kind (not n.now.dep) 0 self.now.state.trains) else []) }
+            → result ≡ option_to_list along ++ (if transfers then flat_map (transfer_with self.now v) (events self.now.state) else []) }
     {
-        let next = if transfers {
-            first_of(&self.trains, 0, !n.dep)
-        } else {
-            None
-        };
+        let first = if transfers { 0 } else { self.trains.count() };
         EdgesAt {
             graph: self,
-            at: locate(&self.trains, n),
+            at: self.trains.event(*n),
             along,
-            next,
+            others: AllEvents::starting_at(&self.trains, first),
         }
     }
 
-    /// The planned edge from a live arrival to a live departure of another train, if there is one.
-    pub(crate) fn planned(&self, from: &Located, to: &Located) -> Option<ModelEdge>
-        ensures { option_to_list result ≡ edge_by_change self.now.network None (live_event from.now) (live_event to.now)
-            (change_between self.now.network (live_event from.now) (live_event to.now)) }
+    /// The edge between two trains from one event to another, if there is one.
+    pub(crate) fn transfer(&self, from: &Event, to: &Event) -> Option<ModelEdge>
+        ensures { option_to_list result ≡ transfer_between self.now from.now to.now }
     {
-        if from.key.time > to.key.time {
+        if !may_connect(from, to) {
             return None;
         }
+        // Only a connection that is kept may be scheduled backwards.
+        if from.key.time > to.key.time && self.trains.has_no_overrides() {
+            return None;
+        }
+        self.edge_by_change(from, to)
+    }
+
+    /// The edge between two trains from an arrival to a departure, where a change is possible.
+    fn edge_by_change(&self, from: &Event, to: &Event) -> Option<ModelEdge>
+        ensures { option_to_list result ≡ edge_by_change self.now.network (override_of self.now.state from.now to.now) from.now to.now
+            (change_between self.now.network from.now to.now) }
+    {
         let weight = self.changes.change(from.stop, to.stop)?;
-        let wait = self.waits.wait(from.route, to.route, to.stop);
-        if is_planned(&self.opts, weight, wait, from.key.time, to.key.time) {
-            Some(ModelEdge {
-                from: from.key,
-                to: to.key,
-                weight,
-                kind: EdgeKind::Planned { wait },
-            })
-        } else {
-            None
+        let kind = self.transfer_kind(from, to, weight)?;
+        Some(ModelEdge {
+            from: from.key,
+            to: to.key,
+            weight,
+            kind,
+        })
+    }
+
+    /// The kind of the edge from an arrival to a departure with a change of so many seconds, if there is one: what a dispatcher chose
+    /// for it, or else whether it is planned.
+    fn transfer_kind(&self, from: &Event, to: &Event, change: u32) -> Option<EdgeKind>
+        ensures { result ≡ transfer_kind (override_of self.now.state from.now to.now)
+            (is_planned self.now.network.opts change (wait_between self.now.network from.now to.now) from.now to.now)
+            (wait_between self.now.network from.now to.now) }
+    {
+        match self.trains.override_of(from.key.node(), to.key.node()) {
+            Some(Override::Keep) => Some(EdgeKind::Kept),
+            Some(Override::Drop) => None,
+            None => {
+                let wait = self.waits.wait(from.route, to.route, to.stop);
+                if is_planned(&self.opts, change, wait, from, to) {
+                    Some(EdgeKind::Planned { wait })
+                } else {
+                    None
+                }
+            }
         }
     }
 }

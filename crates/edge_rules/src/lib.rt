@@ -1,15 +1,15 @@
 //! The edges of the dependency graph at one event, and the rule for times there, over the trains as they are stored.
 //!
-//! The edges run along the trains and, as planned connections, between them. No connection is kept or dropped yet.
+//! The edges run along the trains and, as connections that are planned or kept, between them.
 #![tactic(auto)]
 
+mod all_events;
 mod along;
+mod connections;
 pub mod edges;
 mod edges_at;
 pub mod graph;
-mod limits;
-mod located;
-mod walk;
+mod rule;
 
 pub use edges::{Edge, Edges};
 pub use graph::Graph;

@@ -1,8 +1,7 @@
 -- What holds of a timetable that was loaded.
-use Rattle.std.proofs.Common.{rules, ◌≡◌, ℕ, ◌+◌, ◌*◌, ◌≤◌, List, [], ◌∷◌, true, false, cond, nat_lt, None, Some, length, map, All, refl, ap, arith, inl, inr, length-append}
+use Rattle.std.proofs.Common.{rules, ◌≡◌, ℕ, ◌+◌, ◌*◌, ◌≤◌, List, [], ◌∷◌, true, false, cond, nat_lt, None, Some, length, map, refl, ap, arith, inl, inr, length-append}
 use Rattle.std.proofs.lemmas.Bool.{cases_lt}
 use Rattle.std.proofs.lemmas.List.Sums.{sum_by-cons}
-use Rattle.std.proofs.lemmas.List.Elements.{All-nil, All-cons}
 use Rattle.mt_base.specs.declared.options.Opts.{Opts}
 use Rattle.change_times.specs.ChangeTables.{without_id}
 use Rattle.waiting_rules.specs.WaitTable.{parent_station}
@@ -12,16 +11,9 @@ use Rattle.mt_base.specs.declared.tables.What.TheVariants.{Trains, Nodes}
 use Rattle.mt_base.specs.Options.{IsInRange}
 use Rattle.delay_model.specs.declared.state.Call.{Call}
 use Rattle.delay_model.specs.Events.{events_at, events_of, events_from, events}
-use Rattle.edge_rules.specs.Held.{IsUnderWay}
-use Rattle.edge_rules.proofs.LoadedTrains.{loaded-under_way}
 use Rattle.schedule_build.specs.declared.runs.Run.{Run}
 use Rattle.schedule_build.specs.Schedule.{run_calls, run_train, count_calls, too_many, schedule_of}
 use Rattle.schedule_build.proofs.StateLemmas.{train-length}
-
--- the trains of runs
-pub runs-under_way : (calls : List CallRow) (rs : List Run) → All IsUnderWay (map (run_train calls) rs)
-runs-under_way calls [] = All-nil IsUnderWay
-runs-under_way calls (r ∷ rs) = All-cons IsUnderWay (run_train calls r) (map (run_train calls) rs) (loaded-under_way r.day r.route (run_calls calls r)) (runs-under_way calls rs)
 
 -- two events for each call
 events-length : (train route : ℕ) (cs : List Call) → length (events_at train route cs) ≡ 2 * length cs

@@ -36,12 +36,17 @@ days_loaded t first days o = unless_too_many (too_many t.calls (all_runs t first
 abbrev pub few_pairs : Tables → Opts → Result (Unit {0}) FeedRefusal
 few_pairs t o = at_most 4000000 Pairs (pairs (tables_of t o.change))
 
--- the same, from what the feed holds: first of all its tables are read, and then its pairs are counted
+-- the same, where the pairs are counted first
+abbrev pub tables_loaded : Tables → ℕ → ℕ → Opts → Result Timetable FeedRefusal
+tables_loaded t first days o = do
+  _ ← few_pairs t o
+  days_loaded t first days o
+
+-- the same, from what the feed holds: first of all its tables are read
 unfoldable pub loaded : Contents → ℕ → ℕ → Opts → Result Timetable FeedRefusal
 loaded contents first days o = do
   t ← tables_in contents
-  _ ← few_pairs t o
-  days_loaded t first days o
+  tables_loaded t first days o
 
 -- why a feed is not loaded, where its schedule is not built
 abbrev pub schedule_error : ExpandFault → FeedError

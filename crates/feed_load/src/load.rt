@@ -1,7 +1,6 @@
 //! A timetable from a feed.
 
-ghost use Rattle.std.specs.Prelude.{◌≡◌, ◌+◌, ◌*◌, ◌<◌, ◌≤◌, ℕ, List, Option, Ok, Some, All, IfOk, IsErrOf, length, map};
-ghost use Rattle.std.specs.FinMap.{empty};
+ghost use Rattle.std.specs.Prelude.{◌≡◌, ◌+◌, ◌*◌, ◌<◌, ◌≤◌, ℕ, List, Option, Ok, Some, IfOk, IsErrOf, length, map};
 ghost use Rattle.mt_base.specs.Civil.{IsCivil};
 ghost use Rattle.mt_base.specs.Options.{IsInRange};
 ghost use Rattle.mt_base.specs.declared.tables.What.TheVariants.{Pairs};
@@ -12,11 +11,11 @@ ghost use Rattle.delay_model.specs.Events.{events};
 ghost use Rattle.delay_model.specs.Valid.{IsValid};
 ghost use Rattle.change_times.specs.ChangeTables.{HaveSameChanges, tables_of};
 ghost use Rattle.waiting_rules.specs.WaitTable.{parent_station, wait_table};
-ghost use Rattle.edge_rules.specs.Held.{IsUnderWay, network_of};
+ghost use Rattle.edge_rules.specs.Held.{network_of};
 ghost use Rattle.mt_base.specs.declared.tables.Tables.{Tables as ATables};
 ghost use Rattle.gtfs_tables.specs.Feeds.{at_most, contents_of, tables_of as tables_in};
 ghost use Rattle.gtfs_tables.specs.Refusals.{Yields};
-ghost use Rattle.feed_load.specs.Loaded.{days_loaded, loaded, schedule_error};
+ghost use Rattle.feed_load.specs.Loaded.{days_loaded, loaded, schedule_error, tables_loaded};
 
 use change_times::{BuildFault, Changes};
 use feed_tables::FeedTables;
@@ -83,8 +82,6 @@ fn load_days(
     requires options { IsInRange opts.now }
     ensures found { Yields (λ r. r) result (days_loaded t.now first days opts.now) }
     ensures failed { IsErrOf result FeedError.ReadFault → ⊥ }
-    ensures under_way { IfOk result (λ r. All IsUnderWay r.0.trains) }
-    ensures overrides { IfOk result (λ r. r.0.overrides ≡ empty) }
     ensures valid { IfOk result (λ r. (nw : ANetwork) → nw.opts ≡ opts.now → IsValid nw r.0) }
     ensures nodes { IfOk result (λ r. length (events r.0) + 2 * r.0.spare_calls ≤ 2097152) }
 {
@@ -93,6 +90,37 @@ fn load_days(
         Ok(made) => Ok(made),
         Err(fault) => Err(schedule_error(fault)),
     }
+}
+
+/// What the tables of a feed make on so many days from `first` on.
+fn load_tables(
+    alloc: Global,
+    t: &FeedTables,
+    first: u32,
+    days: u32,
+    opts: &Opts,
+) -> Result<Loaded, FeedError>
+    requires civil { IsCivil first }
+    requires year { first < 21010000 }
+    requires days { (1 ≤ days) × (days ≤ 31) }
+    requires options { IsInRange opts.now }
+    ensures found { Yields (λ r. (r.trains, r.directory)) result (tables_loaded t.now first days opts.now) }
+    ensures network { IfOk result (λ r. HaveSameChanges (tables_of t.now opts.now.change) r.changes × (r.waits ≡ wait_table t.now.stops t.now.rules)) }
+    ensures default { IfOk result (λ r. r.changes.default ≡ opts.now.change) }
+    ensures parents { IfOk result (λ r. r.waits.parents ≡ map parent_station r.changes.stops) }
+    ensures valid { IfOk result (λ r. IsValid (network_of r.changes r.waits opts.now) r.trains) }
+    ensures nodes { IfOk result (λ r. length (events r.trains) + 2 * r.trains.spare_calls ≤ 2097152) }
+    ensures failed { IsErrOf result FeedError.ReadFault → ⊥ }
+{
+    let changes = load_changes(alloc, t, opts.change)?;
+    let waits = Waits::build(alloc, t)?;
+    let (trains, directory) = load_days(alloc, t, first, days, opts)?;
+    Ok(Loaded {
+        trains,
+        directory,
+        changes,
+        waits,
+    })
 }
 
 /// What the feed in a folder makes on so many days from `first` on, a date as the number YYYYMMDD of a year up to 2100. There is room
@@ -118,20 +146,10 @@ pub fn load_feed<F: Feed>(
     ensures default { IfOk result (λ r. r.changes.default ≡ opts.now.change) }
     ensures parents { IfOk result (λ r. r.waits.parents ≡ map parent_station r.changes.stops) }
     ensures valid { IfOk result (λ r. IsValid (network_of r.changes r.waits opts.now) r.trains) }
-    ensures under_way { IfOk result (λ r. All IsUnderWay r.trains.trains) }
-    ensures overrides { IfOk result (λ r. r.trains.overrides ≡ empty) }
     ensures nodes { IfOk result (λ r. length (events r.trains) + 2 * r.trains.spare_calls ≤ 2097152) }
     ensures failed { IsErrOf result FeedError.ReadFault → Rose (F.faults feed.old) (F.faults feed.new) }
     ensures later { F.faults feed.old ≤ F.faults feed.new }
 {
     let tables = read_tables(alloc, feed, folder)?;
-    let changes = load_changes(alloc, &tables, opts.change)?;
-    let (trains, directory) = load_days(alloc, &tables, first, days, opts)?;
-    let waits = Waits::build(alloc, &tables)?;
-    Ok(Loaded {
-        trains,
-        directory,
-        changes,
-        waits,
-    })
+    load_tables(alloc, &tables, first, days, opts)
 }

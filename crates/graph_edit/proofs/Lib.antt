@@ -1,1 +1,2 @@
-pub mod Unreported
+pub mod ConnectionLemmas
+pub mod ValueLemmas

@@ -1,15 +1,17 @@
--- Messages about the values of one event, and the answer to a message.
-use Rattle.std.specs.Prelude.{◌≡◌, Option, Some, None, Result, Ok, Err}
-use Rattle.delay_model.specs.declared.messages.Message.{Message}
-use Rattle.delay_model.specs.declared.messages.Message.TheVariants.{Forecast}
+-- The answer to a message, and which reports a report or forecast contradicts.
+use Rattle.std.specs.Prelude.{◌≡◌, ℕ, Bool, not, nat_eq, nat_lt, Option, Some, None, Result, Ok, Err}
+use Rattle.std.specs.declared.cmp.Ordering.{Ordering}
+use Rattle.std.specs.declared.cmp.Ordering.TheVariants.{Less, Equal, Greater}
 use Rattle.delay_model.specs.declared.messages.Refusal.{Refusal}
-
--- the message is a forecast
-abbrev pub IsForecast : Message → Type 0
-IsForecast (Forecast n t) = Unit {0}
-IsForecast _ = ⊥
 
 -- the answer is the refusal, or Ok exactly where there is none
 abbrev pub Answers : Result (Unit {0}) Refusal → Option Refusal → Type 0
 Answers (Ok done) refusal = refusal ≡ None
 Answers (Err r) refusal = refusal ≡ Some r
+
+-- a report contradicts that an event of the same train takes place at t: the report of an event before that one, if it is after t,
+-- its own report, if it is another time, and the report of an event behind it, if it is before t
+abbrev pub contradicts : Ordering → ℕ → ℕ → Bool
+contradicts Less t report = nat_lt t report
+contradicts Equal t report = not (nat_eq report t)
+contradicts Greater t report = nat_lt report t

@@ -1,8 +1,9 @@
-//! What messages about one event's values do to the graph: which of them are refused, and what the others change.
-//!
-//! Today these are the forecasts alone.
+//! What messages about one event's values and about connections do to the graph: which of them are refused, and what the others
+//! change.
 #![tactic(auto)]
 
+pub mod connections;
 pub mod values;
 
+pub use connections::{apply_keep, check_keep};
 pub use values::{apply_value, check_value};

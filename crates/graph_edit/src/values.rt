@@ -1,41 +1,93 @@
-//! Forecasts.
+//! Reports and forecasts.
 
-ghost use Rattle.std.specs.Prelude.{◌≡◌, None};
+ghost use Rattle.std.specs.Prelude.{◌≡◌, [], ◌∷◌, None, not};
+ghost use Rattle.std.specs.Option.{option_or};
+ghost use Rattle.delay_model.specs.declared.messages.Refusal.TheVariants.{Unknown};
 ghost use Rattle.delay_model.specs.Effect.{effect};
+ghost use Rattle.delay_model.specs.Events.{is_live, train_events};
 ghost use Rattle.delay_model.specs.Messages.{IsWellFormed};
-ghost use Rattle.delay_model.specs.Refusals.{refusal};
-ghost use Rattle.graph_edit.specs.Values.{IsForecast, Answers};
+ghost use Rattle.delay_model.specs.Refusals.{refusal, refused_if, first_reported, contradicted_at};
+ghost use Rattle.train_nodes.specs.Kinds.{IsValue};
+ghost use Rattle.graph_edit.specs.Values.{Answers, contradicts};
 
 use delay_model::messages::{Message, Refusal};
+use delay_model::state::Event;
 use edge_rules::Graph;
+use mt_base::keys::Node;
+use mt_base::numbers::Time;
+use std::cmp::Ordering;
 use train_nodes::Msg;
 
-/// Whether a forecast is accepted, or why it is refused: its event is not there, or not live.
+/// Whether a report or a forecast is accepted, or why it is refused.
+#[tactic(auto, unfolding(delay_model::specs::Refusals::refusal), using(crate::proofs::ValueLemmas::or_none))]
 pub fn check_value(g: &Graph, m: &Msg) -> Result<(), Refusal>
-    requires forecast { IsForecast m.now }
+    requires kind { IsValue m.now }
     ensures { Answers result (refusal g.now.network g.now.state m.now) }
 {
     match m.message() {
-        Message::Forecast { node, .. } => {
-            if g.trains().live(*node) {
-                Ok(())
-            } else {
-                Err(Refusal::Unknown)
-            }
-        }
+        Message::Report { node, time } => check_time(g, node, *time),
+        Message::Forecast { node, time } => check_time(g, node, *time),
         _ => unreachable!(),
     }
 }
 
-/// Changes the graph as an accepted forecast says.
+/// Changes the graph as an accepted report or forecast says.
+#[tactic(auto, unfolding(delay_model::specs::Refusals::refusal), using(crate::proofs::ValueLemmas::known))]
 pub fn apply_value(g: &mut Graph, m: &Msg)
-    requires forecast { IsForecast m.now }
+    requires kind { IsValue m.now }
     requires accepted { refusal g.old.network g.old.state m.now ≡ None }
     ensures effect { g.new ≡ record g.old { state = effect g.old.state m.now } }
     ensures well_formed { IsWellFormed m.now }
 {
     match m.message() {
+        Message::Report { node, time } => g.set_report(*node, *time),
         Message::Forecast { node, time } => g.set_forecast(*node, *time),
         _ => unreachable!(),
     }
+}
+
+/// Whether an event may be given this time: it is live, and no report of its train contradicts it. The first that does, in the
+/// train's order, is shown.
+fn check_time(g: &Graph, n: &Node, t: Time) -> Result<(), Refusal>
+    ensures { Answers result (option_or (refused_if (not (is_live g.now.state n.now)) Unknown) (contradicted_at t n.now (train_events g.now.state n.now.train))) }
+{
+    let trains = g.trains();
+    if !trains.live(*n) {
+        return Err(Refusal::Unknown);
+    }
+    let mut passed = false;
+    for event in trains.events(n.train) {
+        let place = if passed {
+            Ordering::Greater
+        } else if event.key.node().is_same(n) {
+            Ordering::Equal
+        } else {
+            Ordering::Less
+        };
+        check_report(&event, place, t)?;
+        passed = place.is_ge();
+    }
+    Ok(())
+}
+
+/// Whether the report of an event, if it is live and has one, leaves room for this time of an event of the same train. `place` says
+/// where the reported event stands: before that one, at it, or behind it.
+fn check_report(event: &Event, place: Ordering, t: Time) -> Result<(), Refusal>
+    ensures { Answers result (first_reported (contradicts place t) (event.now ∷ [])) }
+{
+    let Some(reported) = event.report else {
+        return Ok(());
+    };
+    let contradicted = match place {
+        Ordering::Less => t < reported,
+        Ordering::Equal => reported != t,
+        Ordering::Greater => reported < t,
+    };
+    if !event.live || !contradicted {
+        return Ok(());
+    }
+    Err(Refusal::Contradiction {
+        event: event.key.node(),
+        reported,
+    })
 }

@@ -12,7 +12,7 @@ use Rattle.message_reader.specs.declared.wire.Connect.{Connect as AConnect}
 use Rattle.message_reader.specs.declared.wire.Connect.TheVariants as connects
 use Rattle.message_reader.specs.declared.wire.Wire.{Wire}
 use Rattle.message_reader.specs.declared.wire.Wire.TheVariants.{Event, Cancel, Reroute, Extra, Connect}
-use Rattle.message_reader.specs.declared.wire.WireLine.TheVariants.{Message}
+use Rattle.message_reader.specs.declared.wire.Line.TheVariants.{Message}
 use Rattle.message_reader.specs.Fields.{digit, two, below, clock, seconds_of, eight_digits, date_of}
 use Rattle.message_reader.specs.Kinds.{kind_of}
 use Rattle.message_reader.specs.Lines.{head_of, message_of, said_by}

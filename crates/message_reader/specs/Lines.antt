@@ -15,12 +15,11 @@ use Rattle.message_reader.specs.declared.bad.Bad.TheVariants.{Utf8, Json, Shape}
 use Rattle.message_reader.specs.declared.kinds.Kind.{Kind}
 use Rattle.message_reader.specs.declared.kinds.Kind.TheVariants as kinds
 use Rattle.message_reader.specs.declared.wire.Connect.TheVariants as connects
-use Rattle.message_reader.specs.declared.wire.Wire.{Wire}
-use Rattle.message_reader.specs.declared.wire.WireLine.{WireLine}
-use Rattle.message_reader.specs.declared.wire.WireLine.TheVariants.{Message, Flush}
+use Rattle.message_reader.specs.declared.wire.Line.{Line}
+use Rattle.message_reader.specs.declared.wire.Line.TheVariants.{Message, Flush}
 use Rattle.message_reader.specs.Chain.{◌>>=◌, need, unless}
 use Rattle.message_reader.specs.Fields.{text_at, number_at}
-use Rattle.message_reader.specs.Kinds.{kind_of}
+use Rattle.message_reader.specs.Kinds.{kind_of, is_served}
 use Rattle.message_reader.specs.Messages.{event_of, cancel_of, reroute_of, extra_of, connect_of}
 
 -- the bytes are a text in UTF-8
@@ -40,7 +39,7 @@ head_of d = do
   need Shape (kind_of name)
 
 -- what the object of a message says
-unfoldable pub message_of : Kind → Data → Result WireLine Bad
+unfoldable pub message_of : Kind → Data → Result Line Bad
 message_of kinds.Forecast d = event_of false d >>= λ w. Ok (Message w)
 message_of kinds.Report d = event_of true d >>= λ w. Ok (Message w)
 message_of kinds.Cancel d = cancel_of d >>= λ w. Ok (Message w)
@@ -52,27 +51,23 @@ message_of kinds.Rule d = connect_of connects.Rule d >>= λ w. Ok (Message w)
 message_of kinds.Flush d = Ok Flush
 
 -- what the value of a line says
-unfoldable pub said_by : Data → Result WireLine Bad
+unfoldable pub said_by : Data → Result Line Bad
 said_by d = do
   kind ← head_of d
   message_of kind d
 
 -- the first fault that holds, or what the line says
-unfoldable pub line_of : List ℕ → Result WireLine Bad
+unfoldable pub line_of : List ℕ → Result Line Bad
 line_of bytes = do
   text ← utf8_of bytes
   d ← json_of text
   said_by d
 
--- what the object of a forecast says; the object of every other type has the wrong shape
-unfoldable pub forecast_in : Kind → Data → Result Wire Bad
-forecast_in kinds.Forecast d = event_of false d
-forecast_in _ d = Err Shape
-
--- the first fault that holds, or the forecast that the line says, where lines of every other type are bad
-unfoldable pub forecast_of : List ℕ → Result Wire Bad
-forecast_of bytes = do
+-- the same where a line of a type that is not served has the wrong shape
+unfoldable pub served_line_of : List ℕ → Result Line Bad
+served_line_of bytes = do
   text ← utf8_of bytes
   d ← json_of text
   kind ← head_of d
-  forecast_in kind d
+  _ ← unless (is_served kind) Shape
+  message_of kind d

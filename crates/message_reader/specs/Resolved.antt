@@ -110,11 +110,6 @@ resolved names (Reroute trip date from to via) = reroute_resolved names trip dat
 resolved names (Extra trip date route calls) = extra_resolved names trip date route calls
 resolved names (Connect kind feeder train) = connect_resolved names kind feeder train
 
--- the message is a forecast
-abbrev pub SaysForecast : Message → Type 0
-SaysForecast (messages.Forecast n t) = Unit {0}
-SaysForecast _ = ⊥
-
 -- ---- what a function returns
 
 -- a fault is the refusal that the names decide; memory may run out whatever they decide

@@ -1,11 +1,11 @@
 -- What is true of each message that was read.
-use Rattle.std.specs.Prelude.{◌≡◌, ◌≤◌, false, All, length}
+use Rattle.std.specs.Prelude.{◌≤◌, All, length}
 use Rattle.mt_base.specs.Civil.{IsCivil}
 use Rattle.message_reader.specs.declared.wire.WireCall.{WireCall}
 use Rattle.message_reader.specs.declared.wire.Wire.{Wire}
 use Rattle.message_reader.specs.declared.wire.Wire.TheVariants.{Event, Cancel, Reroute, Extra, Connect}
-use Rattle.message_reader.specs.declared.wire.WireLine.{WireLine}
-use Rattle.message_reader.specs.declared.wire.WireLine.TheVariants.{Message, Flush}
+use Rattle.message_reader.specs.declared.wire.Line.{Line}
+use Rattle.message_reader.specs.declared.wire.Line.TheVariants.{Message, Flush}
 
 -- both times are at most 99:59:59
 abbrev pub IsWireCall : WireCall → Type 0
@@ -19,12 +19,18 @@ IsWire (Reroute trip date from to via) = IsCivil date × All IsWireCall via
 IsWire (Extra trip date route calls) = IsCivil date × All IsWireCall calls × (2 ≤ length calls)
 IsWire (Connect kind feeder train) = IsCivil feeder.date × IsCivil train.date
 
--- the message is a forecast
-abbrev pub IsForecast : Wire → Type 0
-IsForecast (Event report trip date call dep secs) = report ≡ false
-IsForecast _ = ⊥
+-- the message leaves the calls of all trains, and which of their events take place, as they are
+abbrev pub LeavesCalls : Wire → Type 0
+LeavesCalls (Event report trip date call dep secs) = Unit {0}
+LeavesCalls (Connect kind feeder train) = Unit {0}
+LeavesCalls _ = ⊥
 
 -- the message of the line keeps what every message that is read keeps
-abbrev pub IsWireLine : WireLine → Type 0
-IsWireLine (Message w) = IsWire w
-IsWireLine Flush = Unit {0}
+abbrev pub IsLine : Line → Type 0
+IsLine (Message w) = IsWire w
+IsLine Flush = Unit {0}
+
+-- the message of the line, if it is one, leaves the calls of all trains as they are
+abbrev pub IsServedLine : Line → Type 0
+IsServedLine (Message w) = LeavesCalls w
+IsServedLine Flush = Unit {0}

@@ -3,7 +3,7 @@
 ghost use Rattle.std.specs.Prelude.{◌≡◌, ℕ, ◌≤◌, Some, Ok};
 ghost use Rattle.mt_base.specs.Civil.{IsCivil};
 ghost use Rattle.message_reader.specs.declared.wire.Wire.{Wire as AWire};
-ghost use Rattle.message_reader.specs.declared.wire.WireLine.TheVariants.{Message};
+ghost use Rattle.message_reader.specs.declared.wire.Line.TheVariants.{Message};
 ghost use Rattle.message_reader.specs.Fields.{seconds_of, date_of};
 ghost use Rattle.message_reader.specs.Lines.{said_by};
 ghost use Rattle.message_reader.specs.Spelled.{time_text, date_text, object_of, HasLabels};

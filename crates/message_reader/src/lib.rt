@@ -17,10 +17,10 @@ mod wire;
 
 pub use bad::Bad;
 pub use laws::{dates_are_read_back, messages_are_read_back, times_are_read_back};
-pub use lines::{read_forecast, read_wire};
+pub use lines::{read_line, read_wire};
 pub use messages::resolve;
 pub use unresolved::ResolveFault;
-pub use wire::{Connect, Wire, WireCall, WireLine, WireRef};
+pub use wire::{Connect, Line, Wire, WireCall, WireRef};
 
 #[cfg(test)]
 mod tests;

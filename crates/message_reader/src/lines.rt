@@ -1,18 +1,19 @@
 //! A line: its text, its value, its type, and what it says.
 
-ghost use Rattle.std.specs.Prelude.{IfOk};
+ghost use Rattle.std.specs.Prelude.{◌≡◌, true, IfOk};
 ghost use Rattle.serde_json.specs.View.{view};
 ghost use Rattle.message_reader.specs.Chain.{Gives, GivesAs};
-ghost use Rattle.message_reader.specs.Lines.{utf8_of, json_of, head_of, message_of, said_by, line_of, forecast_in, forecast_of};
-ghost use Rattle.message_reader.specs.Wires.{IsWire, IsWireLine, IsForecast};
+ghost use Rattle.message_reader.specs.Kinds.{is_served};
+ghost use Rattle.message_reader.specs.Lines.{utf8_of, json_of, head_of, message_of, said_by, line_of, served_line_of};
+ghost use Rattle.message_reader.specs.Wires.{IsLine, IsServedLine};
 
 use crate::bad::Bad;
 use crate::connections::connect;
 use crate::events::{cancel, event};
 use crate::fields::{number_at, text_at};
-use crate::kinds::{Kind, kind_named};
+use crate::kinds::{Kind, is_served, kind_named};
 use crate::routes::{extra, reroute};
-use crate::wire::{Connect, Wire, WireLine};
+use crate::wire::{Connect, Line};
 use serde_json::Value;
 use std::alloc::Global;
 
@@ -48,9 +49,10 @@ fn head(value: &Value) -> Result<Kind, Bad>
 }
 
 #[tactic(auto, unfolding(crate::specs::Lines::message_of))]
-fn message(alloc: Global, kind: Kind, value: &Value) -> Result<WireLine, Bad>
+fn message(alloc: Global, kind: Kind, value: &Value) -> Result<Line, Bad>
     ensures exact { Gives result (message_of kind (view value.now)) }
-    ensures kept { IfOk result IsWireLine }
+    ensures kept { IfOk result IsLine }
+    ensures served { is_served kind ≡ true → IfOk result IsServedLine }
 {
     let wire = match kind {
         Kind::Forecast => event(alloc, false, value)?,
@@ -61,15 +63,15 @@ fn message(alloc: Global, kind: Kind, value: &Value) -> Result<WireLine, Bad>
         Kind::Keep => connect(alloc, Connect::Keep, value)?,
         Kind::Drop => connect(alloc, Connect::Drop, value)?,
         Kind::Rule => connect(alloc, Connect::Rule, value)?,
-        Kind::Flush => return Ok(WireLine::Flush),
+        Kind::Flush => return Ok(Line::Flush),
     };
-    Ok(WireLine::Message(wire))
+    Ok(Line::Message(wire))
 }
 
 #[tactic(auto, unfolding(crate::specs::Lines::said_by))]
-fn said(alloc: Global, value: &Value) -> Result<WireLine, Bad>
+fn said(alloc: Global, value: &Value) -> Result<Line, Bad>
     ensures exact { Gives result (said_by (view value.now)) }
-    ensures kept { IfOk result IsWireLine }
+    ensures kept { IfOk result IsLine }
 {
     let kind = head(value)?;
     message(alloc, kind, value)
@@ -77,35 +79,28 @@ fn said(alloc: Global, value: &Value) -> Result<WireLine, Bad>
 
 /// What a line says, or its first fault. Memory may run out at any line.
 #[tactic(auto, unfolding(crate::specs::Lines::line_of))]
-pub fn read_wire(alloc: Global, bytes: &[u8]) -> Result<WireLine, Bad>
+pub fn read_wire(alloc: Global, bytes: &[u8]) -> Result<Line, Bad>
     ensures exact { Gives result (line_of bytes.now) }
-    ensures kept { IfOk result IsWireLine }
+    ensures kept { IfOk result IsLine }
 {
     let text = utf8(bytes)?;
     let value = json(alloc, text)?;
     said(alloc, &value)
 }
 
-#[tactic(auto, unfolding(crate::specs::Lines::forecast_in))]
-fn forecast(alloc: Global, kind: Kind, value: &Value) -> Result<Wire, Bad>
-    ensures exact { Gives result (forecast_in kind (view value.now)) }
-    ensures kept { IfOk result (λ w. IsForecast w × IsWire w) }
-{
-    match kind {
-        Kind::Forecast => event(alloc, false, value),
-        _ => Err(Bad::Shape),
-    }
-}
-
-/// The forecast that a line says, or the line's first fault. A line of every other type is `Shape`, whatever its members are. Memory
-/// may run out at any line.
-#[tactic(auto, unfolding(crate::specs::Lines::forecast_of))]
-pub fn read_forecast(alloc: Global, bytes: &[u8]) -> Result<Wire, Bad>
-    ensures exact { Gives result (forecast_of bytes.now) }
-    ensures kept { IfOk result (λ w. IsForecast w × IsWire w) }
+/// What a line says that is of a type which is served, or its first fault: a line of another type is `Shape`, whatever its other
+/// members are. Memory may run out at any line.
+#[tactic(auto, unfolding(crate::specs::Lines::served_line_of))]
+pub fn read_line(alloc: Global, bytes: &[u8]) -> Result<Line, Bad>
+    ensures exact { Gives result (served_line_of bytes.now) }
+    ensures kept { IfOk result IsLine }
+    ensures served { IfOk result IsServedLine }
 {
     let text = utf8(bytes)?;
     let value = json(alloc, text)?;
     let kind = head(&value)?;
-    forecast(alloc, kind, &value)
+    if !is_served(kind) {
+        return Err(Bad::Shape);
+    }
+    message(alloc, kind, &value)
 }

@@ -1,9 +1,10 @@
 //! Messages by name as messages by number.
 
-ghost use Rattle.std.specs.Prelude.{◌≡◌, ◌≤◌, false, All, IfOk, length};
+ghost use Rattle.std.specs.Prelude.{◌≤◌, All, IfOk, length};
 ghost use Rattle.delay_model.specs.Messages.{IsWellFormed};
-ghost use Rattle.message_reader.specs.Resolved.{event_resolved, cancel_resolved, reroute_resolved, extra_resolved, connect_resolved, resolved, Resolves, SaysForecast};
-ghost use Rattle.message_reader.specs.Wires.{IsWire, IsWireCall, IsForecast};
+ghost use Rattle.message_reader.specs.Resolved.{event_resolved, cancel_resolved, reroute_resolved, extra_resolved, connect_resolved, resolved, Resolves};
+ghost use Rattle.message_reader.specs.Wires.{IsWire, IsWireCall, LeavesCalls as LeavesCallsWire};
+ghost use Rattle.train_nodes.specs.Kinds.{LeavesCalls};
 
 use crate::numbers::{new_calls, node, time_on, train_on};
 use crate::unresolved::ResolveFault;
@@ -30,7 +31,7 @@ fn event(
     requires { secs ≤ 359999 }
     ensures exact { Resolves result (event_resolved dir.now report trip.now date call dep secs) }
     ensures kept { IfOk result IsWellFormed }
-    ensures forecast { report ≡ false → IfOk result SaysForecast }
+    ensures kind { IfOk result LeavesCalls }
 {
     let found = train_on(dir, trip, date)?;
     let node = Node {
@@ -130,6 +131,7 @@ fn connect(
 ) -> Result<Message, ResolveFault>
     ensures exact { Resolves result (connect_resolved dir.now kind feeder.now train.now) }
     ensures kept { IfOk result IsWellFormed }
+    ensures kind { IfOk result LeavesCalls }
 {
     let feeder = node(dir, false, feeder)?;
     let train = node(dir, true, train)?;
@@ -146,7 +148,7 @@ fn message(alloc: Global, wire: &Wire, dir: &Directory) -> Result<Message, Resol
     requires { IsWire wire.now }
     ensures exact { Resolves result (resolved dir.now wire.now) }
     ensures kept { IfOk result IsWellFormed }
-    ensures forecast { IsForecast wire.now → IfOk result SaysForecast }
+    ensures kind { LeavesCallsWire wire.now → IfOk result LeavesCalls }
 {
     match wire {
         Wire::Event {
@@ -190,7 +192,7 @@ fn message(alloc: Global, wire: &Wire, dir: &Directory) -> Result<Message, Resol
 pub fn resolve(alloc: Global, wire: &Wire, dir: &Directory) -> Result<Msg, ResolveFault>
     requires kept { IsWire wire.now }
     ensures exact { Resolves result (resolved dir.now wire.now) }
-    ensures forecast { IsForecast wire.now → IfOk result SaysForecast }
+    ensures kind { LeavesCallsWire wire.now → IfOk result LeavesCalls }
 {
     let message = message(alloc, wire, dir)?;
     Ok(Msg::new(message))

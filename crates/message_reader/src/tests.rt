@@ -1,4 +1,4 @@
-use crate::{Bad, Connect, Wire, WireCall, WireLine, WireRef, read_wire};
+use crate::{Bad, Connect, Line, Wire, WireCall, WireRef, read_wire};
 use std::alloc::Global;
 use std::test::Fail;
 
@@ -11,7 +11,7 @@ fn fault(alloc: Global, line: &[u8]) -> Option<Bad> {
 
 fn message(alloc: Global, line: &[u8]) -> Option<Wire> {
     match read_wire(alloc, line) {
-        Ok(WireLine::Message(wire)) => Some(wire),
+        Ok(Line::Message(wire)) => Some(wire),
         _ => None,
     }
 }
@@ -216,7 +216,7 @@ fn connections(rt: HostRuntime) {
 
 fn is_flush(alloc: Global, line: &[u8]) -> bool {
     match read_wire(alloc, line) {
-        Ok(WireLine::Flush) => true,
+        Ok(Line::Flush) => true,
         _ => false,
     }
 }

@@ -107,9 +107,9 @@ pub enum Wire {
 
 /// What a line says.
 #[derive(Drop)]
-pub enum WireLine {
+pub enum Line {
     /// A message.
     Message(Wire),
-    /// The wish that all replies so far be written.
+    /// Asks how many messages were accepted so far.
     Flush,
 }

@@ -1,5 +1,5 @@
 -- The names of events as they are listed, train by train and call by call.
-use Rattle.std.proofs.Common.{◌≡◌, ℕ, zero, suc, ◌+◌, ◌<◌, ◌≤◌, true, false, is_some, List, [], ◌∷◌, ◌++◌, append_assoc, Option, Some, None, slice_get, find, length, length-drop, get_or, drop, refl, sym, ◌∙◌, ap, subst, arith, inl, inr}
+use Rattle.std.proofs.Common.{◌≡◌, ℕ, zero, suc, ◌+◌, ◌<◌, true, false, is_some, List, [], ◌∷◌, ◌++◌, append_assoc, Option, Some, None, slice_get, find, length, length-drop, get_or, drop, refl, sym, ◌∙◌, ap, subst, arith, inl, inr}
 use Rattle.std.specs.List.{All}
 use Rattle.std.specs.Option.{IfSome, option_map_or}
 use Rattle.std.proofs.lemmas.Bool.{cases_lt}
@@ -162,7 +162,3 @@ more-trains st n all done more l whole e =
     ∙ ap (λ ns. done ++ ns) (sym (map-append (λ (v : Event). node_of v.key) here later))
     ∙ ap (λ ts. done ++ names_of (events_from n ts)) (sym (cut-at st.trains n t.0 l t.1))
     ∙ whole
-
-pub no-trains : (st : State) (n : ℕ) (all done : List Node) → length st.trains ≤ n → done ++ names_of (events_from n (drop n st.trains)) ≡ all → done ≡ all
-no-trains st n all done l whole =
-    sym (append-none done) ∙ ap (λ ts. done ++ names_of (events_from n ts)) (sym (drop_all n st.trains l)) ∙ whole

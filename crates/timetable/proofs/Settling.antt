@@ -1,11 +1,10 @@
 -- The rule at the events of a valid state, one after the other in the order of their keys.
-use Rattle.std.proofs.Common.{◌≡◌, ℕ, suc, ◌+◌, ◌^◌, ◌<◌, Bool, true, false, not, cond, nat_eq, is_some, List, [], ◌∷◌, ◌++◌, Option, Some, None, unwrap_or, length, get_or, take, drop, refl, sym, ◌∙◌, ap, subst, arith}
-use Rattle.std.specs.List.{All, Contains, count_by}
+use Rattle.std.proofs.Common.{◌≡◌, ℕ, suc, ◌+◌, ◌^◌, ◌<◌, ◌≤◌, Bool, true, false, not, nat_eq, is_some, List, [], ◌∷◌, ◌++◌, append_assoc, map, Vec, Global, vec_len, vec_capacity, Option, Some, None, unwrap_or, length, get_or, take, drop, refl, sym, ◌∙◌, ap, subst, arith}
+use Rattle.std.specs.List.{All, Contains, filter}
 use Rattle.std.specs.Option.{option_map, option_map_or}
-use Rattle.std.proofs.lemmas.Bool.{false_from_ne_true}
+use Rattle.std.proofs.lemmas.Bool.{cond-true, cond-false, false_from_ne_true}
 use Rattle.std.proofs.Math.Seq.{drop-cons}
 use Rattle.std.proofs.lemmas.List.{take-append-drop, take_more}
-use Rattle.std.proofs.lemmas.List.Sums.{count_by_more_yes, count_by_more_no}
 use Rattle.std.proofs.lemmas.List.Elements.{All-append, All-cons, All-nil, All-head, All-tail, All-contains, All-contains_itself as All-itself, Contains-append_left, Contains-append_right}
 use Rattle.mt_base.specs.declared.keys.Key.{Key}
 use Rattle.mt_base.specs.declared.keys.Node.{Node}
@@ -100,11 +99,14 @@ module _ (g : Timetabled) (valid : IsValid g.network g.state) (order : List Key)
       apart q (subst (λ zs. Contains zs q) (sym whole) (Contains-append_right xs (k ∷ ys) q (Contains-there k ys q (All-itself ys i d l)))) (λ same.
       let none = before-itself k in let own : is_before k k ≡ true = sym (ap (is_before k) same) ∙ less in cc)
 
--- part of an evaluation: the times of the first events are kept, and counted where another was kept before
-pub record IsPart (g : Timetabled) (order : List Key) (old : Kept) (i : ℕ) (times : Kept) (changed : ℕ) : Type 0 where
+-- part of an evaluation: the times of the first events are kept, and those listed for which another was kept before. There is room
+-- for the others
+pub record IsPart (g : Timetabled) (order : List Key) (old : Kept) (before : Vec Node Global) (i : ℕ) (times : Kept) (changed : Vec Node Global) : Type 0 where
   pub done : All (HasItsTime g.network g.state times) (take i order)
   pub left : All (λ k. time_of times (node_of k) ≡ time_of old (node_of k)) (drop i order)
-  pub count : changed ≡ count_by (has_another g.network g.state old) (take i order)
+  pub listed : changed.items ++ map node_of (filter (has_another g.network g.state old) (drop i order)) ≡ before.items ++ map node_of (filter (has_another g.network g.state old) order)
+  pub room : vec_len changed + length (drop i order) ≤ vec_capacity changed
+  pub capacity : vec_capacity changed ≡ vec_capacity before
 
 -- a list is cut at one of its elements
 pub cut-at : {X : Type 0} (xs : List X) (i : ℕ) (x : X) → i < length xs → x ≡ get_or xs i x → drop i xs ≡ x ∷ drop (i + 1) xs
@@ -116,7 +118,7 @@ some-value : (o : Option ℕ) → is_some o ≡ true → (x : ℕ) × (o ≡ Som
 some-value None h = absurd (cc)
 some-value (Some x) h = (x, refl)
 
-module _ (g : Timetabled) (valid : IsValid g.network g.state) (order : List Key) (is : IsOrderOf (events g.state) order) (old : Kept) (held : All (λ k. has_time old (node_of k) ≡ true) order) (i : ℕ) (times : Kept) (changed : ℕ) (part : IsPart g order old i times changed) (k : Key) (l : i < length order) (at : k ≡ get_or order i k) (n : Node) (name : n ≡ node_of k) where
+module _ {g : Timetabled} (valid : IsValid g.network g.state) {order : List Key} (is : IsOrderOf (events g.state) order) {old : Kept} (held : All (λ k. has_time old (node_of k) ≡ true) order) {before : Vec Node Global} {i : ℕ} {times : Kept} {changed : Vec Node Global} (part : IsPart g order old before i times changed) {k : Key} (l : i < length order) (at : k ≡ get_or order i k) {n : Node} (name : n ≡ node_of k) where
   abbrev xs : List Key
   xs = take i order
 
@@ -136,6 +138,12 @@ module _ (g : Timetabled) (valid : IsValid g.network g.state) (order : List Key)
   pub part-fits : All (λ (e : Edge). kept_time times e.from + e.weight < 2 ^ 25) (edges_to g n)
   part-fits =
       subst (λ m. All (λ (e : Edge). kept_time times e.from + e.weight < 2 ^ 25) (edges_to g m)) (sym name) (next-fits g valid order is times xs k ys whole part.done)
+
+  left-over : length (drop i order) ≡ length ys + 1
+  left-over = let long = ap length (cut-at order i k l at) in omega arith
+
+  pub part-room : vec_len changed < vec_capacity changed
+  part-room = let room = part.room in omega (arith, left-over)
 
   rest : All (λ k. time_of times (node_of k) ≡ time_of old (node_of k)) (k ∷ ys)
   rest = subst (All (λ k. time_of times (node_of k) ≡ time_of old (node_of k))) (cut-at order i k l at) part.left
@@ -158,12 +166,6 @@ module _ (g : Timetabled) (valid : IsValid g.network g.state) (order : List Key)
         differs was.0 (event_time g.network g.state k) (ap (time_of times) name ∙ same ∙ was.1) (ap (time_of new) name ∙ settled)
         ∙ ap (λ x. not (nat_eq x (event_time g.network g.state k))) (sym (ap (λ o. unwrap_or o 0) was.1))
 
-    count : (b : Bool) (next : ℕ) → result ≡ b → next ≡ cond b (changed + 1) changed → next ≡ count_by (has_another g.network g.state old) (take (i + 1) order)
-    count true next r e =
-        e ∙ ap (λ n. n + 1) part.count ∙ sym (count_by_more_yes (has_another g.network g.state old) order i k l (ap (has_another g.network g.state old) (sym at) ∙ sym counts ∙ r))
-    count false next r e =
-        e ∙ part.count ∙ sym (count_by_more_no (has_another g.network g.state old) order i k l (ap (has_another g.network g.state old) (sym at) ∙ sym counts ∙ r))
-
     first : All (HasItsTime g.network g.state new) (take (i + 1) order)
     first =
         subst (All (HasItsTime g.network g.state new)) (sym (take_more order i k l ∙ ap (λ q. xs ++ q ∷ []) (sym at)))
@@ -174,6 +176,35 @@ module _ (g : Timetabled) (valid : IsValid g.network g.state) (order : List Key)
     last : All (λ k. time_of new (node_of k) ≡ time_of old (node_of k)) ys
     last = λ j d m. others (node_of (get_or ys j d)) (ap (λ m. is_same_node m (node_of (get_or ys j d))) name ∙ apart-after g valid order is times xs k ys whole part.done j d m) ∙ All-tail (λ k. time_of times (node_of k) ≡ time_of old (node_of k)) k ys rest j d m
 
-    -- one event more
-    pub part-more : (b : Bool) (next : ℕ) → result ≡ b → next ≡ cond b (changed + 1) changed → IsPart g order old (i + 1) new next
-    part-more b next r e = record { done = first; left = last; count = count b next r e }
+    abbrev more : List Key → List Node
+    more ks = map node_of (filter (has_another g.network g.state old) ks)
+
+    -- one event more, for which another time was kept
+    pub more-changed : (next : Vec Node Global) → result ≡ true → next.items ≡ changed.items ++ node_of k ∷ [] → vec_len next ≡ vec_len changed + 1 → vec_capacity next ≡ vec_capacity changed → IsPart g order old before (i + 1) new next
+    more-changed next r pushed long same =
+        let room = part.room in
+        record {
+          done = first;
+          left = last;
+          listed = ap (λ ns. ns ++ more ys) pushed
+              ∙ append_assoc changed.items (node_of k ∷ []) (more ys)
+              ∙ ap (λ ks. changed.items ++ map node_of ks) (sym (cond-true (has_another g.network g.state old k) (k ∷ filter (has_another g.network g.state old) ys) (filter (has_another g.network g.state old) ys) (sym counts ∙ r)))
+              ∙ ap (λ ks. changed.items ++ more ks) (sym (cut-at order i k l at))
+              ∙ part.listed;
+          room = omega (arith, left-over);
+          capacity = same ∙ part.capacity;
+        }
+
+    -- and one whose time it was
+    pub more-same : result ≡ false → IsPart g order old before (i + 1) new changed
+    more-same r =
+        let room = part.room in
+        record {
+          done = first;
+          left = last;
+          listed = ap (λ ks. changed.items ++ map node_of ks) (sym (cond-false (has_another g.network g.state old k) (k ∷ filter (has_another g.network g.state old) ys) (filter (has_another g.network g.state old) ys) (sym counts ∙ r)))
+              ∙ ap (λ ks. changed.items ++ more ks) (sym (cut-at order i k l at))
+              ∙ part.listed;
+          room = omega (arith, left-over);
+          capacity = part.capacity;
+        }

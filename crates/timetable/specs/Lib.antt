@@ -1,4 +1,5 @@
 pub mod Running
 pub mod LiveTimes
+pub mod Changed
 pub mod Settled
 pub mod Inside

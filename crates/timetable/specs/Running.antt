@@ -1,6 +1,8 @@
 -- What a timetable is seen as, and what an accepted message makes of it.
-use Rattle.std.specs.Prelude.{ℕ, ◌+◌, ◌-◌, ◌^◌, min, refl, if◌then◌else◌, is_none}
-use Rattle.std.specs.Coded.{Coded, code_by, coded×, coded_ℕ}
+use Rattle.std.specs.Prelude.{ℕ, ◌+◌, ◌-◌, ◌^◌, List, min, refl, if◌then◌else◌, is_none}
+use Rattle.std.specs.Coded.{Coded, code_by, coded×, coded_ℕ, coded_list}
+use Rattle.mt_base.specs.declared.keys.Node.{Node}
+use Rattle.mt_base.specs.Order.{coded_node}
 use Rattle.delay_model.specs.declared.messages.Message.{Message}
 use Rattle.delay_model.specs.declared.network.Network.{Network}
 use Rattle.delay_model.specs.declared.state.State.{State}
@@ -8,17 +10,19 @@ use Rattle.delay_model.specs.contracts.network.Network.{the_row as network_row}
 use Rattle.delay_model.specs.contracts.state.State.{the_row as state_row}
 use Rattle.delay_model.specs.Effect.{effect}
 use Rattle.delay_model.specs.Refusals.{refusal}
+use Rattle.timetable.specs.Changed.{changed_nodes}
 
--- what no message changes, the state of the trains, and how many messages were accepted
+-- what no message changes, the state of the trains, how many messages were accepted, and the events that the last of them changed
 pub record Running : Type 0 where
   pub network : Network
   pub state : State
   pub count : ℕ
+  pub changed : List Node
 
 -- a timetable is stored as its fields
 abbrev pub running_code : Coded Running
 running_code =
-    code_by (Network × (State × ℕ)) (coded× network_row.coded (coded× state_row.coded coded_ℕ)) (λ r. (r.network, (r.state, r.count))) (λ p. record { network = p.0; state = p.1.0; count = p.1.1 }) (λ _. refl)
+    code_by (Network × (State × (ℕ × List Node))) (coded× network_row.coded (coded× state_row.coded (coded× coded_ℕ (coded_list coded_node)))) (λ r. (r.network, (r.state, (r.count, r.changed)))) (λ p. record { network = p.0; state = p.1.0; count = p.1.1.0; changed = p.1.1.1 }) (λ _. refl)
 
 -- one message more, as far as 64 bits count
 abbrev pub counted : ℕ → ℕ
@@ -26,7 +30,13 @@ counted n = min (n + 1) (2 ^ 64 - 1)
 
 -- the timetable after an accepted message
 abbrev pub stepped : Running → Message → Running
-stepped r m = record { network = r.network; state = effect r.state m; count = counted r.count }
+stepped r m =
+    record {
+      network = r.network;
+      state = effect r.state m;
+      count = counted r.count;
+      changed = changed_nodes r.network r.state (effect r.state m);
+    }
 
 -- the state after a message, which changes nothing if it is refused
 abbrev pub state_after : Network → State → Message → State

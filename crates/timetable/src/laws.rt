@@ -1,11 +1,17 @@
 //! Laws of timetables.
 
-ghost use Rattle.std.specs.Prelude.{◌≡◌};
-ghost use Rattle.graph_edit.specs.Values.{IsForecast};
+ghost use Rattle.std.specs.Prelude.{◌≡◌, Contains, length};
+ghost use Rattle.mt_base.specs.Order.{node_of};
+ghost use Rattle.delay_model.specs.declared.state.Event.{Event as AnEvent};
+ghost use Rattle.delay_model.specs.Touched.{changed};
+ghost use Rattle.train_nodes.specs.Kinds.{LeavesCalls};
+ghost use Rattle.timetable.specs.Changed.{changed_nodes};
 ghost use Rattle.timetable.specs.LiveTimes.{live_time};
 ghost use Rattle.timetable.specs.Running.{state_after};
 
 use crate::timetable::Timetable;
+use delay_model::network::Network;
+use delay_model::state::State;
 use mt_base::keys::Node;
 use mt_base::numbers::Time;
 use std::sync::ledger::Ledger;
@@ -18,9 +24,15 @@ pub fn time_after_a_step<L: Ledger>(
     n: Node,
     steps: &mut Steps<L>,
 ) -> Option<Time>
-    requires { IsForecast m.now }
+    requires { LeavesCalls m.now }
     ensures { result ≡ live_time timetable.old.network (state_after timetable.old.network timetable.old.state m.now) n }
 {
     let _answer = timetable.step(m, steps);
     timetable.time(n, steps)
 }
+
+/// The events that a timetable lists as changed are those that the model calls changed: each of them, and as many.
+pub fn changed_events_are_listed(nw: &Network, old: &State, new: &State)
+    ensures each { (v : AnEvent) → Contains (changed nw.now old.now new.now) v → Contains (changed_nodes nw.now old.now new.now) (node_of v.key) }
+    ensures count { length (changed_nodes nw.now old.now new.now) ≡ length (changed nw.now old.now new.now) }
+{}

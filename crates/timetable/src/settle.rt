@@ -1,7 +1,6 @@
 //! The rule for times, evaluated at one event after the other.
 
-ghost use Rattle.std.specs.Prelude.{◌≡◌, ◌+◌, ◌<◌, ◌^◌, ℕ, IsTrue, Some, All, false, not, nat_eq};
-ghost use Rattle.std.specs.List.{count_by};
+ghost use Rattle.std.specs.Prelude.{◌≡◌, ◌+◌, ◌<◌, ◌≤◌, ◌^◌, ◌++◌, ℕ, IsTrue, Some, All, false, not, nat_eq, length, map, filter, vec_len, vec_capacity};
 ghost use Rattle.mt_base.specs.declared.keys.Node.{Node as ANode};
 ghost use Rattle.mt_base.specs.Order.{node_of, is_same_node};
 ghost use Rattle.delay_model.specs.Events.{events, is_live};
@@ -39,27 +38,28 @@ fn settle_one<L: Ledger>(
     true
 }
 
-/// Keeps the time of each of these events, which are the live ones in the order of their keys, and answers for how many of them
-/// another was kept.
+/// Keeps the time of each of these events, which are the live ones in the order of their keys, and lists those for which another was
+/// kept.
 pub(crate) fn settle<L: Ledger>(
     graph: &Graph,
     order: &[Key],
     times: &mut NodeTimes,
+    changed: &mut Vec<Node>,
     steps: &mut Steps<L>,
-) -> u64
+)
     requires valid { IsValid graph.now.network graph.now.state }
     requires order { IsOrderOf (events graph.now.state) order.now }
     requires held { All (λ k. IsTrue (has_time times.old (node_of k))) order.now }
+    requires room { vec_len changed.old + length order.now ≤ vec_capacity changed.old }
     ensures times { All (HasItsTime graph.now.network graph.now.state times.new) order.now }
-    ensures changed { result ≡ count_by (has_another graph.now.network graph.now.state times.old) order.now }
+    ensures changed { changed.new.items ≡ changed.old.items ++ map node_of (filter (has_another graph.now.network graph.now.state times.old) order.now) }
+    ensures capacity { vec_capacity changed.new ≡ vec_capacity changed.old }
 {
-    let mut changed = 0;
     for k in order {
         if settle_one(graph, &k.node(), times, steps) {
-            changed += 1;
+            changed.push_reserved(k.node());
         }
     }
-    changed
 }
 
 /// Keeps the time of each of these events, and counts no step.
@@ -67,6 +67,7 @@ pub(crate) fn settle_all<L: Ledger>(
     graph: &Graph,
     order: &[Key],
     times: &mut NodeTimes,
+    changed: &mut Vec<Node>,
     blank: Blank,
 )
     requires name { blank.name ≡ L.name }
@@ -75,8 +76,10 @@ pub(crate) fn settle_all<L: Ledger>(
     requires valid { IsValid graph.now.network graph.now.state }
     requires order { IsOrderOf (events graph.now.state) order.now }
     requires held { All (λ k. IsTrue (has_time times.old (node_of k))) order.now }
-    ensures { All (HasItsTime graph.now.network graph.now.state times.new) order.now }
+    requires room { vec_len changed.old + length order.now ≤ vec_capacity changed.old }
+    ensures times { All (HasItsTime graph.now.network graph.now.state times.new) order.now }
+    ensures capacity { vec_capacity changed.new ≡ vec_capacity changed.old }
 {
     let mut steps = Steps::<L>::open(blank);
-    settle(graph, order, times, &mut steps);
+    settle(graph, order, times, changed, &mut steps);
 }

@@ -1,23 +1,23 @@
 //! The timetable.
 
-ghost use Rattle.std.specs.Prelude.{◌≡◌, ◌+◌, ◌*◌, ◌≤◌, None, Some, All, IfOk, IfErr, length, map};
-ghost use Rattle.std.specs.FinMap as finmap;
+ghost use Rattle.std.specs.Prelude.{◌≡◌, ◌+◌, ◌*◌, ◌≤◌, [], None, Some, IfOk, IfErr, length, map, vec_capacity};
 ghost use Rattle.delay_model.specs.Events.{events};
 ghost use Rattle.delay_model.specs.Refusals.{refusal};
 ghost use Rattle.delay_model.specs.Touched.{changed_count};
 ghost use Rattle.delay_model.specs.Valid.{IsValid};
 ghost use Rattle.waiting_rules.specs.WaitTable.{parent_station};
-ghost use Rattle.edge_rules.specs.Held.{network_of, IsUnderWay};
-ghost use Rattle.graph_edit.specs.Values.{IsForecast, Answers};
+ghost use Rattle.edge_rules.specs.Held.{network_of};
+ghost use Rattle.graph_edit.specs.Values.{Answers};
+ghost use Rattle.train_nodes.specs.Kinds.{LeavesCalls};
 ghost use Rattle.timetable.specs.LiveTimes.{live_time};
 ghost use Rattle.timetable.specs.Running.{stepped};
 
 use crate::events::{blank_times, key_order, list_nodes};
+use crate::messages::{apply, check};
 use crate::settle::{settle, settle_all};
 use change_times::Changes;
 use delay_model::messages::Refusal;
 use edge_rules::Graph;
-use graph_edit::{apply_value, check_value};
 use mt_base::keys::{Key, Node};
 use mt_base::memory::OutOfMemory;
 use mt_base::numbers::Time;
@@ -28,7 +28,7 @@ use std::sync::ledger::{Blank, Ledger};
 use train_nodes::{Msg, NodeTimes, Steps, Trains};
 use waiting_rules::Waits;
 
-/// The trains with the time of each live event, and how many messages were accepted.
+/// The trains with the time of each live event, how many messages were accepted, and which events the last of them changed.
 #[derive(Drop)]
 pub struct Timetable {
     graph: Graph,
@@ -36,6 +36,8 @@ pub struct Timetable {
     /// The keys of the live events, in the order in which they are settled.
     order: Vec<Key>,
     count: u64,
+    /// The events that the last accepted message changed. It has room for all live events.
+    changed: Vec<Node>,
 }
 
 impl Model for Timetable {
@@ -52,6 +54,16 @@ impl Model for Timetable {
     ghost invariant = { IsTimed };
 }
 
+/// A copy of these items, with room for so many in all.
+fn copy_with_room<T: Copy>(alloc: Global, items: &[T], room: usize) -> Result<Vec<T>, OutOfMemory>
+    ensures items { IfOk result (λ all. all.items ≡ items.now) }
+    ensures room { IfOk result (λ all. room ≤ vec_capacity all) }
+{
+    let mut all = Vec::with_capacity(alloc, room)?;
+    all.extend_from_slice(items)?;
+    Ok(all)
+}
+
 impl Timetable {
     /// The timetable of these trains, by these change times, waiting rules and options. No message was accepted.
     pub fn build(
@@ -64,47 +76,77 @@ impl Timetable {
         requires valid { IsValid (network_of changes waits opts) trains }
         requires default { changes.default ≡ opts.change }
         requires parents { waits.parents ≡ map parent_station changes.stops }
-        requires overrides { trains.overrides ≡ finmap.empty }
-        requires trains { All IsUnderWay trains.trains }
         requires nodes { length (events trains) + 2 * trains.spare_calls ≤ 2097152 }
-        ensures { IfOk result (λ t. t ≡ record { network = network_of changes waits opts; state = trains; count = 0 }) }
+        ensures { IfOk result (λ t. t ≡ record { network = network_of changes waits opts; state = trains; count = 0; changed = [] }) }
     {
         let nodes = list_nodes(alloc, &trains)?;
         let mut times = blank_times(alloc, &nodes, 2 * trains.spare_calls())?;
         let order = key_order(alloc, &trains, &nodes)?;
+        let mut changed = Vec::with_capacity(alloc, order.len())?;
         let graph = Graph::build(trains, changes, waits, opts);
-        settle_all::<Brand>(&graph, &order, &mut times, Blank::new(1));
+        settle_all::<Brand>(&graph, &order, &mut times, &mut changed, Blank::new(1));
+        changed.clear();
         Ok(Timetable {
             graph,
             times,
             order,
             count: 0,
+            changed,
         })
     }
 
-    /// Whether a forecast is accepted, or why it is refused. It changes nothing.
+    /// The same timetable once more, with the same room.
+    pub fn copy(&self, alloc: Global) -> Result<Timetable, OutOfMemory>
+        ensures { IfOk result (λ copy. copy ≡ self.now) }
+    {
+        let room = self.order.len();
+        Ok(Timetable {
+            graph: self.graph.copy(alloc)?,
+            times: self.times.copy(alloc)?,
+            order: copy_with_room(alloc, &self.order, room)?,
+            count: self.count,
+            changed: copy_with_room(alloc, &self.changed, room)?,
+        })
+    }
+
+    /// Whether a message is accepted, or why it is refused. It changes nothing.
     pub fn check(&self, m: &Msg) -> Result<(), Refusal>
-        requires forecast { IsForecast m.now }
+        requires kind { LeavesCalls m.now }
         ensures { Answers result (refusal self.now.network self.now.state m.now) }
     {
-        check_value(&self.graph, m)
+        check(&self.graph, m)
     }
 
     /// Takes a message, and answers how many events it changes: those whose time is another after it. A message that is refused
     /// changes nothing. It takes no memory.
     pub fn step<L: Ledger>(&mut self, m: &Msg, steps: &mut Steps<L>) -> Result<u64, Refusal>
-        requires forecast { IsForecast m.now }
+        requires kind { LeavesCalls m.now }
         ensures refused { IfErr result (λ r. refusal self.old.network self.old.state m.now ≡ Some r) }
         ensures kept { IfErr result (λ _. self.new ≡ self.old) }
         ensures accepted { IfOk result (λ _. refusal self.old.network self.old.state m.now ≡ None) }
         ensures effect { IfOk result (λ _. self.new ≡ stepped self.old m.now) }
         ensures changed { IfOk result (λ n. n ≡ changed_count self.old.network self.old.state m.now) }
     {
-        check_value(&self.graph, m)?;
-        apply_value(&mut self.graph, m);
-        let changed = settle(&self.graph, &self.order, &mut self.times, steps);
+        check(&self.graph, m)?;
+        apply(&mut self.graph, m);
+        self.changed.clear();
+        settle(
+            &self.graph,
+            &self.order,
+            &mut self.times,
+            &mut self.changed,
+            steps,
+        );
         self.count = self.count.saturating_add(1);
-        Ok(changed)
+        Ok(self.changed.len() as u64)
+    }
+
+    /// The events that the last accepted message changed: in the order of the trains those that it took away, and then, in the order
+    /// of their keys, those that it added or that have another time. None before the first such message.
+    pub fn changed(&self) -> &[Node]
+        ensures { result.now ≡ self.now.changed }
+    {
+        &self.changed
     }
 
     /// How many messages were accepted. Past 2^64 - 1 it stays there.

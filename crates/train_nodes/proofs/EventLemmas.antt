@@ -1,7 +1,7 @@
 -- Events by name, by the calls that they are of.
 use Rattle.std.proofs.Common.{◌≡◌, ℕ, zero, suc, ◌+◌, ◌<◌, ◌≤◌, List, [], ◌∷◌, Bool, true, false, ◌&&◌, ◌||◌, nat_eq, length, take, drop, refl, sym, ◌∙◌, ap, arith, Option, Some, None, slice_get, find, is_some}
 use mathlib.Core.Bool.{beq}
-use Rattle.std.proofs.lemmas.Bool.{cond-true, cond-false, cond_both}
+use Rattle.std.proofs.lemmas.Bool.{cond-true, cond-false}
 use Rattle.std.specs.List.{list_any}
 use Rattle.std.specs.Option.{option_map, option_map_or}
 use Rattle.std.proofs.lemmas.Option.{slice_get_past}
@@ -21,7 +21,7 @@ use Rattle.train_nodes.proofs.Numbered.{nat_eq-same, nat_eq-not, nat_eq-from, fo
 abbrev pub event_of_call : ℕ → ℕ → Bool → Call → Event
 event_of_call train route dep c = event_by train route c.label c.stop dep (values_of dep c)
 
-name-test : (t l m : ℕ) (b dep c : Bool) → nat_eq m l ≡ c → is_same_node (node_at t m b) (node_at t l dep) ≡ (c && beq b dep)
+pub name-test : (t l m : ℕ) (b dep c : Bool) → nat_eq m l ≡ c → is_same_node (node_at t m b) (node_at t l dep) ≡ (c && beq b dep)
 unfolding is_same_node
 name-test t l m b dep c e = ap (λ x. x && (nat_eq m l && beq b dep)) (nat_eq-same t) ∙ ap (λ x. x && beq b dep) e
 
@@ -105,19 +105,9 @@ event-at n route c (Some t) h k =
     ∙ ap (option_map (event_of_call n.train t.route n.dep)) h
     ∙ ap (λ r. Some (event_of_call n.train r n.dep c)) same
 
-found-label : (cs : List Call) (l : ℕ) (c : Call) → find (is_call l) cs ≡ Some c → c.label ≡ l
-found-label [] l c h = absurd (cc)
-found-label (d ∷ ds) l c h =
-    cond_both (nat_eq d.label l) (Some d) (find (is_call l) ds) (λ o. o ≡ Some c → c.label ≡ l)
-    (λ e k. let at : d.label ≡ l = nat_eq-from d.label l e in let same : d ≡ c = cc in ap (λ (c : Call). c.label) (sym same) ∙ at)
-    (λ _ k. found-label ds l c k)
-    h
-
 -- an event by its call and its train's route
-pub event-named : (st : State) (n : Node) (route : ℕ) (c : Call) → call_named st n.train n.label ≡ Some c → option_map (λ (t : Train). t.route) (slice_get st.trains n.train) ≡ Some route → event_named st n ≡ Some (event_by n.train route n.label c.stop n.dep (values_of n.dep c))
-event-named st n route c h k =
-    event-at n route c (slice_get st.trains n.train) h k
-    ∙ ap (λ l. Some (event_by n.train route l c.stop n.dep (values_of n.dep c))) (found-label (calls_of st n.train) n.label c h)
+pub event-named : (st : State) (n : Node) (route : ℕ) (c : Call) → call_named st n.train n.label ≡ Some c → option_map (λ (t : Train). t.route) (slice_get st.trains n.train) ≡ Some route → event_named st n ≡ Some (event_of_call n.train route n.dep c)
+event-named st n route c h k = event-at n route c (slice_get st.trains n.train) h k
 
 live-at : (n : Node) (o : Option Train) → AreNumbered 0 (option_map_or (λ (t : Train). t.calls) o []) → list_any (λ v. is_event n v && v.live) (option_map_or (λ (t : Train). events_at n.train t.route t.calls) o []) ≡ option_map_or (λ (c : Call). (values_of n.dep c).live) (find (is_call n.label) (option_map_or (λ (t : Train). t.calls) o [])) false
 live-at n None h = refl

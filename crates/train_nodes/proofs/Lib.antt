@@ -2,7 +2,9 @@ pub mod EditLemmas
 pub mod EventLemmas
 pub mod KeptLaws
 pub mod Numbered
+pub mod PlaceLemmas
 pub mod PushLemmas
+pub mod ReportLemmas
 pub mod StoredLemmas
 pub mod StretchLemmas
 pub mod TimeLemmas

@@ -1,5 +1,5 @@
 -- Calls whose labels count up.
-use Rattle.std.proofs.Common.{rules, ◌≡◌, ℕ, zero, suc, ◌+◌, ◌<◌, List, [], ◌∷◌, Bool, true, false, cond, nat_eq, length, get_or, take, drop, refl, sym, ◌∙◌, ap, arith, Some, slice_get, find, map}
+use Rattle.std.proofs.Common.{rules, ◌≡◌, ℕ, zero, suc, ◌+◌, ◌<◌, List, [], ◌∷◌, Bool, true, false, cond, nat_eq, length, get_or, take, drop, refl, sym, ◌∙◌, ap, subst, arith, Some, slice_get, find, map}
 use Rattle.std.proofs.Math.ListN.{set}
 use Rattle.std.proofs.lemmas.Bool.{cond-true, cond-false}
 use Rattle.delay_model.specs.declared.state.EventValues.{EventValues}
@@ -20,7 +20,8 @@ nat_eq-not a b l = search rules
 pub nat_eq-from : (a b : ℕ) → nat_eq a b ≡ true → a ≡ b
 nat_eq-from a b e = search rules
 
-none_changed : (ds : List Call) (k l : ℕ) (f : Call → Call) → AreNumbered k ds → l < k → ds ≡ map (change_labelled l f) ds
+-- a change under a label leaves calls of greater labels
+pub none_changed : (ds : List Call) (k l : ℕ) (f : Call → Call) → AreNumbered k ds → l < k → ds ≡ map (change_labelled l f) ds
 unfolding AreNumbered
 none_changed [] k l f h m = refl
 none_changed (c ∷ ds) k l f h m =
@@ -92,3 +93,9 @@ pub numbered-changed : (ds : List Call) (k l : ℕ) (dep : Bool) (f : EventValue
 unfolding AreNumbered
 numbered-changed [] k l dep f h = h
 numbered-changed (c ∷ ds) k l dep f h = (label-changed (nat_eq c.label l) c dep f ∙ h.0, numbered-changed ds (k + 1) l dep f h.1)
+
+pub numbered-drop : (ds : List Call) (k m : ℕ) → AreNumbered k ds → AreNumbered (k + m) (drop m ds)
+unfolding AreNumbered
+numbered-drop ds k zero h = subst (λ j. AreNumbered j ds) (omega arith) h
+numbered-drop [] k (suc m) h = tt
+numbered-drop (c ∷ ds) k (suc m) h = subst (λ j. AreNumbered j (drop m ds)) (omega arith) (numbered-drop ds (k + 1) m h.1)

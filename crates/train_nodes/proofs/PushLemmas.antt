@@ -1,6 +1,6 @@
 -- A train of the timetable, in the arena and in the state.
 use Rattle.std.proofs.Common.{rules, ◌≡◌, ℕ, suc, ◌+◌, ◌<◌, ◌≤◌, List, [], ◌∷◌, ◌++◌, Bool, true, false, not, nat_eq, nat_lt, length, refl, sym, ◌∙◌, ap, subst, arith, map, All}
-use Rattle.std.proofs.lemmas.List.{map-append}
+use Rattle.std.proofs.lemmas.List.{map-append, length-map}
 use Rattle.std.proofs.lemmas.List.Elements.{All-push}
 use Rattle.delay_model.specs.declared.state.Call.{Call}
 use Rattle.delay_model.specs.declared.state.Train.{Train}
@@ -9,9 +9,10 @@ use Rattle.train_nodes.specs.declared.calls.TableCall.{TableCall}
 use Rattle.train_nodes.specs.declared.trains.Row.{Row}
 use Rattle.train_nodes.specs.Loaded.{table_call, table_calls, event_by_table, call_at, loaded_from}
 use Rattle.train_nodes.specs.Stretches.{stretch, IsLaidOut}
-use Rattle.train_nodes.specs.Stored.{train_of, first_of, len_of, AreNumbered, IsLoaded}
+use Rattle.train_nodes.specs.Stored.{train_of, first_of, len_of, AreNumbered, IsLoaded, HasReportsWithin, HaveReportsWithin}
 use Rattle.train_nodes.proofs.StretchLemmas.{stretch-end}
 use Rattle.train_nodes.proofs.StoredLemmas.{appended}
+use Rattle.train_nodes.proofs.ReportLemmas.{reported-push}
 
 with_calls : Row → List Call → Train
 with_calls r cs = record { day = r.day; route = r.route; next_label = r.next_label; calls = cs }
@@ -75,3 +76,8 @@ pub pushed-loaded : (rs : List Row) (cs new : List Call) (r : Row) → IsLaidOut
 pushed-loaded rs cs new r h e f all labels next some =
     subst (All IsLoaded) (sym (pushed-trains rs cs new r h e f))
     (All-push IsLoaded (map (train_of cs) rs) (record { day = r.day; route = r.route; next_label = r.next_label; calls = new }) all (record { labels = labels; next = next; some = some }))
+
+pub pushed-reports : (rs : List Row) (cs new : List Call) (r : Row) → IsLaidOut first_of len_of 0 rs (length cs) → r.first ≡ length cs → r.len ≡ length new → HaveReportsWithin rs (map (train_of cs) rs) → HasReportsWithin r.reported new → HaveReportsWithin (rs ++ r ∷ []) (map (train_of (cs ++ new)) (rs ++ r ∷ []))
+pushed-reports rs cs new r h e f all w =
+    subst (HaveReportsWithin (rs ++ r ∷ [])) (sym (pushed-trains rs cs new r h e f))
+    (reported-push rs (map (train_of cs) rs) r (record { day = r.day; route = r.route; next_label = r.next_label; calls = new }) (sym (length-map rs (train_of cs))) all w)

@@ -4,18 +4,20 @@ use Rattle.std.proofs.Math.ListN.{set}
 use Rattle.std.specs.Option.{option_map_or}
 use Rattle.std.proofs.lemmas.Option.{slice_get-get_or, slice_get_past}
 use Rattle.std.proofs.lemmas.List.Elements.{All-cons, All-head, All-tail}
+use Rattle.mt_base.specs.declared.keys.Node.{Node}
 use Rattle.delay_model.specs.declared.state.Call.{Call}
 use Rattle.delay_model.specs.declared.state.Train.{Train}
 use Rattle.delay_model.specs.declared.state.State.{State}
 use Rattle.delay_model.specs.Effect.{is_call, change_train, change_calls}
-use Rattle.delay_model.specs.Events.{calls_of}
+use Rattle.delay_model.specs.Events.{calls_of, is_live}
 use Rattle.train_nodes.specs.declared.trains.Row.{Row}
 use Rattle.train_nodes.specs.declared.trains.Trains.TheInside.{Inside}
 use Rattle.train_nodes.specs.Calls.{call_named, has_call}
 use Rattle.train_nodes.specs.Stretches.{stretch, IsLaidOut}
-use Rattle.train_nodes.specs.Stored.{train_of, first_of, len_of, AreNumbered, IsLoaded, IsStored, seen}
+use Rattle.train_nodes.specs.Stored.{train_of, first_of, len_of, AreNumbered, IsLoaded, HasReportsWithin, HaveReportsWithin, IsStored, seen}
 use Rattle.train_nodes.proofs.StretchLemmas.{laid-ends, laid-within, stretch-before, stretch-after, stretch-inside, stretch-append, length-stretch, get_or-stretch}
 use Rattle.train_nodes.proofs.Numbered.{found}
+use Rattle.train_nodes.proofs.EventLemmas.{live-there}
 
 with_calls : Row → List Call → Train
 with_calls r cs = record { day = r.day; route = r.route; next_label = r.next_label; calls = cs }
@@ -71,6 +73,11 @@ loaded-at cs [] i d h l = absurd (omega arith)
 loaded-at cs (r ∷ rs) zero d h l = All-head IsLoaded (train_of cs r) (map (train_of cs) rs) h
 loaded-at cs (r ∷ rs) (suc i) d h l = loaded-at cs rs i d (All-tail IsLoaded (train_of cs r) (map (train_of cs) rs) h) (omega arith)
 
+reports-at : (cs : List Call) (rs : List Row) (i : ℕ) (d : Row) → HaveReportsWithin rs (map (train_of cs) rs) → i < length rs → HasReportsWithin (get_or rs i d).reported (train_of cs (get_or rs i d)).calls
+reports-at cs [] i d h l = absurd (omega arith)
+reports-at cs (r ∷ rs) zero d h l = h.0
+reports-at cs (r ∷ rs) (suc i) d h l = reports-at cs rs i d h.1 (omega arith)
+
 -- a change that keeps it keeps it for all
 pub loaded-changed : (ts : List Train) (i : ℕ) (f : Train → Train) → ((t : Train) → IsLoaded t → IsLoaded (f t)) → All IsLoaded ts → All IsLoaded (change_train i f ts)
 loaded-changed [] i f k h = h
@@ -109,6 +116,11 @@ row-calls a t r l e = calls_at-row a.calls.items a.rows.items t r l ∙ ap (λ (
 -- they are labelled from 0 on
 pub row-loaded : (a : Inside) (t : ℕ) (r : Row) → IsStored a → t < length a.rows.items → r ≡ get_or a.rows.items t r → IsLoaded (train_of a.calls.items r)
 row-loaded a t r s l e = subst (λ (q : Row). IsLoaded (train_of a.calls.items q)) (sym e) (loaded-at a.calls.items a.rows.items t r s.loaded l)
+
+-- only the first of them have reports
+pub row-reports : (a : Inside) (t : ℕ) (r : Row) → IsStored a → t < length a.rows.items → r ≡ get_or a.rows.items t r → HasReportsWithin r.reported (stretch r.first r.len a.calls.items)
+row-reports a t r s l e =
+    subst (λ (q : Row). HasReportsWithin q.reported (train_of a.calls.items q).calls) (sym e) (reports-at a.calls.items a.rows.items t r s.reports l)
 
 -- and lie within all calls
 pub row-within : (a : Inside) (t : ℕ) (r : Row) → IsStored a → t < length a.rows.items → r ≡ get_or a.rows.items t r → r.first + r.len ≤ length a.calls.items
@@ -188,3 +200,26 @@ calls-length a st t r s v l e = ap (λ st. length (calls_of st t)) (sym v) ∙ a
 -- where a call is found, its label is below the count
 pub has-below : (cs : List Call) (l : ℕ) → AreNumbered 0 cs → is_some (find (is_call l) cs) ≡ true → l < length cs
 has-below cs l h k = slice_get-some cs l (ap is_some (sym (found cs 0 l l h (omega arith))) ∙ k)
+
+-- the row of the train of an event
+pub record IsRowOf (a : Inside) (n : Node) (r : Row) : Type 0 where
+  pub there : n.train < length a.rows.items
+  pub at : r ≡ get_or a.rows.items n.train r
+  pub below : n.label < r.len
+  pub within : r.first + r.len ≤ length a.calls.items
+
+pub event-row : (a : Inside) (st : State) (n : Node) (r : Row) (i : ℕ) → IsStored a → seen a ≡ st → has_call st n.train n.label ≡ true → r ≡ get_or a.rows.items i r → i ≡ n.train → IsRowOf a n r
+event-row a st n r i s v h e f =
+    let has = ap (λ st. has_call st n.train n.label) v ∙ h in
+    let there = has-train a n.train n.label has in
+    let at = e ∙ ap (λ i. get_or a.rows.items i r) f in
+    record { there = there; at = at; below = has-label a n.train n.label r s there at has; within = row-within a n.train r s there at }
+
+pub live-row : (a : Inside) (st : State) (n : Node) (r : Row) (i : ℕ) → IsStored a → seen a ≡ st → is_live st n ≡ true → r ≡ get_or a.rows.items i r → i ≡ n.train → IsRowOf a n r
+live-row a st n r i s v h e f = event-row a st n r i s v (live-there st n (stored-numbered a st n.train s v) h) e f
+
+-- only the first of a train's calls have reports, so many as its row says
+pub calls-reports : (a : Inside) (st : State) (t : ℕ) (r : Row) → IsStored a → seen a ≡ st → t < length a.rows.items → r ≡ get_or a.rows.items t r → HasReportsWithin r.reported (calls_of st t)
+calls-reports a st t r s v l e =
+    subst (λ st. HasReportsWithin r.reported (calls_of st t)) v
+    (subst (HasReportsWithin r.reported) (sym (row-calls a t r l e)) (row-reports a t r s l e))

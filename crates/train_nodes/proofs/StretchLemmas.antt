@@ -1,5 +1,5 @@
 -- Stretches of a list, and rows that say where they lie.
-use Rattle.std.proofs.Common.{◌≡◌, ℕ, zero, suc, ◌+◌, ◌-◌, ◌<◌, ◌≤◌, List, [], ◌∷◌, ◌++◌, length, get_or, take, drop, ◌∙◌, ap, arith}
+use Rattle.std.proofs.Common.{◌≡◌, ℕ, zero, suc, ◌+◌, ◌-◌, ◌<◌, ◌≤◌, List, [], ◌∷◌, ◌++◌, length, get_or, take, drop, sym, ◌∙◌, ap, subst, arith}
 use Rattle.std.proofs.Math.ListN.{set}
 use Rattle.std.proofs.Math.Seq.{take-set-lt, drop-append_seam}
 use Rattle.std.proofs.lemmas.List.{drop-set-lt, drop-set-add, take-set-le, get_or-take, get_or-drop, length-drop, length-take-le, drop-append-le, take-append-le, take_all}
@@ -29,6 +29,13 @@ pub laid-push : {R : Type 0} (first len : R → ℕ) (from : ℕ) (rs : List R) 
 unfolding IsLaidOut
 laid-push first len from [] end r new h e n = let k : from ≡ end = h in (omega arith, omega arith)
 laid-push first len from (s ∷ rs) end r new h e n = (h.0, laid-push first len (from + len s) rs end r new h.1 e n)
+
+-- another row with the same stretch
+pub laid-set : {R : Type 0} (first len : R → ℕ) (from : ℕ) (rs : List R) (end i : ℕ) (r d : R) → first r ≡ first (get_or rs i d) → len r ≡ len (get_or rs i d) → IsLaidOut first len from rs end → IsLaidOut first len from (set rs i r) end
+unfolding IsLaidOut
+laid-set first len from [] end i r d e f h = h
+laid-set first len from (q ∷ rs) end zero r d e f h = (e ∙ h.0, subst (λ k. IsLaidOut first len (from + k) rs end) (sym f) h.1)
+laid-set first len from (q ∷ rs) end (suc i) r d e f h = (h.0, laid-set first len (from + len q) rs end i r d e f h.1)
 
 -- a write before a stretch leaves it
 pub stretch-before : {X : Type 0} (xs : List X) (first len slot : ℕ) (x : X) → slot < first → stretch first len (set xs slot x) ≡ stretch first len xs

@@ -3,5 +3,8 @@ pub mod Edits
 pub mod Kept
 pub mod Loaded
 pub mod Stored
+pub mod StoredOverrides
 pub mod StoredTimes
 pub mod Stretches
+pub mod Kinds
+pub mod Reports

@@ -1,5 +1,5 @@
 -- How stored trains are seen, and what holds of them.
-use Rattle.std.specs.Prelude.{◌≡◌, ℕ, ◌+◌, ◌<◌, ◌≤◌, ◌^◌, List, [], ◌∷◌, map, length, All, vec_capacity}
+use Rattle.std.specs.Prelude.{◌≡◌, ℕ, ◌+◌, ◌<◌, ◌≤◌, ◌^◌, List, [], ◌∷◌, None, map, drop, length, All, vec_capacity}
 use Rattle.delay_model.specs.declared.state.Call.{Call}
 use Rattle.delay_model.specs.declared.state.Train.{Train}
 use Rattle.delay_model.specs.declared.state.State.{State}
@@ -15,10 +15,10 @@ abbrev pub seen : Inside → State
 seen a =
     record {
       trains = map (train_of a.calls.items) a.rows.items;
-      overrides = a.overrides;
+      overrides = a.overrides.choices;
       spare_trains = a.spare_trains;
       spare_calls = a.spare_calls;
-      spare_overrides = a.spare_overrides;
+      spare_overrides = a.overrides.spare;
     }
 
 -- the calls are labelled from `label` on
@@ -39,10 +39,26 @@ first_of r = r.first
 abbrev pub len_of : Row → ℕ
 len_of r = r.len
 
+-- neither event of the call is reported
+abbrev pub HasNoReport : Call → Type 0
+HasNoReport c = (c.arrival.report ≡ None) × (c.departure.report ≡ None)
+
+-- only the first of these calls, so many as is said, may have a report
+pub record HasReportsWithin (reported : ℕ) (cs : List Call) : Type 0 where
+  pub within : reported ≤ length cs
+  pub none : All HasNoReport (drop reported cs)
+
+-- the same of each of these trains, by its row
+abbrev pub HaveReportsWithin : List Row → List Train → Type 0
+HaveReportsWithin [] ts = Unit {0}
+HaveReportsWithin (r ∷ rs) [] = Unit {0}
+HaveReportsWithin (r ∷ rs) (t ∷ ts) = HasReportsWithin r.reported t.calls × HaveReportsWithin rs ts
+
 -- the trains' calls lie one after another, and there is room for the spare ones, in numbers of 32 bits
 pub record IsStored (a : Inside) : Type 0 where
   pub laid : IsLaidOut first_of len_of 0 a.rows.items (length a.calls.items)
   pub loaded : All IsLoaded (map (train_of a.calls.items) a.rows.items)
+  pub reports : HaveReportsWithin a.rows.items (map (train_of a.calls.items) a.rows.items)
   pub rows_room : length a.rows.items + a.spare_trains ≤ vec_capacity a.rows
   pub calls_room : length a.calls.items + a.spare_calls ≤ vec_capacity a.calls
   pub rows_small : length a.rows.items + a.spare_trains < 2 ^ 32

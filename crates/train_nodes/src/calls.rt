@@ -2,7 +2,7 @@
 
 ghost use Rattle.std.specs.Prelude.{◌≡◌, ◌+◌, ◌<◌, ◌≤◌, ◌^◌, [], ◌∷◌, ◌++◌, true, length, vec_len, vec_capacity};
 ghost use Rattle.delay_model.specs.Effect.{change_event};
-ghost use Rattle.train_nodes.specs.Edits.{edited};
+ghost use Rattle.train_nodes.specs.Edits.{edited, reported_after};
 ghost use Rattle.train_nodes.specs.Loaded.{event_by_table, call_at, loaded_from};
 ghost use Rattle.train_nodes.specs.Calls.{values_of};
 
@@ -132,4 +132,15 @@ pub(crate) fn edit_call(call: Call, dep: bool, edit: Edit) -> Call
 {
     let old = *values(&call, dep);
     with_values(call, dep, edit_values(old, edit))
+}
+
+/// The number of calls, from the first on, after which no event is reported, once the event of a call has changed.
+pub(crate) fn reported_after(reported: u32, label: u32, edit: &Edit) -> u32
+    requires { label + 1 < 2 ^ 32 }
+    ensures { result ≡ reported_after reported label edit.now }
+{
+    match *edit {
+        Edit::Report(_) => reported.max(label + 1),
+        Edit::Forecast(_) | Edit::Kill => reported,
+    }
 }

@@ -2,13 +2,16 @@
 #![tactic(auto)]
 
 pub mod calls;
+pub mod events;
 pub mod messages;
+mod override_table;
 mod room;
 pub mod steps;
 pub mod times;
 pub mod trains;
 
 pub use calls::TableCall;
+pub use events::TrainEvents;
 pub use messages::Msg;
 pub use steps::Steps;
 pub use times::NodeTimes;

@@ -30,6 +30,14 @@ fn seconds(trains: &Trains, n: &Node) -> Option<(bool, u32, Option<u32>, Option<
     ))
 }
 
+/// The next report after an event that is there.
+fn next_report(trains: &Trains, n: &Node) -> Option<u32> {
+    if !trains.has(n.train, n.label) {
+        return None;
+    }
+    trains.next_report(*n).map(|time| time.seconds())
+}
+
 /// The stop of a call, whether passengers may board and alight, and the labels before and after.
 fn call(
     trains: &Trains,
@@ -135,5 +143,24 @@ fn values_of_an_event(rt: HostRuntime) -> Result<(), Fail> {
         seconds(&copy, &node(0, 1, true)),
         Some((false, 930, None, None))
     );
+    Ok(())
+}
+
+#[test]
+fn the_next_report(rt: HostRuntime) -> Result<(), Fail> {
+    let mut trains = loaded(rt.alloc())?;
+    if trains.live(node(0, 1, false)) {
+        trains.set_report(node(0, 1, false), Time::new(960));
+    }
+    assert_eq!(rt; next_report(&trains, &node(0, 0, false)), Some(960));
+    assert_eq!(rt; next_report(&trains, &node(0, 0, true)), Some(960));
+    assert_eq!(rt; next_report(&trains, &node(0, 1, false)), None);
+    let mut reported = 0;
+    for event in trains.events(TrainNo::new(0)) {
+        if event.report.is_some() {
+            reported = event.key.time.seconds();
+        }
+    }
+    assert_eq!(rt; reported, 900);
     Ok(())
 }

@@ -1,22 +1,26 @@
 //! All trains, in one arena of calls.
 
-ghost use Rattle.std.specs.Prelude.{◌≡◌, ◌+◌, ◌<◌, ◌≤◌, ◌^◌, [], true, IsTrue, IfOk, Some, length, slice_get};
+ghost use Rattle.std.specs.Prelude.{◌≡◌, ◌+◌, ◌<◌, ◌≤◌, ◌^◌, [], true, false, IsTrue, IfOk, Some, length, nat_eq, slice_get};
 ghost use Rattle.std.specs.Option.{option_map, option_copied, option_and_then};
 ghost use Rattle.std.specs.FinMap as map;
 ghost use Rattle.delay_model.specs.declared.state.State.{State as AState};
 ghost use Rattle.delay_model.specs.declared.state.Call.{Call as ACall};
 ghost use Rattle.delay_model.specs.declared.state.Train.{Train as ATrain};
 ghost use Rattle.delay_model.specs.declared.state.Event.{Event as AnEvent};
-ghost use Rattle.delay_model.specs.Events.{calls_of, event_named, is_live};
-ghost use Rattle.delay_model.specs.Effect.{with_event, forecasted, reported, killed};
+ghost use Rattle.delay_model.specs.Events.{calls_of, train_events, event_named, is_live};
+ghost use Rattle.delay_model.specs.Effect.{with_event, with_override, without_override, has_override, forecasted, reported, killed};
+ghost use Rattle.delay_model.specs.Overrides.{connection};
 ghost use Rattle.train_nodes.specs.Calls.{call_named, has_call, has_event, first_label, label_after, label_before};
 ghost use Rattle.train_nodes.specs.Edits.{edited};
+ghost use Rattle.train_nodes.specs.Reports.{report_after};
 ghost use Rattle.train_nodes.specs.Stored.{AreNumbered};
 ghost use Rattle.train_nodes.specs.Loaded.{loaded_train, with_train, DoNotFall};
 
-use crate::calls::{Edit, TableCall, edit_call, push_calls, values};
+use crate::calls::{Edit, TableCall, edit_call, push_calls, reported_after, values};
+use crate::events::{TrainEvents, event_of, report_after};
+use crate::override_table::{OverrideTable, connection};
 use crate::room::copy_with_room;
-use delay_model::overrides::Overrides;
+use delay_model::overrides::Override;
 use delay_model::state::{Call, Event};
 use mt_base::keys::{Key, Node};
 use mt_base::memory::OutOfMemory;
@@ -35,6 +39,8 @@ struct Row {
     next_label: Label,
     first: u32,
     len: u32,
+    /// A number of calls, from the first on, after which no event of the train is reported.
+    reported: u32,
 }
 
 /// The trains with their calls and the values of their events, the overrides, and how much room is left.
@@ -42,10 +48,9 @@ struct Row {
 pub struct Trains {
     rows: Vec<Row>,
     calls: Vec<Call>,
-    overrides: Overrides,
+    overrides: OverrideTable,
     spare_trains: u32,
     spare_calls: u32,
-    spare_overrides: u32,
 }
 
 impl Model for Trains {
@@ -76,10 +81,9 @@ impl Trains {
         Ok(Trains {
             rows: Vec::with_capacity(alloc, trains as usize)?,
             calls: Vec::with_capacity(alloc, calls as usize)?,
-            overrides: Overrides::new(alloc),
+            overrides: OverrideTable::with_room(alloc, overrides)?,
             spare_trains: trains,
             spare_calls: calls,
-            spare_overrides: overrides,
         })
     }
 
@@ -90,10 +94,9 @@ impl Trains {
         Ok(Trains {
             rows: copy_with_room(alloc, self.rows.as_slice(), self.spare_trains)?,
             calls: copy_with_room(alloc, self.calls.as_slice(), self.spare_calls)?,
-            overrides: self.overrides.copy()?,
+            overrides: self.overrides.copy(alloc)?,
             spare_trains: self.spare_trains,
             spare_calls: self.spare_calls,
-            spare_overrides: self.spare_overrides,
         })
     }
 
@@ -116,6 +119,7 @@ impl Trains {
             next_label: Label::new(len),
             first,
             len,
+            reported: 0,
         });
         self.spare_trains -= 1;
         self.spare_calls -= len;
@@ -140,7 +144,7 @@ impl Trains {
     pub fn spare_overrides(&self) -> u32
         ensures { result ≡ self.now.spare_overrides }
     {
-        self.spare_overrides
+        self.overrides.spare()
     }
 
     /// How many trains there are. They are numbered from 0.
@@ -285,6 +289,35 @@ impl Trains {
         self.event(n).report
     }
 
+    /// The report of the next later live event of the train that has one, in seconds from the base of day 0.
+    pub fn next_report(&self, n: Node) -> Option<Time>
+        requires { IsTrue (has_event self.now n) }
+        ensures { result ≡ report_after self.now n }
+    {
+        let calls = self.calls_of(n.train);
+        let label = n.label.get() as usize;
+        let end = label.max(self.rows[n.train.get() as usize].reported as usize);
+        report_after(&calls[label..end], n.dep)
+    }
+
+    /// The events of a train in its order, live or not: of each call the arrival and then the departure. No events where there is no
+    /// such train.
+    pub fn events(&self, t: TrainNo) -> TrainEvents<'_>
+        ensures { result ≡ train_events self.now t }
+    {
+        let route = if t.get() < self.count() {
+            self.route(t)
+        } else {
+            RouteNo::new(0)
+        };
+        TrainEvents {
+            train: t,
+            route,
+            calls: self.calls_of(t),
+            departs: false,
+        }
+    }
+
     /// Sets the forecast of an event, in seconds from the base of day 0.
     pub fn set_forecast(&mut self, n: Node, t: Time)
         requires { IsTrue (is_live self.old n) }
@@ -301,14 +334,58 @@ impl Trains {
         self.edit(n, Edit::Report(t));
     }
 
+    /// What a dispatcher chose for the connection from an arrival to a departure. None exactly where nothing was chosen.
+    pub fn override_of(&self, feeder: Node, train: Node) -> Option<Override>
+        ensures { result ≡ map.get self.now.overrides (connection feeder train) }
+    {
+        self.overrides.get(&connection(feeder, train))
+    }
+
+    /// Keeps or drops a connection, in place of what was chosen before. It takes no memory.
+    pub fn set_override(&mut self, feeder: Node, train: Node, choice: Override)
+        requires spare { has_override self.old (connection feeder train) ≡ false → 0 < self.old.spare_overrides }
+        ensures { self.new ≡ with_override (connection feeder train) choice self.old }
+    {
+        self.overrides.set(connection(feeder, train), choice);
+    }
+
+    /// Takes back what was chosen for a connection.
+    pub fn clear_override(&mut self, feeder: Node, train: Node)
+        ensures { self.new ≡ without_override (connection feeder train) self.old }
+    {
+        self.overrides.remove(&connection(feeder, train));
+    }
+
+    /// Whether no connection is kept or dropped.
+    pub fn has_no_overrides(&self) -> bool
+        ensures { result ≡ nat_eq (map.len self.now.overrides) 0 }
+    {
+        self.overrides.is_empty()
+    }
+
     fn edit(&mut self, n: Node, edit: Edit)
         requires { IsTrue (is_live self.old n) }
         ensures { self.new ≡ with_event n (edited edit) self.old }
     {
-        let row = self.rows[n.train.get() as usize];
-        let slot = row.first as usize + n.label.get() as usize;
+        let (place, label) = (n.train.get() as usize, n.label.get());
+        let row = self.rows[place];
+        let slot = row.first as usize + label as usize;
         let call = self.calls[slot];
+        let reported = reported_after(row.reported, label, &edit);
         self.calls[slot] = edit_call(call, n.dep, edit);
+        self.rows[place].reported = reported;
+    }
+
+    /// The calls of a train; no calls where there is no such train.
+    fn calls_of(&self, t: TrainNo) -> &[Call]
+        ensures { result.now ≡ calls_of self.now t }
+    {
+        if t.get() as usize >= self.rows.len() {
+            return &self.calls[..0];
+        }
+        let row = &self.rows[t.get() as usize];
+        let first = row.first as usize;
+        &self.calls[first..first + row.len as usize]
     }
 
     /// The call with this label.
@@ -334,20 +411,16 @@ impl Trains {
         &self.calls[row.first as usize + l.get() as usize]
     }
 
-    /// The event of this name.
-    fn event(&self, n: Node) -> Event
+    /// The event of this name, live or not.
+    pub fn event(&self, n: Node) -> Event
         requires { IsTrue (has_event self.now n) }
         ensures { event_named self.now n ≡ Some result }
     {
-        let call = self.call(n.train, n.label);
-        let values = values(call, n.dep);
-        Event {
-            key: n.key(values.scheduled),
-            stop: call.stop,
-            route: self.route(n.train),
-            live: values.live,
-            forecast: values.forecast,
-            report: values.report,
-        }
+        event_of(
+            n.train,
+            self.route(n.train),
+            self.call(n.train, n.label),
+            n.dep,
+        )
     }
 }

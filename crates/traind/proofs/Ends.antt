@@ -1,5 +1,5 @@
 -- How a run ends: what a feed holds, and what the lines leave.
-use Rattle.std.proofs.Common.{◌≡◌, ◌∙◌, ℕ, List, [], ◌++◌, Option, Some, None, Result, Ok, Err, sym, subst, ap, true, false, ◌⊎◌, inr}
+use Rattle.std.proofs.Common.{◌≡◌, ◌∙◌, ℕ, List, [], ◌++◌, Option, Some, None, Result, Ok, Err, sym, subst, ap, true, false}
 use Rattle.std.proofs.KnownBytes.{Appends-nil, Appends-trans}
 use Rattle.std.proofs.lemmas.List.{append-nil}
 use Rattle.std.proofs.lemmas.Option.{none-some}
@@ -16,14 +16,13 @@ use Rattle.mt_io.proofs.Gives.{consumes_none}
 use Rattle.mt_io.proofs.Runs.{ends}
 use Rattle.schedule_build.specs.Directory.{Names}
 use Rattle.timetable.specs.Running.{Running}
-use Rattle.gtfs_tables.specs.declared.refusals.FeedRefusal.{FeedRefusal}
 use Rattle.traind.specs.declared.status.Fault.{Fault}
 use Rattle.traind.specs.declared.status.Fault.TheVariants.{Usage, FeedRefused, ReadFault, WriteFault, Memory, TooLong}
-use Rattle.traind.specs.Causes.{HasFaultCause, WhereLinesStop}
+use Rattle.traind.specs.Causes.{WhereLinesStop}
 use Rattle.traind.proofs.Tables.{some-same}
 use Rattle.traind.specs.Lines.{accepted_of}
 use Rattle.traind.specs.Output.{replies, output}
-use Rattle.traind.specs.Standing.{Answered}
+use Rattle.traind.specs.Standing.{Standing, Answered}
 
 -- all bytes were taken where the source is at its end
 pub all_taken : (left now : Option (List ℕ)) (bytes all : List ℕ) → Consumes left now all → IsAtEnd now → left ≡ Some bytes → all ≡ bytes
@@ -40,7 +39,7 @@ whole_output names first now r left left_now written between written_now all byt
     let these : lines_of true bytes ≡ lines = ap (lines_of true) (sym (all_taken left left_now bytes all a.source (a.end done.ended) told)) ∙ ends all lines r a.lines_so_far done in
     subst (λ (ls : List Line). Appends written written_now (output first.network names first.state ls)) (sym these)
     (Appends-trans written between written_now (replies first.network names first.state [] lines) (table first.network names (after first.state (accepted_of first.network names first.state lines))) a.output
-    (subst (λ (t : Running). Appends between written_now (table t.network names t.state)) a.timetable wrote))
+    (subst (λ (t : Standing). Appends between written_now (table t.network names t.state)) a.timetable wrote))
 
 -- before the first line nothing was taken, and nothing is written
 pub nothing_yet : (nw : Network) (names : Names) (st : State) (left written : Option (List ℕ))
@@ -76,15 +75,6 @@ each_fault (Err f) P all = all f
 pub on_ok_also : (run : Result (Unit {0}) Fault) (P Q : Type 0) → (P → Q) → OnOk run P → OnOk run Q
 on_ok_also (Ok u) P Q h p = h p
 on_ok_also (Err f) P Q h p = tt
-
--- the lines of an input give no cause of the words or of the feed
-pub cause_also : (U read write long other : Type 0) (R : FeedRefusal → Type 0) (f : Fault) → HasFaultCause ⊥ (λ why. ⊥) read write long f → HasFaultCause U R (other ⊎ read) write long f
-cause_also U read write long other R Usage t = absurd t
-cause_also U read write long other R (FeedRefused why) t = absurd t
-cause_also U read write long other R ReadFault t = inr t
-cause_also U read write long other R WriteFault t = t
-cause_also U read write long other R Memory t = tt
-cause_also U read write long other R TooLong t = t
 
 -- what holds of the error that was handed on
 pub handed_on : (run : Result (Unit {0}) Fault) (f : Fault) (Q : Fault → Type 0) → IsErrAnd run (λ e. e ≡ f) → Q f → IfErr run Q

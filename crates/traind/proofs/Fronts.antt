@@ -18,7 +18,7 @@ use Rattle.timetable.specs.Running.{Running}
 use Rattle.traind.specs.Fronts.{AppendsFront, Begun}
 use Rattle.traind.specs.Lines.{accepted_of}
 use Rattle.traind.specs.Output.{replies, reply_after, output}
-use Rattle.traind.specs.Standing.{Answered}
+use Rattle.traind.specs.Standing.{Standing, Answered}
 use Rattle.traind.proofs.Ends.{all_taken}
 use Rattle.traind.proofs.Tables.{some-same}
 
@@ -115,4 +115,4 @@ whole_front names first now r left left_now written between written_now all byte
     let these : lines_of true bytes ≡ lines = ap (lines_of true) (sym (all_taken left left_now bytes all a.source (a.end done.ended) told)) ∙ ends all lines r a.lines_so_far done in
     subst (λ (ls : List Line). AppendsFront written written_now (output first.network names first.state ls)) (sym these)
     (front_after written between written_now (replies first.network names first.state [] lines) (table first.network names (after first.state (accepted_of first.network names first.state lines))) a.output
-    (subst (λ (t : Running). AppendsFront between written_now (table t.network names t.state)) a.timetable f))
+    (subst (λ (t : Standing). AppendsFront between written_now (table t.network names t.state)) a.timetable f))

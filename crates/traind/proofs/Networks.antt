@@ -24,7 +24,8 @@ use Rattle.delay_report.specs.declared.replies.BadLine.{BadLine}
 use Rattle.delay_report.specs.declared.replies.Reply.TheVariants.{Accepted}
 use Rattle.delay_report.specs.Replies.{text_of_reply}
 use Rattle.delay_report.specs.Table.{header, rows_of_events, rows_from, table}
-use Rattle.message_reader.specs.declared.wire.Wire.{Wire}
+use Rattle.message_reader.specs.declared.wire.Line.{Line as Spoken}
+use Rattle.message_reader.specs.declared.wire.Line.TheVariants.{Message as Says, Flush}
 use Rattle.message_reader.specs.Resolved.{resolved}
 use Rattle.mt_io.specs.Lines.{Line}
 use Rattle.schedule_build.specs.Directory.{Names}
@@ -125,9 +126,10 @@ reply-to-message-same a b h st count line (Err r) = refl
 reply-to-message-same a b h st count line (Ok m) =
     ap (reply_by_refusal b st count line m) (refusal-same a b h st m) ∙ by-refusal-same a b h st count line m (refusal a st m)
 
-reply-to-same : (a b : Network) → IsSame a b → (names : Names) (st : State) (count line : ℕ) (said : Result Wire BadLine) → reply_to b names st count line said ≡ reply_to a names st count line said
+reply-to-same : (a b : Network) → IsSame a b → (names : Names) (st : State) (count line : ℕ) (said : Result Spoken BadLine) → reply_to b names st count line said ≡ reply_to a names st count line said
 reply-to-same a b h names st count line (Err bad) = refl
-reply-to-same a b h names st count line (Ok w) = reply-to-message-same a b h st count line (resolved names w)
+reply-to-same a b h names st count line (Ok Flush) = refl
+reply-to-same a b h names st count line (Ok (Says w)) = reply-to-message-same a b h st count line (resolved names w)
 
 lines-same : (a b : Network) → IsSame a b → (names : Names) (st : State) (lines : List Line) → accepted_of b names st lines ≡ accepted_of a names st lines
 lines-same a b h names st lines = accepted-same a b h by_names st names (messages_of lines)

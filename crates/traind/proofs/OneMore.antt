@@ -18,6 +18,8 @@ use Rattle.delay_report.specs.declared.replies.BadLine.{BadLine}
 use Rattle.delay_report.specs.declared.replies.Reply.{Reply}
 use Rattle.delay_report.specs.Replies.{text_of_reply}
 use Rattle.message_reader.specs.declared.wire.Wire.{Wire}
+use Rattle.message_reader.specs.declared.wire.Line.{Line as Spoken}
+use Rattle.message_reader.specs.declared.wire.Line.TheVariants.{Message as Says, Flush}
 use Rattle.message_reader.specs.Resolved.{resolved}
 use Rattle.mt_io.specs.Lines.{Line}
 use Rattle.mt_io.specs.Reader.{Reader, Gives, GivesNext}
@@ -30,7 +32,7 @@ use Rattle.traind.specs.Fronts.{AppendsFront, Begun}
 use Rattle.traind.proofs.Fronts.{front_after}
 use Rattle.traind.specs.Lines.{said_by, message_in, messages_of, by_names, accepted_of}
 use Rattle.traind.specs.Output.{reply_to, reply_after, replies}
-use Rattle.traind.specs.Standing.{next_by, next_by_message, next_by_refusal, standing, Answered}
+use Rattle.traind.specs.Standing.{Standing, standing_of, next_by, next_by_message, next_by_refusal, standing, Answered}
 
 after-append : (st : State) (ms ns : List Message) → after st (ms ++ ns) ≡ after (after st ms) ns
 after-append st [] ns = refl
@@ -57,8 +59,9 @@ abbrev new_by : Network → State → Result Message Refusal → List Message
 new_by nw st (Ok m) = taken_by m (refusal nw st m)
 new_by nw st (Err r) = []
 
-abbrev new_of : Network → Names → State → Result Wire BadLine → List Message
-new_of nw names st (Ok w) = new_by nw st (resolved names w)
+abbrev new_of : Network → Names → State → Result Spoken BadLine → List Message
+new_of nw names st (Ok (Says w)) = new_by nw st (resolved names w)
+new_of nw names st (Ok Flush) = []
 new_of nw names st (Err b) = []
 
 abbrev option_list : Option Wire → List Wire
@@ -73,8 +76,9 @@ accepted-is : (nw : Network) (st : State) (read : Result Message Refusal) → op
 accepted-is nw st (Ok m) = answered-is nw st m (refusal nw st m) refl
 accepted-is nw st (Err r) = refl
 
-new-accepted : (nw : Network) (names : Names) (st : State) (said : Result Wire BadLine) → accepted nw by_names st names (option_list (message_in said)) ≡ new_of nw names st said
-new-accepted nw names st (Ok w) = accepted-is nw st (resolved names w)
+new-accepted : (nw : Network) (names : Names) (st : State) (said : Result Spoken BadLine) → accepted nw by_names st names (option_list (message_in said)) ≡ new_of nw names st said
+new-accepted nw names st (Ok (Says w)) = accepted-is nw st (resolved names w)
+new-accepted nw names st (Ok Flush) = refl
 new-accepted nw names st (Err b) = refl
 
 last-message : (o : Option Wire) (x : Line) → message_in (said_by x) ≡ o → messages_of (x ∷ []) ≡ option_list o
@@ -93,25 +97,26 @@ one_more nw names st lines x =
     ∙ ap (λ (ns : List Message). ms ++ ns) (new-accepted nw names (after st ms) (said_by x))
 
 -- the timetable after these messages more
-abbrev with_messages : Running → List Message → Running
+abbrev with_messages : Standing → List Message → Standing
 with_messages t ms = record { network = t.network; state = after t.state ms; count = t.count + length ms }
 
-keep : (t : Running) → t ≡ with_messages t []
+keep : (t : Standing) → t ≡ with_messages t []
 keep t = ap (λ (n : ℕ). record { network = t.network; state = t.state; count = n }) (omega arith)
 
-next-by_refusal : (t : Running) (m : Message) (o : Option Refusal) → next_by_refusal t m o ≡ with_messages t (taken_by m o)
+next-by_refusal : (t : Standing) (m : Message) (o : Option Refusal) → next_by_refusal t m o ≡ with_messages t (taken_by m o)
 next-by_refusal t m None = refl
 next-by_refusal t m (Some r) = keep t
 
-next-by_message : (t : Running) (read : Result Message Refusal) → next_by_message t read ≡ with_messages t (new_by t.network t.state read)
+next-by_message : (t : Standing) (read : Result Message Refusal) → next_by_message t read ≡ with_messages t (new_by t.network t.state read)
 next-by_message t (Ok m) = next-by_refusal t m (refusal t.network t.state m)
 next-by_message t (Err r) = keep t
 
-next-by : (names : Names) (t : Running) (said : Result Wire BadLine) → next_by names t said ≡ with_messages t (new_of t.network names t.state said)
-next-by names t (Ok w) = next-by_message t (resolved names w)
+next-by : (names : Names) (t : Standing) (said : Result Spoken BadLine) → next_by names t said ≡ with_messages t (new_of t.network names t.state said)
+next-by names t (Ok (Says w)) = next-by_message t (resolved names w)
+next-by names t (Ok Flush) = keep t
 next-by names t (Err b) = keep t
 
-abbrev running : Network → State → ℕ → Running
+abbrev running : Network → State → ℕ → Standing
 running nw st count = record { network = nw; state = st; count = count }
 
 -- one more line leaves the timetable as it stands after all of them
@@ -174,13 +179,13 @@ none_more names first now old new left left_old left_new written written_now byt
 -- a call that answers one line, and its reply
 pub one_line_more : (names : Names) (first now next : Running) (old new : Reader) (left left_old left_new written written_old written_new : Option (List ℕ)) (bytes text : List ℕ) (lines : List Line) (x : Line) (number : ℕ)
     → Answered names first now old left left_old written written_old bytes lines → (old.ended ≡ true → left_new ≡ left_old) → GivesNext old new left_old left_new (x ∷ [])
-    → number ≡ length lines + 1 → text ≡ text_of_reply names (reply_to now.network names now.state now.count number (said_by x)) → Appends written_old written_new text → next ≡ next_by names now (said_by x)
+    → number ≡ length lines + 1 → text ≡ text_of_reply names (reply_to now.network names now.state now.count number (said_by x)) → Appends written_old written_new text → standing_of next ≡ next_by names (standing_of now) (said_by x)
     → (all : List ℕ) × Answered names first next new left left_new written written_new all (lines ++ x ∷ [])
 one_line_more names first now next old new left left_old left_new written written_old written_new bytes text lines x number a same gives is_number is_text wrote is_next =
     let more = gives.0 in
     let stood = standing first.network names first.state lines in
     let says : text ≡ text_of_reply names (reply_after first.network names first.state lines x) =
-    is_text ∙ ap (λ (t : Running). text_of_reply names (reply_to t.network names t.state t.count number (said_by x))) a.timetable
+    is_text ∙ ap (λ (t : Standing). text_of_reply names (reply_to t.network names t.state t.count number (said_by x))) a.timetable
     ∙ ap (λ (n : ℕ). text_of_reply names (reply_to stood.network names stood.state stood.count n (said_by x))) is_number in (
       bytes ++ more,
       record {
@@ -189,7 +194,7 @@ one_line_more names first now next old new left left_old left_new written writte
         end = at_end old new left_old left_new more (x ∷ []) gives.1 a.end same;
         output = subst (Appends written written_new) (ap (λ (b : List ℕ). replies first.network names first.state [] lines ++ b) says ∙ sym (replies-more first.network names first.state [] lines x))
             (Appends-trans written written_old written_new (replies first.network names first.state [] lines) text a.output wrote);
-        timetable = is_next ∙ ap (λ (t : Running). next_by names t (said_by x)) a.timetable ∙ stands first.network names first.state lines x;
+        timetable = is_next ∙ ap (λ (t : Standing). next_by names t (said_by x)) a.timetable ∙ stands first.network names first.state lines x;
       },
     )
 
@@ -202,19 +207,20 @@ few-read : (nw : Network) (st : State) (read : Result Message Refusal) → lengt
 few-read nw st (Ok m) = few-taken m (refusal nw st m)
 few-read nw st (Err r) = omega arith
 
-few-said : (nw : Network) (names : Names) (st : State) (said : Result Wire BadLine) → length (new_of nw names st said) ≤ 1
-few-said nw names st (Ok w) = few-read nw st (resolved names w)
+few-said : (nw : Network) (names : Names) (st : State) (said : Result Spoken BadLine) → length (new_of nw names st said) ≤ 1
+few-said nw names st (Ok (Says w)) = few-read nw st (resolved names w)
+few-said nw names st (Ok Flush) = omega arith
 few-said nw names st (Err b) = omega arith
 
-pub counts-one : (names : Names) (t next : Running) (said : Result Wire BadLine) → next ≡ next_by names t said → next.count ≤ t.count + 1
-counts-one names t next said is = omega (arith, ap (λ (r : Running). r.count) (is ∙ next-by names t said), few-said t.network names t.state said)
+pub counts-one : (names : Names) (t next : Standing) (said : Result Spoken BadLine) → next ≡ next_by names t said → next.count ≤ t.count + 1
+counts-one names t next said is = omega (arith, ap (λ (r : Standing). r.count) (is ∙ next-by names t said), few-said t.network names t.state said)
 
 -- the reply to one line more, by the lines before it
-pub reply_is : (names : Names) (first now : Running) (lines : List Line) (x : Line) (number : ℕ) (reply : Reply) → now ≡ standing first.network names first.state lines → number ≡ length lines + 1
+pub reply_is : (names : Names) (first now : Running) (lines : List Line) (x : Line) (number : ℕ) (reply : Reply) → standing_of now ≡ standing first.network names first.state lines → number ≡ length lines + 1
     → reply ≡ reply_to now.network names now.state now.count number (said_by x) → text_of_reply names reply ≡ text_of_reply names (reply_after first.network names first.state lines x)
 reply_is names first now lines x number reply stood is_number is =
     let after_these = standing first.network names first.state lines in
-    ap (text_of_reply names) is ∙ ap (λ (t : Running). text_of_reply names (reply_to t.network names t.state t.count number (said_by x))) stood
+    ap (text_of_reply names) is ∙ ap (λ (t : Standing). text_of_reply names (reply_to t.network names t.state t.count number (said_by x))) stood
     ∙ ap (λ (n : ℕ). text_of_reply names (reply_to after_these.network names after_these.state after_these.count n (said_by x))) is_number
 
 -- a call that answers one line, of whose reply a front is written

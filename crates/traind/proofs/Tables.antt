@@ -1,5 +1,5 @@
 -- What the words and the feed give is one thing.
-use Rattle.std.proofs.Common.{◌≡◌, ◌∙◌, ℕ, List, [], Option, Some, None, Result, Ok, Err, sym, subst, ap, arith}
+use Rattle.std.proofs.Common.{◌≡◌, ◌∙◌, ℕ, List, [], Option, Some, Result, Ok, Err, sym, subst, ap}
 use Rattle.std.specs.Prelude.{unwrap_or}
 use Rattle.delay_model.specs.declared.network.Network.{Network}
 use Rattle.delay_model.specs.declared.state.State.{State}
@@ -14,7 +14,7 @@ use Rattle.traind.specs.Feeds.{network, Told, tables_in, asked_in}
 use Rattle.traind.specs.Networks.{IsSame}
 use Rattle.traind.specs.Output.{output, replies}
 use Rattle.traind.proofs.Networks.{output-same, replies-same}
-use Rattle.traind.specs.Runs.{Loads, IsRefused}
+use Rattle.traind.specs.Runs.{Loads}
 
 pub some-same : (a b : List ℕ) → Some a ≡ Some b → a ≡ b
 some-same a b e = ap (λ (o : Option (List ℕ)). unwrap_or o a) e
@@ -22,22 +22,9 @@ some-same a b e = ap (λ (o : Option (List ℕ)). unwrap_or o a) e
 asked-same : (words : List (List ℕ)) (a b : Asked) → asked_of words ≡ Some a → asked_of words ≡ Some b → a ≡ b
 asked-same words a b p q = ap (λ (o : Option Asked). unwrap_or o a) (sym p ∙ q)
 
-tag : Result Timetable FeedRefusal → ℕ
-tag (Ok loaded) = 0
-tag (Err why) = 1
-
 abbrev made : Result Timetable FeedRefusal → Timetable → Timetable
 made (Ok timetable) other = timetable
 made (Err why) other = other
-
--- a feed that holds a timetable is no feed to refuse
-not-both : (r : Result Timetable FeedRefusal) (timetable : Timetable) (why : FeedRefusal) → r ≡ Err why → r ≡ Ok timetable → ⊥
-unfolding tag
-not-both r timetable why is_why is = absurd (omega (arith, ap tag (sym is_why ∙ is)))
-
--- words that ask for nothing
-pub nothing-asked : (words : List (List ℕ)) (a : Asked) → asked_of words ≡ None → asked_of words ≡ Some a → ⊥
-nothing-asked words a none some = absurd (cc (none, some))
 
 -- the timetable that was loaded is the one that the words ask for
 pub record IsStart (nw : Network) (st : State) (names : Names) (t : Running) (dir : Names) : Type 0 where
@@ -69,15 +56,3 @@ output-is nw st names t dir h lines =
 pub replies-are : (nw : Network) (st : State) (names : Names) (t : Running) (dir : Names) → IsStart nw st names t dir → (lines : List Line) → replies t.network dir t.state [] lines ≡ replies nw names st [] lines
 replies-are nw st names t dir h lines =
     replies-same nw t.network h.network dir t.state [] lines ∙ ap (λ (ns : Names). replies nw ns t.state [] lines) (sym h.named) ∙ ap (λ (s : State). replies nw names s [] lines) (sym h.state)
-
--- a feed from which a timetable was loaded is not refused
-pub not-refused : (words : List (List ℕ)) (tables : Option Told) (a : Asked) (timetable : Timetable) (why : FeedRefusal) → asked_of words ≡ Some a
-    → ((told : Told) → tables ≡ Some told → asked_in told a ≡ Ok timetable) → IsRefused words tables why → ⊥
-not-refused words tables a timetable why asked held to_be =
-    let same : to_be.asked ≡ a = asked-same words to_be.asked a to_be.asked_is asked in
-    not-both (asked_in to_be.told a) timetable why (subst (λ (b : Asked). asked_in to_be.told b ≡ Err why) same to_be.refused) (held to_be.told to_be.told_is)
-
--- the cause to refuse a feed, by what the words ask for
-pub refused-for : (words : List (List ℕ)) (tables : Option Told) (a : Asked) (why : FeedRefusal) → asked_of words ≡ Some a → (to_be : IsRefused words tables why) → asked_in to_be.told a ≡ Err why
-refused-for words tables a why asked to_be =
-    subst (λ (b : Asked). asked_in to_be.told b ≡ Err why) (asked-same words to_be.asked a to_be.asked_is asked) to_be.refused

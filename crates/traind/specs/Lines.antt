@@ -11,7 +11,9 @@ use Rattle.delay_report.specs.declared.replies.BadLine.TheVariants as words
 use Rattle.message_reader.specs.declared.bad.Bad.{Bad}
 use Rattle.message_reader.specs.declared.bad.Bad.TheVariants as faults
 use Rattle.message_reader.specs.declared.wire.Wire.{Wire}
-use Rattle.message_reader.specs.Lines.{forecast_of}
+use Rattle.message_reader.specs.declared.wire.Line.{Line as Spoken}
+use Rattle.message_reader.specs.declared.wire.Line.TheVariants.{Message as Says, Flush}
+use Rattle.message_reader.specs.Lines.{served_line_of}
 use Rattle.message_reader.specs.Resolved.{resolved}
 use Rattle.mt_io.specs.Lines.{Line, short, long}
 use Rattle.schedule_build.specs.Directory.{Names}
@@ -24,18 +26,20 @@ word_of faults.Shape = words.Shape
 word_of faults.Time = words.Time
 word_of faults.OutOfMemory = words.Json
 
--- a message, or the word for the fault
-abbrev pub with_word : Result Wire Bad → Result Wire BadLine
-with_word (Ok w) = Ok w
+-- what is said, or the word for the fault
+abbrev pub with_word : Result Spoken Bad → Result Spoken BadLine
+with_word (Ok s) = Ok s
 with_word (Err b) = Err (word_of b)
 
 -- what a line says, or why it is bad
-abbrev pub said_by : Line → Result Wire BadLine
+abbrev pub said_by : Line → Result Spoken BadLine
 said_by long = Err words.Long
-said_by (short bytes) = with_word (forecast_of bytes)
+said_by (short bytes) = with_word (served_line_of bytes)
 
-abbrev pub message_in : Result Wire BadLine → Option Wire
-message_in (Ok w) = Some w
+-- the message, if one is said
+abbrev pub message_in : Result Spoken BadLine → Option Wire
+message_in (Ok (Says w)) = Some w
+message_in (Ok Flush) = None
 message_in (Err b) = None
 
 -- the messages of these lines

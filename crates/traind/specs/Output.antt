@@ -10,10 +10,11 @@ use Rattle.delay_model.specs.Refusals.{refusal}
 use Rattle.delay_model.specs.Touched.{changed_count}
 use Rattle.delay_report.specs.declared.replies.BadLine.{BadLine}
 use Rattle.delay_report.specs.declared.replies.Reply.{Reply}
-use Rattle.delay_report.specs.declared.replies.Reply.TheVariants.{Accepted, Refused, Bad}
+use Rattle.delay_report.specs.declared.replies.Reply.TheVariants.{Accepted, Refused, Bad, Flush as Flushed}
 use Rattle.delay_report.specs.Replies.{text_of_reply}
 use Rattle.delay_report.specs.Table.{table}
-use Rattle.message_reader.specs.declared.wire.Wire.{Wire}
+use Rattle.message_reader.specs.declared.wire.Line.{Line as Spoken}
+use Rattle.message_reader.specs.declared.wire.Line.TheVariants.{Message as Says, Flush}
 use Rattle.message_reader.specs.Resolved.{resolved}
 use Rattle.mt_io.specs.Lines.{Line}
 use Rattle.schedule_build.specs.Directory.{Names}
@@ -29,10 +30,11 @@ abbrev pub reply_to_message : Network → State → ℕ → ℕ → Result Messa
 reply_to_message nw st count line (Err r) = Refused line r
 reply_to_message nw st count line (Ok m) = reply_by_refusal nw st count line m (refusal nw st m)
 
--- the reply to what a line says
-abbrev pub reply_to : Network → Names → State → ℕ → ℕ → Result Wire BadLine → Reply
+-- the reply to what a line says. That to a flush has the number of messages accepted so far
+abbrev pub reply_to : Network → Names → State → ℕ → ℕ → Result Spoken BadLine → Reply
 reply_to nw names st count line (Err b) = Bad line b
-reply_to nw names st count line (Ok w) = reply_to_message nw st count line (resolved names w)
+reply_to nw names st count line (Ok Flush) = Flushed line count
+reply_to nw names st count line (Ok (Says w)) = reply_to_message nw st count line (resolved names w)
 
 -- the reply to a line that stands behind these lines: in the state after their accepted messages, with the number of the line
 abbrev pub reply_after : Network → Names → State → List Line → Line → Reply

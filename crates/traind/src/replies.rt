@@ -1,18 +1,19 @@
 //! The reply to a line, and what the line does to the timetable.
 
 ghost use Rattle.std.specs.Prelude.{◌≡◌, ◌<◌, ◌-◌, ◌^◌, Ok, Err, IfOk, IfErr, OnOk};
-ghost use Rattle.graph_edit.specs.Values.{IsForecast};
-ghost use Rattle.message_reader.specs.Lines.{forecast_of};
-ghost use Rattle.message_reader.specs.Wires.{IsWire, IsForecast as IsForecastWire};
+ghost use Rattle.message_reader.specs.declared.wire.Line.TheVariants.{Message as Says};
+ghost use Rattle.message_reader.specs.Lines.{served_line_of};
+ghost use Rattle.message_reader.specs.Wires.{IsWire, LeavesCalls as LeavesCallsWire};
 ghost use Rattle.traind.specs.Lines.{with_word};
 ghost use Rattle.traind.specs.Output.{reply_to, reply_to_message};
 ghost use Rattle.traind.specs.declared.status.Fault.TheVariants.{Memory};
-ghost use Rattle.traind.specs.Standing.{next_by, next_by_message};
+ghost use Rattle.traind.specs.Standing.{next_by, next_by_message, standing_of};
+ghost use Rattle.train_nodes.specs.Kinds.{LeavesCalls};
 
 use crate::status::Fault;
 use delay_model::messages::Refusal;
 use delay_report::{BadLine, Reply};
-use message_reader::{Bad, ResolveFault, Wire, read_forecast, resolve};
+use message_reader::{Bad, Line, ResolveFault, Wire, read_line, resolve};
 use schedule_build::Directory;
 use std::alloc::Global;
 use std::marker::Brand;
@@ -27,13 +28,13 @@ fn reply_to_message<L: Ledger>(
     message: &Msg,
     blank: Blank,
 ) -> Reply
-    requires forecast { IsForecast message.now }
+    requires kind { LeavesCalls message.now }
     requires count { timetable.old.count < 2 ^ 64 - 1 }
     requires name { blank.name ≡ L.name }
     requires parts { blank.parts ≡ L.parts }
     requires some { 0 < blank.parts }
     ensures reply { result ≡ reply_to_message timetable.old.network timetable.old.state timetable.old.count number (Ok message.now) }
-    ensures next { timetable.new ≡ next_by_message timetable.old (Ok message.now) }
+    ensures next { standing_of timetable.new ≡ next_by_message (standing_of timetable.old) (Ok message.now) }
 {
     let mut steps = Steps::<L>::open(blank);
     match timetable.step(message, &mut steps) {
@@ -57,11 +58,11 @@ fn reply_to_wire(
     number: u64,
     wire: &Wire,
 ) -> Result<Reply, Fault>
-    requires forecast { IsForecastWire wire.now }
+    requires kind { LeavesCallsWire wire.now }
     requires kept { IsWire wire.now }
     requires count { timetable.old.count < 2 ^ 64 - 1 }
-    ensures reply { IfOk result (λ r. r ≡ reply_to timetable.old.network directory.now timetable.old.state timetable.old.count number (Ok wire.now)) }
-    ensures next { OnOk result (timetable.new ≡ next_by directory.now timetable.old (Ok wire.now)) }
+    ensures reply { IfOk result (λ r. r ≡ reply_to timetable.old.network directory.now timetable.old.state timetable.old.count number (Ok (Says wire.now))) }
+    ensures next { OnOk result (standing_of timetable.new ≡ next_by directory.now (standing_of timetable.old) (Ok (Says wire.now))) }
     ensures memory { IfErr result (λ f. f ≡ Memory) }
 {
     match resolve(alloc, wire, directory) {
@@ -94,12 +95,16 @@ pub(crate) fn reply_to_line(
     line: &[u8],
 ) -> Result<Reply, Fault>
     requires count { timetable.old.count < 2 ^ 64 - 1 }
-    ensures reply { IfOk result (λ r. r ≡ reply_to timetable.old.network directory.now timetable.old.state timetable.old.count number (with_word (forecast_of line.now))) }
-    ensures next { OnOk result (timetable.new ≡ next_by directory.now timetable.old (with_word (forecast_of line.now))) }
+    ensures reply { IfOk result (λ r. r ≡ reply_to timetable.old.network directory.now timetable.old.state timetable.old.count number (with_word (served_line_of line.now))) }
+    ensures next { OnOk result (standing_of timetable.new ≡ next_by directory.now (standing_of timetable.old) (with_word (served_line_of line.now))) }
     ensures memory { IfErr result (λ f. f ≡ Memory) }
 {
-    match read_forecast(alloc, line) {
-        Ok(wire) => reply_to_wire(alloc, timetable, directory, number, &wire),
+    match read_line(alloc, line) {
+        Ok(Line::Message(wire)) => reply_to_wire(alloc, timetable, directory, number, &wire),
+        Ok(Line::Flush) => Ok(Reply::Flush {
+            line: number,
+            count: timetable.count(),
+        }),
         Err(Bad::Utf8) => Ok(reply_to_bad(number, BadLine::Utf8)),
         Err(Bad::Json) => Ok(reply_to_bad(number, BadLine::Json)),
         Err(Bad::Shape) => Ok(reply_to_bad(number, BadLine::Shape)),

@@ -69,6 +69,34 @@ const NO_TRAIN: &str =
 const REPORT: &str =
     r#"{"v":1,"type":"report","trip":"T1","date":"20260105","call":0,"event":"dep","time":"08:10:00"}"#;
 
+/// T1 has arrived at B1 at 08:04:00.
+const EARLIER: &str =
+    r#"{"v":1,"type":"report","trip":"T1","date":"20260105","call":1,"event":"arr","time":"08:04:00"}"#;
+
+/// T2 waits for T1.
+const KEEP: &str =
+    r#"{"v":1,"type":"keep","feeder":{"trip":"T1","date":"20260105","call":1},"train":{"trip":"T2","date":"20260105","call":0}}"#;
+
+/// T1 does not run.
+const CANCEL: &str = r#"{"v":1,"type":"cancel","trip":"T1","date":"20260105","from":0,"to":2}"#;
+
+/// All times where T1 has left A at 08:10:00 and T2 waits for it.
+const HELD: &str = "trip,date,call,stop,event,scheduled,time
+T1,20260105,0,A,dep,08:00:00,08:10:00
+T1,20260105,1,B1,arr,08:30:00,08:37:54
+T1,20260105,1,B1,dep,08:32:00,08:38:54
+T1,20260105,2,C,arr,09:00:00,09:04:57
+T2,20260105,0,B2,dep,08:36:00,08:40:54
+T2,20260105,1,D,arr,09:10:00,09:12:32
+";
+
+/// The replies to a report, an earlier one behind it, a kept connection, and a flush.
+const REPLIES: &str = "{\"accepted\":1,\"changed\":4,\"line\":1}
+{\"event\":{\"call\":0,\"date\":\"20260105\",\"event\":\"dep\",\"trip\":\"T1\"},\"line\":2,\"refused\":\"Contradiction\",\"reported\":\"08:10:00\"}
+{\"accepted\":2,\"changed\":2,\"line\":3}
+{\"flush\":2,\"line\":4}
+";
+
 /// The reply to the forecast where it is the first line.
 const ACCEPTED: &str = "{\"accepted\":1,\"changed\":4,\"line\":1}\n";
 
@@ -160,13 +188,25 @@ fn lines_are_answered(rt: HostRuntime) -> Result<(), Fail> {
     for (line, reply, table) in [
         (FORECAST, ACCEPTED, LATE),
         (NO_TRAIN, unknown, SCHEDULED),
-        (REPORT, shape, SCHEDULED),
+        (REPORT, ACCEPTED, LATE),
+        (CANCEL, shape, SCHEDULED),
     ] {
         let text = format!(in alloc; "{line}\n")?;
         let want = format!(in alloc; "{reply}{table}")?;
         let ended = run(alloc, input(alloc, text.as_str())?, output(alloc)?)?;
         assert!(rt; is_end(&ended, Status::Ok, want.as_str(), ""), "{line}");
     }
+    Ok(())
+}
+
+#[test]
+fn reports_and_kept_connections(rt: HostRuntime) -> Result<(), Fail> {
+    let alloc = rt.alloc();
+    let flush = r#"{"v":1,"type":"flush"}"#;
+    let text = format!(in alloc; "{REPORT}\n{EARLIER}\n{KEEP}\n{flush}")?;
+    let want = format!(in alloc; "{REPLIES}{HELD}")?;
+    let ended = run(alloc, input(alloc, text.as_str())?, output(alloc)?)?;
+    assert!(rt; is_end(&ended, Status::Ok, want.as_str(), ""));
     Ok(())
 }
 

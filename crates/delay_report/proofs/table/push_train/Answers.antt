@@ -1,56 +1,44 @@
-use Rattle.std.proofs.Common.{◌≡◌, ◌∙◌, ◌<◌, ℕ, true, List, ◌++◌, length, Option, Some, None, ap, sym, refl}
+use Rattle.std.proofs.Common.{◌≡◌, ◌∙◌, List, ◌++◌, Some, ap, sym, subst}
 use Rattle.std.specs.List.{All}
+use Rattle.std.proofs.lemmas.List.Elements.{All-head, All-tail}
+use Rattle.mt_base.specs.Order.{node_of}
 use Rattle.delay_model.specs.declared.state.Event.{Event}
-use Rattle.delay_model.specs.Events.{calls_of}
+use Rattle.delay_model.specs.Events.{event_named, train_events}
 use Rattle.delay_model.specs.Timing.{event_time}
-use Rattle.train_nodes.specs.Calls.{has_call, first_label, label_after}
-use Rattle.edge_rules.specs.Held.{IsUnderWay}
-use Rattle.delay_report.specs.CallsLeft.{events_left, events_of_call}
+use Rattle.edge_rules.specs.Held.{HasOwnLabels}
 use Rattle.delay_report.specs.Table.{rows_of_events}
 use Rattle.delay_report.specs.Written.{bytes_of}
-use Rattle.delay_report.proofs.EventRows.{rows-pass, rows-end}
-use Rattle.delay_report.proofs.Walks.{all-left, first-there, less-left, fewer-left, next-there, none-left}
+use Rattle.delay_report.proofs.EventRows.{AreNamed, all-named, rows-pass, rows-end}
 use Rattle.delay_report.proofs.table.push_train.Goals as goal
 
-pub loop-next-init : goal.loop-next-init
-loop-next-init g c =
+pub loop-event-init : goal.loop-event-init
+loop-event-init g c =
     let t = c.args.t.now in
-    let first : first_label (calls_of t.state c.args.train) ≡ Some c.first_call.result = rw (c.trains-trains.ensures.trains, c.graph.ensures.state) at c.first_call.ensures in
+    let labels : All HasOwnLabels t.state.trains = rw c.graph.ensures.state at c.trains.ensures.labels in
+    let all : c.events-event-items.result ≡ train_events t.state c.args.train = rw (c.trains.ensures.trains, c.graph.ensures.state) at c.events-event-items.ensures in
+    let these : c.into_iter-event-iterator.result ≡ train_events t.state c.args.train = c.into_iter-event-iterator.ensures.into_iter_gives ∙ all in
     record {
       between = c.requires.between;
-      rows = ap (λ (es : List Event). bytes_of c.args.out.now.writer ++ rows_of_events c.args.dir.now (event_time t.network t.state) es) (all-left t.state c.args.train c.first_call.result first);
-      there = first-there t.state c.args.train c.first_call.result first;
+      rows = ap (λ (es : List Event). bytes_of c.args.out.now.writer ++ rows_of_events c.args.dir.now (event_time t.network t.state) es) these;
+      named = subst (AreNamed t.state) (sym these) (all-named t.state c.args.train labels);
     }
 
-pub loop-next-smaller : goal.loop-next-smaller
-loop-next-smaller g c =
-    let t = c.args.t.now in
-    let trains : All IsUnderWay t.state.trains = rw c.graph.ensures.state at c.trains-trains.ensures.under_way in
-    let here : has_call t.state c.args.train c.in-Some.label ≡ true = rw c.in-Some.is at c.loop-next.invariant.there in
-    let next : c.next_call-next.result ≡ label_after (calls_of t.state c.args.train) c.in-Some.label = rw (c.trains-trains.ensures.trains, c.graph.ensures.state) at c.next_call-next.ensures in
-    let fewer : length (events_left t.state c.args.train c.next_call-next.result) < length (events_left t.state c.args.train c.loop-next.next) = rw (c.in-Some.is, next) (fewer-left t.state c.args.train c.in-Some.label trains here) in
-    fewer
+pub push_live-requires-clause-labels : goal.push_live-requires-clause-labels
+push_live-requires-clause-labels g c = rw c.graph.ensures.state at c.trains.ensures.labels
 
-pub loop-next-preserved : goal.loop-next-preserved
-loop-next-preserved g c =
-    let t = c.args.t.now in
-    let trains : All IsUnderWay t.state.trains = rw c.graph.ensures.state at c.trains-trains.ensures.under_way in
-    let here : has_call t.state c.args.train c.in-Some.label ≡ true = rw c.in-Some.is at c.loop-next.invariant.there in
-    let next : c.next_call-next.result ≡ label_after (calls_of t.state c.args.train) c.in-Some.label = rw (c.trains-trains.ensures.trains, c.graph.ensures.state) at c.next_call-next.ensures in
-    let whole : events_of_call t.state c.args.train c.in-Some.label ++ events_left t.state c.args.train c.next_call-next.result ≡ events_left t.state c.args.train c.loop-next.next =
-    rw (next, c.in-Some.is) (sym (less-left t.state c.args.train c.in-Some.label trains here)) in
+pub push_live-requires-clause-there : goal.push_live-requires-clause-there
+push_live-requires-clause-there g c =
+    let named = subst (AreNamed c.args.t.now.state) c.in-Some.ensures.steps c.loop-event.invariant.named in
+    All-head (λ v. event_named c.args.t.now.state (node_of v.key) ≡ Some v) c.in-Some.event c.next.new.self named
+
+pub loop-event-preserved : goal.loop-event-preserved
+loop-event-preserved g c =
+    let named = subst (AreNamed c.args.t.now.state) c.in-Some.ensures.steps c.loop-event.invariant.named in
     record {
-      between = c.in_ok-push_call.ensures.between;
-      rows = rows-pass _ _ _ _ _ _ _ _ _ c.in_ok-push_call.ensures.rows whole c.loop-next.invariant.rows;
-      there = next-there t.state c.args.train c.in-Some.label c.next_call-next.result trains (sym next);
+      between = c.in_ok-push_live.ensures.between;
+      rows = rows-pass _ _ _ _ _ _ _ _ _ c.in_ok-push_live.ensures.rows (sym c.in-Some.ensures.steps) c.loop-event.invariant.rows;
+      named = All-tail (λ v. event_named c.args.t.now.state (node_of v.key) ≡ Some v) c.in-Some.event c.next.new.self named;
     }
-
-none-of : (o : Option ℕ) → ((x : ℕ) → o ≡ Some x → ⊥) → o ≡ None
-none-of None h = refl
-none-of (Some x) h = absurd (h x refl)
 
 pub returns : goal.returns
-returns g c =
-    let t = c.args.t.now in
-    let none : c.loop-next.next ≡ None = none-of c.loop-next.next c.in_default.not-Some in
-    rows-end _ _ _ _ _ _ (ap (events_left t.state c.args.train) none ∙ none-left t.state c.args.train) c.loop-next.invariant.rows
+returns g c = rows-end _ _ _ _ _ _ c.in-None.ensures.steps.0 c.loop-event.invariant.rows

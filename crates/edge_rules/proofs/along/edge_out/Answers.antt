@@ -1,32 +1,23 @@
-use Rattle.std.proofs.Common.{sym, ◌∙◌}
-use Rattle.edge_rules.proofs.Neighbours.{named-there, live-named, before-next, without-next}
+use Rattle.std.proofs.Common.{◌≡◌, [], ◌∷◌, Some, None, sym, ◌∙◌, ap}
+use Rattle.delay_model.specs.declared.state.Event.{Event}
+use Rattle.delay_model.specs.Edges.{edge_on}
+use Rattle.edge_rules.proofs.Neighbours.{out-event, named-there}
 use Rattle.edge_rules.proofs.along.edge_out.Goals as goal
 
-pub next-requires : goal.next-requires
-next-requires c =
+pub event-requires : goal.event-requires
+event-requires c =
     let st = c.args.trains.now in
-    let n = c.args.n.now in
-    let named = live-named st n c.requires.live in
-    named-there st n named.0 named.1
-
-pub edge_between-requires-clause-from_there : goal.edge_between-requires-clause-from_there
-edge_between-requires-clause-from_there c =
-    let st = c.args.trains.now in
-    let n = c.args.n.now in
-    let named = live-named st n c.requires.live in
-    named-there st n named.0 named.1
-
-pub edge_between-requires-clause-to_there : goal.edge_between-requires-clause-to_there
-edge_between-requires-clause-to_there c =
-    let st = c.args.trains.now in
-    let f = before-next c.args.opts.now st c.requires.trains c.args.n.now c.in-Some.to c.requires.live (sym c.next.ensures ∙ c.in-Some.is) in
-    named-there st c.in-Some.to f.v f.to_named
+    let m = c.in-Some.after in
+    let joined = out-event c.args.opts.now st c.requires.labels c.args.n.now c.event-at.result c.event-at.ensures (Some m) (sym c.next.ensures ∙ c.in-Some.is) in
+    named-there st m joined.0 joined.1
 
 pub returns-in-None : goal.returns-in-None
 returns-in-None c =
-    sym (without-next c.args.opts.now c.args.trains.now c.requires.trains c.args.n.now c.requires.live (sym c.next.ensures ∙ c.in-None.is))
+    sym (out-event c.args.opts.now c.args.trains.now c.requires.labels c.args.n.now c.event-at.result c.event-at.ensures None (sym c.next.ensures ∙ c.in-None.is))
 
 pub returns-in-Some : goal.returns-in-Some
 returns-in-Some c =
-    let f = before-next c.args.opts.now c.args.trains.now c.requires.trains c.args.n.now c.in-Some.to c.requires.live (sym c.next.ensures ∙ c.in-Some.is) in
-    c.edge_between.ensures f.u f.v f.from_named f.to_named f.from_live f.to_live ∙ sym f.out
+    let v = c.event-at.result in
+    let joined = out-event c.args.opts.now c.args.trains.now c.requires.labels c.args.n.now v c.event-at.ensures (Some c.in-Some.after) (sym c.next.ensures ∙ c.in-Some.is) in
+    let same : c.event.result ≡ joined.0 = cc (c.event.ensures, joined.1) in
+    c.edge_between.ensures ∙ ap (λ (u : Event). edge_on c.args.opts.now v (u ∷ [])) same ∙ sym joined.2

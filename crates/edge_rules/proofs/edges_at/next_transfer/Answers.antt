@@ -1,44 +1,12 @@
-use Rattle.std.proofs.Common.{◌≡◌, ◌<◌, ◌∷◌, ◌++◌, length, Some, not, sym, ◌∙◌, ap, subst}
-use Rattle.std.specs.Option.{IfSome, option_to_list}
-use Rattle.delay_model.specs.declared.state.State.{State}
-use Rattle.delay_model.specs.Events.{event_named}
-use Rattle.edge_rules.specs.Located.{transfers_on}
-use Rattle.edge_rules.specs.Walk.{events_on, IsOfKind}
-use Rattle.edge_rules.proofs.TransferLemmas.{one-on, fewer-on}
+use Rattle.std.proofs.Common.{◌++◌, flat_map, sym, ◌∙◌, ap}
+use Rattle.std.specs.Option.{option_to_list}
+use Rattle.edge_rules.specs.Transfers.{transfer_with}
 use Rattle.edge_rules.proofs.edges_at.next_transfer.Goals as goal
 
-pub returns-in-Some-transfer-clause-first : goal.returns-in-Some-transfer-clause-first
-returns-in-Some-transfer-clause-first c =
-    let g = c.args.graph.now in
-    let at = c.args.at.now in
-    let n = c.in-Some.n in
-    let kind = subst (λ o. IfSome o (IsOfKind g.state (not at.key.dep))) c.in-Some.is c.loop-next.invariant.1 in
-    let st = c.trains.ensures.trains in
-    c.loop-next.invariant.0
-    ∙ ap (transfers_on g at) c.in-Some.is
-    ∙ one-on g at n c.after.result kind.0 (λ v named. subst (λ (s : State). events_on s (Some n) ≡ v ∷ events_on s c.after.result) st (c.after.ensures.events v (ap (λ (s : State). event_named s n) st ∙ named))) (option_to_list c.transfer.result) c.transfer.ensures
-    ∙ ap (λ o. option_to_list o ++ transfers_on g at c.after.result) c.in-Some-transfer.is
-
-pub loop-next-smaller : goal.loop-next-smaller
-loop-next-smaller c =
-    let g = c.args.graph.now in
-    let at = c.args.at.now in
-    let n = c.in-Some.n in
-    let kind = subst (λ o. IfSome o (IsOfKind g.state (not at.key.dep))) c.in-Some.is c.loop-next.invariant.1 in
-    let st = c.trains.ensures.trains in
-    subst (λ o. length (events_on g.state c.after.result) < length (events_on g.state o)) (sym c.in-Some.is)
-    (fewer-on g at n c.after.result kind.0 (λ v named. subst (λ (s : State). events_on s (Some n) ≡ v ∷ events_on s c.after.result) st (c.after.ensures.events v (ap (λ (s : State). event_named s n) st ∙ named))))
-
-pub loop-next-preserved : goal.loop-next-preserved
-loop-next-preserved c =
-    let g = c.args.graph.now in
-    let at = c.args.at.now in
-    let n = c.in-Some.n in
-    let kind = subst (λ o. IfSome o (IsOfKind g.state (not at.key.dep))) c.in-Some.is c.loop-next.invariant.1 in
-    let st = c.trains.ensures.trains in (
-      c.loop-next.invariant.0
-          ∙ ap (transfers_on g at) c.in-Some.is
-          ∙ one-on g at n c.after.result kind.0 (λ v named. subst (λ (s : State). events_on s (Some n) ≡ v ∷ events_on s c.after.result) st (c.after.ensures.events v (ap (λ (s : State). event_named s n) st ∙ named))) (option_to_list c.transfer.result) c.transfer.ensures
-          ∙ ap (λ o. option_to_list o ++ transfers_on g at c.after.result) c.in_default-transfer.is,
-      subst (λ b. IfSome c.after.result (IsOfKind g.state b)) kind.1 (subst (λ (s : State). IfSome c.after.result (IsOfKind s n.dep)) st c.after.ensures.kind),
-    )
+pub returns-in-Some-transfer : goal.returns-in-Some-transfer
+returns-in-Some-transfer c =
+    let f = transfer_with c.args.graph.now c.args.at.now in
+    let rest = flat_map f c.next.new.self in
+    c.loop-other.invariant
+    ∙ ap (flat_map f) c.in-Some.ensures.steps
+    ∙ ap (λ gs. gs ++ rest) (sym c.transfer.ensures ∙ ap option_to_list c.in-Some-transfer.is)

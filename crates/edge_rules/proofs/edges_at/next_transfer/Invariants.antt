@@ -1,13 +1,7 @@
-use Rattle.std.proofs.Common.{◌≡◌, length, not}
-use Rattle.std.specs.Option.{IfSome}
-use Rattle.edge_rules.specs.Located.{transfers_on}
-use Rattle.edge_rules.specs.Walk.{events_on, IsOfKind}
+use Rattle.std.proofs.Common.{◌≡◌, flat_map}
+use Rattle.edge_rules.specs.Transfers.{transfer_with}
 use Rattle.edge_rules.proofs.edges_at.next_transfer.Given as goal
 
-abbrev pub decreases-loop-next : goal.decreases-loop-next
-decreases-loop-next l = length (events_on l.graph.state l.next)
-
 -- the events so far have no edge
-abbrev pub invariant-loop-next : goal.invariant-loop-next
-invariant-loop-next l =
-    (transfers_on l.graph l.at l.initial.next ≡ transfers_on l.graph l.at l.next) × IfSome l.next (IsOfKind l.graph.state (not l.at.key.dep))
+abbrev pub invariant-loop-other : goal.invariant-loop-other
+invariant-loop-other l = flat_map (transfer_with l.graph l.at) l.initial.others ≡ flat_map (transfer_with l.graph l.at) l.others

@@ -1,14 +1,9 @@
-use Rattle.std.proofs.Common.{◌+◌, ◌*◌, ◌≤◌, All, length, sym, subst}
+use Rattle.std.proofs.Common.{◌+◌, ◌*◌, ◌≤◌, length, sym, subst}
 use Rattle.delay_model.specs.declared.state.State.{State}
 use Rattle.delay_model.specs.Events.{events}
 use Rattle.delay_model.specs.Valid.{IsValid}
-use Rattle.edge_rules.specs.Held.{IsUnderWay}
-use Rattle.feed_load.proofs.LoadedDays.{runs-under_way, few-nodes}
+use Rattle.feed_load.proofs.LoadedDays.{few-nodes}
 use Rattle.feed_load.proofs.load.load_days.Goals as goal
-
-pub returns-in-Ok-clause-under_way : goal.returns-in-Ok-clause-under_way
-returns-in-Ok-clause-under_way c =
-    subst (λ (st : State). All IsUnderWay st.trains) (sym c.in-Ok.ensures.schedule) (runs-under_way _ _)
 
 pub returns-in-Ok-clause-valid : goal.returns-in-Ok-clause-valid
 returns-in-Ok-clause-valid c = λ nw same.

@@ -3,7 +3,7 @@ use Rattle.std.proofs.lemmas.List.{length-append}
 use Rattle.std.specs.Io.KnownBytes.{Appends}
 use Rattle.delay_report.specs.declared.replies.BadLine.{BadLine}
 use Rattle.delay_report.specs.Replies.{text_of_reply}
-use Rattle.message_reader.specs.declared.wire.Wire.{Wire}
+use Rattle.message_reader.specs.declared.wire.Line.{Line as Spoken}
 use Rattle.mt_io.specs.Lines.{Line, short, long}
 use Rattle.mt_io.specs.Reader.{Reader, GivesNext}
 use Rattle.mt_io.specs.Answers.{next_lines, LeavesNext}
@@ -12,7 +12,7 @@ use Rattle.mt_io.proofs.Runs.{stops}
 use Rattle.timetable.specs.Running.{Running}
 use Rattle.traind.specs.Lines.{said_by}
 use Rattle.traind.specs.Output.{reply_to}
-use Rattle.traind.specs.Standing.{Answered, next_by}
+use Rattle.traind.specs.Standing.{Answered, next_by, standing_of}
 use Rattle.traind.specs.Fronts.{AppendsFront, Begun}
 use Rattle.traind.proofs.Ends.{each_fault}
 use Rattle.traind.proofs.Fronts.{front_none, begun_by}
@@ -97,20 +97,20 @@ loop-number-preserved g c =
     let gives = c.next.follows.holds-at-none in
     let same : c.match-next.reader ≡ now = elim c.match-next.branch [ in-Line+in_ok-reply-in-Line w ↦ w.reader-is | in-LongLine w ↦ w.reader-is ] in
     let wrote : Appends o1 o2 (text_of_reply names c.match-next.reply) = c.in_ok-write_reply.ensures.ok in
-    let one : (x : Line) → GivesNext old now l1 l2 (x ∷ []) → c.match-next.reply ≡ reply_to before.network names before.state before.count c.loop-number.number (said_by x) → after ≡ next_by names before (said_by x)
+    let one : (x : Line) → GivesNext old now l1 l2 (x ∷ []) → c.match-next.reply ≡ reply_to before.network names before.state before.count c.loop-number.number (said_by x) → standing_of after ≡ next_by names (standing_of before) (said_by x)
     → (bytes : List ℕ) × (lines : List Line) × Answered names c.args.timetable.now after now (g.S.Source.left c.args.input.now) l2 (g.K.Sink.written c.args.out.now) o2 bytes lines × (c.loop-number.number + 1 ≡ length lines + 1) = λ x next says is.
     let more = one_line_more names c.args.timetable.now before after old now (g.S.Source.left c.args.input.now) l1 l2 (g.K.Sink.written c.args.out.now) o1 o2 a.0 (text_of_reply names c.match-next.reply) a.1 x c.loop-number.number a.2
     (λ ended. ap g.S.Source.left (c.next.ensures.ended ended)) next a.3 (ap (text_of_reply names) says) wrote is in
     (more.0, a.1 ++ x ∷ [], more.1, omega (arith, a.3, length-append a.1 (x ∷ []))) in
-    let few : (said : Result Wire BadLine) → after ≡ next_by names before said → after.count < c.loop-number.number + 1 = λ said is. omega (arith, counts-one names before after said is, inv.count) in
+    let few : (said : Result Spoken BadLine) → standing_of after ≡ next_by names (standing_of before) said → after.count < c.loop-number.number + 1 = λ said is. omega (arith, counts-one names (standing_of before) (standing_of after) said is, inv.count) in
     rw same (record {
       answered = elim c.match-next.branch [
-        | in-Line+in_ok-reply-in-Line w ↦ one (short w.in-Line.line.now) (subst (λ (n : Next). GivesNext old now l1 l2 (next_lines n)) w.in-Line.is gives.0) (w.reply-is ∙ w.in_ok-reply-in-Line.ensures.reply) (w.timetable-is ∙ w.in_ok-reply-in-Line.ensures.next)
-        | in-LongLine w ↦ one long (subst (λ (n : Next). GivesNext old now l1 l2 (next_lines n)) w.in-LongLine.is gives.0) w.reply-is w.timetable-is
+        | in-Line+in_ok-reply-in-Line w ↦ one (short w.in-Line.line.now) (subst (λ (n : Next). GivesNext old now l1 l2 (next_lines n)) w.in-Line.is gives.0) (w.reply-is ∙ w.in_ok-reply-in-Line.ensures.reply) (ap standing_of w.timetable-is ∙ w.in_ok-reply-in-Line.ensures.next)
+        | in-LongLine w ↦ one long (subst (λ (n : Next). GivesNext old now l1 l2 (next_lines n)) w.in-LongLine.is gives.0) w.reply-is (ap standing_of w.timetable-is)
       ];
       count = elim c.match-next.branch [
-        | in-Line+in_ok-reply-in-Line w ↦ few (said_by (short w.in-Line.line.now)) (w.timetable-is ∙ w.in_ok-reply-in-Line.ensures.next)
-        | in-LongLine w ↦ few (said_by long) w.timetable-is
+        | in-Line+in_ok-reply-in-Line w ↦ few (said_by (short w.in-Line.line.now)) (ap standing_of w.timetable-is ∙ w.in_ok-reply-in-Line.ensures.next)
+        | in-LongLine w ↦ few (said_by long) (ap standing_of w.timetable-is)
       ];
       budget = gives.0.1.budget ∙ inv.budget;
       read = omega (arith, inv.read, c.next.ensures.later);

@@ -1,54 +1,30 @@
-use Rattle.std.proofs.Common.{◌≡◌, not, [], ◌++◌, flat_map, sym, ◌∙◌, ap, subst}
-use Rattle.std.specs.Option.{IfSome, option_to_list}
+use Rattle.std.proofs.Common.{◌≡◌, ◌++◌, [], arith, drop, flat_map, length, sym, ◌∙◌, ap}
+use Rattle.std.specs.Option.{option_to_list}
 use Rattle.std.proofs.lemmas.Bool.{cond-true, cond-false}
-use Rattle.mt_base.specs.declared.keys.Node.{Node}
-use Rattle.delay_model.specs.Events.{event_named, is_live}
-use Rattle.edge_rules.specs.Located.{located, transfer_with, transfers_on}
+use Rattle.std.proofs.lemmas.List.{drop_all}
+use Rattle.delay_model.specs.declared.state.Event.{Event}
+use Rattle.delay_model.specs.Events.{events, events_from, event_named}
 use Rattle.edge_rules.specs.Timetabled.{Timetabled}
-use Rattle.edge_rules.specs.Walk.{one_kind, events_on, IsOfKind}
-use Rattle.edge_rules.specs.declared.located.Located.{Located}
-use Rattle.edge_rules.proofs.Given.{read}
-use Rattle.edge_rules.proofs.Neighbours.{live-named, named-there, named-is, named-live}
-use Rattle.edge_rules.proofs.TransferLemmas.{from-start}
+use Rattle.edge_rules.specs.Transfers.{transfer_with}
 use Rattle.edge_rules.proofs.graph.Graph.edges_at.Goals as goal
 use Rattle.edge_rules.proofs.graph.Graph.edges_at.Goals.{then-transfers, else-transfers}
 
-pub locate-requires : goal.locate-requires
-locate-requires c =
-    let st = c.self.inside.trains in
-    let n = c.args.n.now in
-    let named = live-named st n (ap (λ (x : Timetabled). is_live x.state n) c.self.view_is ∙ c.requires) in
-    named-there st n named.0 named.1
-
-pub invariant_of-result : goal.invariant_of-result
-invariant_of-result c =
-    let st = c.self.inside.trains in
-    let n = c.args.n.now in
-    let named = live-named st n (ap (λ (x : Timetabled). is_live x.state n) c.self.view_is ∙ c.requires) in
-    let is = read located _ named.0 c.locate.result named.1 c.locate.ensures in
-    let dep = ap (λ (m : Node). not m.dep) (sym (named-is st n named.0 named.1)) ∙ ap (λ (l : Located). not l.key.dep) is in
-    elim c.if-transfers.branch [
-      | then-transfers w ↦
-          subst (λ o. IfSome o (IsOfKind c.args.self.now.state (not c.locate.result.key.dep))) (sym w.next-is)
-          (subst (λ (x : Timetabled). IfSome w.first_of-next.result (IsOfKind x.state (not c.locate.result.key.dep))) c.self.view_is
-          (subst (λ b. IfSome w.first_of-next.result (IsOfKind st b)) dep w.first_of-next.ensures.kind))
-      | else-transfers w ↦ subst (λ o. IfSome o (IsOfKind c.args.self.now.state (not c.locate.result.key.dep))) (sym w.next-is) tt
-    ]
-
 pub returns : goal.returns
+unfolding events
 returns c = λ v named.
     let g = c.args.self.now in
-    let st = c.self.inside.trains in
-    let n = c.args.n.now in
-    let here = ap (λ (x : Timetabled). event_named x.state n) c.self.view_is ∙ named in
-    let is = read located _ v c.locate.result here c.locate.ensures in
-    let live = sym (named-live g.network.opts st c.self.invariant.trains n v here) ∙ ap (λ (x : Timetabled). is_live x.state n) c.self.view_is ∙ c.requires in
-    let all = flat_map (transfer_with g.network v) (one_kind (not n.dep) 0 g.state.trains) in
-    ap (λ gs. option_to_list c.args.along ++ gs) (elim c.if-transfers.branch [
+    let others = c.starting_at.result in
+    let found = flat_map (transfer_with g v) (events g.state) in
+    let same : c.event.result ≡ v = cc (c.event.ensures, ap (λ (x : Timetabled). event_named x.state c.args.n.now) c.self.view_is ∙ named) in
+    ap (λ (w : Event). option_to_list c.args.along ++ flat_map (transfer_with g w) others) same
+    ∙ ap (λ es. option_to_list c.args.along ++ flat_map (transfer_with g v) es) c.starting_at.ensures
+    ∙ ap (λ (x : Timetabled). option_to_list c.args.along ++ flat_map (transfer_with g v) (events_from c.if-transfers.first (drop c.if-transfers.first x.state.trains))) c.self.view_is
+    ∙ ap (λ gs. option_to_list c.args.along ++ gs) (elim c.if-transfers.branch [
       | then-transfers w ↦
-          ap (transfers_on g c.locate.result) w.next-is
-          ∙ from-start g c.locate.result v w.first_of-next.result (one_kind (not n.dep) 0 g.state.trains) is live
-          (subst (λ (x : Timetabled). events_on x.state w.first_of-next.result ≡ one_kind (not n.dep) 0 x.state.trains) c.self.view_is w.first_of-next.ensures.events)
-          ∙ sym (cond-true c.args.transfers all [] w.if-transfers.true)
-      | else-transfers w ↦ ap (transfers_on g c.locate.result) w.next-is ∙ sym (cond-false c.args.transfers all [] w.if-transfers.false)
+          ap (λ i. flat_map (transfer_with g v) (events_from i (drop i g.state.trains))) w.first-is
+          ∙ sym (cond-true c.args.transfers found [] w.if-transfers.true)
+      | else-transfers w ↦
+          let past = w.first-is ∙ w.count-first.ensures ∙ ap (λ (x : Timetabled). length x.state.trains) c.self.view_is in
+          ap (λ ts. flat_map (transfer_with g v) (events_from c.if-transfers.first ts)) (drop_all c.if-transfers.first g.state.trains (omega arith))
+          ∙ sym (cond-false c.args.transfers found [] w.if-transfers.false)
     ])

@@ -1,26 +1,30 @@
-use Rattle.std.proofs.Common.{cond, not, [], ◌++◌, flat_map, sym, ◌∙◌, ap}
-use Rattle.delay_model.specs.Events.{event_named, is_live}
-use Rattle.edge_rules.specs.AtEvent.{along_from, edges_from}
-use Rattle.edge_rules.specs.Held.{network_of}
-use Rattle.edge_rules.specs.Located.{transfer_with}
-use Rattle.edge_rules.specs.Timetabled.{Timetabled}
-use Rattle.edge_rules.specs.Walk.{one_kind}
+use Rattle.std.proofs.Common.{cond, not, [], ◌++◌, flat_map, sym, ◌∙◌, ap, subst}
+use Rattle.std.specs.List.{All}
 use Rattle.std.specs.Option.{option_to_list}
-use Rattle.edge_rules.proofs.NoRules.{passed-over}
-use Rattle.edge_rules.proofs.Neighbours.{live-named}
-use Rattle.edge_rules.proofs.TransferLemmas.{edges-from}
+use Rattle.delay_model.specs.Events.{events, is_live}
+use Rattle.edge_rules.specs.AtEvent.{along_from}
+use Rattle.edge_rules.specs.Held.{HasOwnLabels}
+use Rattle.edge_rules.specs.Timetabled.{Timetabled}
+use Rattle.edge_rules.specs.Transfers.{transfer_with}
+use Rattle.edge_rules.proofs.Neighbours.{event-there, live-there}
+use Rattle.edge_rules.proofs.TransferLemmas.{edges-from, wanted}
 use Rattle.edge_rules.proofs.graph.Graph.edges_from.Goals as goal
+
+pub edge_out-along-requires-clause-there : goal.edge_out-along-requires-clause-there
+edge_out-along-requires-clause-there c =
+    let n = c.args.n.now in live-there c.self.inside.trains n (ap (λ (x : Timetabled). is_live x.state n) c.self.view_is ∙ c.requires)
+
+pub edges_at-requires : goal.edges_at-requires
+edges_at-requires c = live-there c.args.self.now.state c.args.n.now c.requires
 
 pub returns : goal.returns
 returns c =
-    let a = c.self.inside in
+    let g = c.args.self.now in
     let n = c.args.n.now in
-    let g : Timetabled = record { network = network_of a.changes a.waits a.opts; state = a.trains } in
-    let v = live-named a.trains n (ap (λ (x : Timetabled). is_live x.state n) c.self.view_is ∙ c.requires) in
-    c.edges_at.ensures v.0 (ap (λ (x : Timetabled). event_named x.state n) (sym c.self.view_is) ∙ v.1)
-    ∙ ap (λ b. option_to_list c.edge_out-along.result ++ cond b (flat_map (transfer_with c.args.self.now.network v.0) (one_kind (not n.dep) 0 c.args.self.now.state.trains)) []) c.has_transfers.ensures
-    ∙ ap (λ es. option_to_list c.edge_out-along.result ++ es) (passed-over c.args.self.now.network v.0 (one_kind (not n.dep) 0 c.args.self.now.state.trains) (not n.dep))
-    ∙ ap (λ gs. gs ++ cond (not n.dep) (flat_map (transfer_with c.args.self.now.network v.0) (one_kind (not n.dep) 0 c.args.self.now.state.trains)) []) c.edge_out-along.ensures
-    ∙ ap (λ (x : Timetabled). along_from a.opts a.trains n ++ cond (not n.dep) (flat_map (transfer_with x.network v.0) (one_kind (not n.dep) 0 x.state.trains)) []) (sym c.self.view_is)
-    ∙ sym (edges-from g c.self.invariant.overrides c.self.invariant.trains n v.0 v.1)
-    ∙ ap (λ (x : Timetabled). edges_from x n) c.self.view_is
+    let v = event-there g.state n (live-there g.state n c.requires) in
+    let found = flat_map (transfer_with g v.0) (events g.state) in
+    c.edges_at.ensures v.0 v.1
+    ∙ ap (λ b. option_to_list c.edge_out-along.result ++ cond b found []) c.has_transfers.ensures
+    ∙ ap (λ gs. gs ++ cond (wanted g (not n.dep)) found []) c.edge_out-along.ensures
+    ∙ ap (λ (x : Timetabled). along_from x.network.opts x.state n ++ cond (wanted g (not n.dep)) found []) c.self.view_is
+    ∙ sym (edges-from g n v.0 (subst (λ (x : Timetabled). All HasOwnLabels x.state.trains) c.self.view_is c.self.invariant.labels) v.1)

@@ -1,5 +1,5 @@
 use Rattle.edge_rules.specs.AtEvent.{edges_to}
-use Rattle.edge_rules.proofs.Rule.{IsAhead}
+use Rattle.edge_rules.proofs.LocalRule.{IsAhead}
 use Rattle.edge_rules.proofs.graph.Graph.local.Given as goal
 
 -- the edges that are left lead to the time

@@ -6,9 +6,10 @@ use Rattle.delay_model.specs.declared.state.State.{State}
 use Rattle.train_nodes.specs.declared.trains.Row.{Row}
 use Rattle.train_nodes.specs.Loaded.{loaded_from, loaded_train, with_train}
 use Rattle.train_nodes.specs.Stretches.{IsLaidOut}
-use Rattle.train_nodes.specs.Stored.{train_of, first_of, len_of, IsLoaded}
+use Rattle.train_nodes.specs.Stored.{train_of, first_of, len_of, IsLoaded, HaveReportsWithin}
 use Rattle.train_nodes.proofs.StretchLemmas.{laid-push}
-use Rattle.train_nodes.proofs.PushLemmas.{pushed-trains, pushed-loaded, loaded-is, numbered-loaded, length-loaded}
+use Rattle.train_nodes.proofs.PushLemmas.{pushed-trains, pushed-loaded, pushed-reports, loaded-is, numbered-loaded, length-loaded}
+use Rattle.train_nodes.proofs.ReportLemmas.{loaded-reported}
 use Rattle.train_nodes.proofs.trains.Trains.push_train.Goals as goal
 
 pub invariant_of-self : goal.invariant_of-self
@@ -19,7 +20,7 @@ invariant_of-self c =
     let new = loaded_from count 0 c.args.calls.now in
     let rs = a.rows.items in
     let cs = a.calls.items in
-    let r : Row = record { day = c.args.day; route = c.args.route; next_label = c.new.result; first = c.len-first.result; len = count } in
+    let r : Row = record { day = c.args.day; route = c.args.route; next_label = c.new.result; first = c.len-first.result; len = count; reported = 0 } in
     let items : c.push_calls.new.all.items ≡ cs ++ new = c.push_calls.ensures.items in
     let rows : c.push_reserved.new.self.items ≡ rs ++ r ∷ [] = c.push_reserved.ensures.items in
     let len : length new ≡ count = length-loaded count 0 c.args.calls.now in
@@ -39,6 +40,9 @@ invariant_of-self c =
       loaded = subst (λ qs. All IsLoaded (map (train_of c.push_calls.new.all.items) qs)) (sym rows)
           (subst (λ ys. All IsLoaded (map (train_of ys) (rs ++ r ∷ []))) (sym items)
           (pushed-loaded rs cs new r s.laid first (sym len) s.loaded (numbered-loaded count 0 c.args.calls.now) next (omega arith)));
+      reports = subst (λ qs. HaveReportsWithin qs (map (train_of c.push_calls.new.all.items) qs)) (sym rows)
+          (subst (λ ys. HaveReportsWithin (rs ++ r ∷ []) (map (train_of ys) (rs ++ r ∷ []))) (sym items)
+          (pushed-reports rs cs new r s.laid first (sym len) s.reports (loaded-reported count 0 c.args.calls.now)));
       rows_room = let room = s.rows_room in omega arith;
       calls_room = let room = s.calls_room in omega arith;
       rows_small = let small = s.rows_small in omega arith;
@@ -54,7 +58,7 @@ returns-clause-train c =
     let new = loaded_from count 0 calls in
     let rs = a.rows.items in
     let cs = a.calls.items in
-    let r : Row = record { day = c.args.day; route = c.args.route; next_label = c.new.result; first = c.len-first.result; len = count } in
+    let r : Row = record { day = c.args.day; route = c.args.route; next_label = c.new.result; first = c.len-first.result; len = count; reported = 0 } in
     let items : c.push_calls.new.all.items ≡ cs ++ new = c.push_calls.ensures.items in
     let rows : c.push_reserved.new.self.items ≡ rs ++ r ∷ [] = c.push_reserved.ensures.items in
     let len : length new ≡ count = length-loaded count 0 calls in
@@ -66,6 +70,6 @@ returns-clause-train c =
     ∙ pushed-trains rs cs new r s.laid first (sym len)
     ∙ ap (λ k. map (train_of cs) rs ++ record { day = c.args.day; route = c.args.route; next_label = k; calls = new } ∷ []) c.new.ensures
     ∙ ap (λ ds. map (train_of cs) rs ++ train ds ∷ []) (loaded-is calls) in
-    ap (λ ts. record { trains = ts; overrides = a.overrides; spare_trains = a.spare_trains - 1; spare_calls = a.spare_calls - count; spare_overrides = a.spare_overrides }) trains
-    ∙ ap (λ k. record { trains = map (train_of cs) rs ++ loaded_train c.args.day c.args.route calls ∷ []; overrides = a.overrides; spare_trains = a.spare_trains - 1; spare_calls = a.spare_calls - k; spare_overrides = a.spare_overrides }) (sym (ap length (sym (loaded-is calls)) ∙ len))
+    ap (λ ts. record { trains = ts; overrides = a.overrides.choices; spare_trains = a.spare_trains - 1; spare_calls = a.spare_calls - count; spare_overrides = a.overrides.spare }) trains
+    ∙ ap (λ k. record { trains = map (train_of cs) rs ++ loaded_train c.args.day c.args.route calls ∷ []; overrides = a.overrides.choices; spare_trains = a.spare_trains - 1; spare_calls = a.spare_calls - k; spare_overrides = a.overrides.spare }) (sym (ap length (sym (loaded-is calls)) ∙ len))
     ∙ ap (with_train (loaded_train c.args.day c.args.route calls)) c.self.view_is

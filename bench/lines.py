@@ -1,0 +1,91 @@
+#!/usr/bin/env python3
+"""Measures the built program on many lines, of which most are refused or bad.
+
+Usage: bench/lines.py [LINES ..]     (100000 1000000 where none are given)
+
+It runs `times` on the feed rows/feeds/a, once for each number of lines, with
+lines of all types in turn: in 24 of them 9 are bad, 10 are refused, 4 are
+accepted and one is a flush. It prints the seconds, the lines per second and
+the peak memory when the last lines are handed over, which should not grow with
+the number of lines. It needs the folder /proc of Linux. It proves nothing and
+tests nothing; build the program first (README.md).
+"""
+
+import itertools
+import json
+import re
+import subprocess
+import sys
+import time
+from pathlib import Path
+
+sys.dont_write_bytecode = True
+from times import DATE, PROGRAM, TOP  # noqa: E402
+
+FEED = TOP / "rows" / "feeds" / "a"
+NUMBERS = [100_000, 1_000_000]
+AT_ONCE = 10_000
+
+
+def line(kind, **members):
+    return json.dumps({"v": 1, "type": kind} | members).encode()
+
+
+def value(kind, trip, call, event, day_time):
+    return line(kind, trip=trip, date=DATE, call=call, event=event, time=day_time)
+
+
+def choice(kind, feeder, train):
+    """Keep, drop or rule, for the calls of T1 and T2 with these labels."""
+    calls = {"feeder": ("T1", feeder), "train": ("T2", train)}
+    return line(kind, **{name: {"trip": trip, "date": DATE, "call": call} for name, (trip, call) in calls.items()})
+
+
+FIRST = [value("report", "T1", 0, "dep", "08:05:00"), value("report", "T1", 1, "dep", "08:40:00")]
+BAD = [
+    b"", b"{", b"this is no message", b'{"v":1,"type":"hold"}', b'{"v":2,"type":"flush"}', b'{"v":1,"type":"fl\xff"}',
+    value("report", "T1", -1, "arr", "08:36:00"), value("forecast", "T1", 1, "arr", "8:60:00"), b'{"more":1e400}',
+]  # fmt: skip
+REFUSED = [
+    value("forecast", "T9", 1, "arr", "08:36:00"), value("report", "T1", 9, "arr", "08:36:00"), choice("keep", 0, 0),
+    value("report", "T1", 1, "arr", "08:04:00"), value("report", "T1", 1, "dep", "08:41:00"), choice("rule", 1, 1),
+    value("forecast", "T1", 1, "arr", "08:41:00"), choice("keep", 2, 0), choice("drop", 2, 0), choice("rule", 2, 0),
+]  # fmt: skip
+ACCEPTED = [
+    value("forecast", "T1", 1, "arr", "08:36:00"), value("forecast", "T1", 1, "arr", "08:39:00"),
+    choice("drop", 1, 0), choice("keep", 1, 0),
+]  # fmt: skip
+
+
+OTHERS = [*BAD, *REFUSED, *ACCEPTED, line("flush")]
+
+
+def hand_over(program, number):
+    """Writes so many lines to a program: two reports, and then the others in turn."""
+    lines = itertools.islice(itertools.chain(FIRST, itertools.cycle(OTHERS)), number)
+    while piece := b"".join(text + b"\n" for text in itertools.islice(lines, AT_ONCE)):
+        program.stdin.write(piece)
+    program.stdin.flush()
+
+
+def run(number):
+    """Runs the program on so many lines; the seconds that it took and its peak memory in MiB."""
+    words = [PROGRAM, "times", FEED, "--from", DATE]
+    start = time.monotonic()
+    with subprocess.Popen(words, stdin=subprocess.PIPE, stdout=subprocess.DEVNULL) as program:
+        hand_over(program, number)
+        peak = re.search(r"VmHWM:\s*(\d+) kB", Path(f"/proc/{program.pid}/status").read_text())
+    if program.returncode != 0:
+        sys.exit(f"the program ended with status {program.returncode}")
+    return time.monotonic() - start, int(peak[1]) / 1024
+
+
+def main():
+    print(f"{'lines':>10} {'seconds':>9} {'a second':>10} {'MiB':>7}")
+    for number in [int(word) for word in sys.argv[1:]] or NUMBERS:
+        seconds, memory = run(number)
+        print(f"{number:>10,} {seconds:>9.2f} {number / seconds:>10,.0f} {memory:>7.1f}", flush=True)
+
+
+if __name__ == "__main__":
+    main()

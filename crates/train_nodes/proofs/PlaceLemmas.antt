@@ -1,0 +1,163 @@
+-- A place in a list of entries in order, and what an edit there does.
+use Rattle.std.proofs.Common.{◌≡◌, ℕ, zero, suc, ◌<◌, ◌≤◌, List, [], ◌∷◌, Bool, true, false, cond, not, T, length, get_or, refl, sym, ◌∙◌, ap, arith, Some, None, Ordering, Result, Ok, Err, IfOk, IfErr}
+use Rattle.std.proofs.Math.ListN.{set}
+use Rattle.std.specs.Bool.{passes}
+use Rattle.std.specs.declared.cmp.Ordering.TheVariants.{Less, Equal, Greater}
+use Rattle.std.specs.Cmp.{IsTotalOrder}
+use Rattle.std.specs.Ordering.{is_eq, is_lt, eq_by_cmp, ordering_index, ordering_reverse}
+use Rattle.std.specs.List.{HoldsAt, insert, remove}
+use Rattle.std.specs.List.Sorted.{IsNonDecreasingBy, IsPartitionPoint, IsSearchInRange, IsBinarySearchResult}
+use Rattle.std.specs.FinMap as map
+use Rattle.std.specs.FinMap.{IsAntisymmetric, find, put, is_sorted, from_sorted, same_map, get-from_sorted, get-insert, get-remove}
+use Rattle.std.specs.FinMap.Entries.{below_all, where_key, is_sorted-put, is_sorted-where_key, find-put, find-where_key}
+use Rattle.std.proofs.lemmas.Bool.{and_parts}
+use Rattle.std.proofs.lemmas.Cmp.{tied_back, alike_right, eq_by_cmp_equiv}
+
+is_lt-Less : (a : Ordering) → is_lt a ≡ true → a ≡ Less
+is_lt-Less Less h = refl
+is_lt-Less Equal h = absurd (cc)
+is_lt-Less Greater h = absurd (cc)
+
+truth : (b : Bool) → T b → b ≡ true
+truth true h = refl
+truth false h = absurd h
+
+-- of two answers of a comparison with one key, the first is no greater
+index-rises : (a b : Ordering) → (a ≡ Equal → b ≡ Greater) → (a ≡ Greater → b ≡ Greater) → ordering_index a ≤ ordering_index b
+index-rises Less b f g = omega arith
+index-rises Equal b f g = rw (f refl) (omega arith)
+index-rises Greater b f g = rw (g refl) (omega arith)
+
+turned : {A : Type 0} (b : Bool) (x y : A) → cond (not b) x y ≡ cond b y x
+turned true x y = refl
+turned false x y = refl
+
+module _ {K : Type 0} {R : K → K → Ordering} (o : IsTotalOrder R) where
+  above : (x y : K) → R x y ≡ Less → R y x ≡ Greater
+  above x y h = o.antisymm y x ∙ ap ordering_reverse h
+
+  below : (x y : K) → R x y ≡ Greater → R y x ≡ Less
+  below x y h = o.antisymm y x ∙ ap ordering_reverse h
+
+  module _ {X : Type 0} where
+    -- the entries of the other keys
+    abbrev others : K → List (K × X) → List (K × X)
+    others k = where_key R (λ x. not (eq_by_cmp R k x))
+
+    first-below : (x : K) (e : K × X) (es : List (K × X)) → below_all R x (e ∷ es) ≡ true → R x e.0 ≡ Less
+    first-below x e es h = is_lt-Less (R x e.0) (and_parts (is_lt (R x e.0)) (below_all R x es) h).0
+
+    below-at : (x : K) (es : List (K × X)) (i : ℕ) (d : K × X) → below_all R x es ≡ true → i < length es → R x (get_or es i d).0 ≡ Less
+    below-at x [] i d h l = absurd (omega arith)
+    below-at x (e ∷ es) zero d h l = first-below x e es h
+    below-at x (e ∷ es) (suc i) d h l = below-at x es i d (and_parts _ _ h).1 (omega arith)
+
+    -- the comparisons with a key rise, as a binary search asks
+    comparisons-rise : (es : List (K × X)) (k : K) → is_sorted R es ≡ true → IsNonDecreasingBy (λ e. ordering_index (R e.0 k)) es
+    comparisons-rise [] k s i j d le l = absurd (omega arith)
+    comparisons-rise (e ∷ es) k s zero zero d le l = omega arith
+    comparisons-rise (e ∷ es) k s zero (suc j) d le l =
+        let up = below-at e.0 es j d (and_parts _ _ s).0 (omega arith) in
+        index-rises _ _ (λ same. above _ _ (sym (o.congr _ _ _ same) ∙ up)) (λ after. above _ _ (o.trans _ _ _ (below _ _ after) up))
+    comparisons-rise (e ∷ es) k s (suc i) zero d le l = absurd (omega arith)
+    comparisons-rise (e ∷ es) k s (suc i) (suc j) d le l = comparisons-rise es k (and_parts _ _ s).1 i j d (omega arith) (omega arith)
+
+    no_key : (k x : K) (es : List (K × X)) → R k x ≡ Equal → below_all R x es ≡ true → others k es ≡ es
+    no_key k x [] same h = refl
+    no_key k x (e ∷ es) same h = rw (o.congr k x e.0 same ∙ first-below x e es h) (ap (λ l. e ∷ l) (no_key k x es same (and_parts _ _ h).1))
+
+    -- the entry of the key is at this place
+    record IsFound (k : K) (es : List (K × X)) (i : ℕ) : Type 0 where
+      pub find_is : (d : K × X) → find R k es ≡ Some (get_or es i d).1
+      pub put_is : (v : X) (d : K × X) → put R k v es ≡ set es i ((get_or es i d).0, v)
+      pub others_are : others k es ≡ remove es i
+
+    -- no entry has the key, and one of it would go to this place
+    record IsMissed (k : K) (es : List (K × X)) (i : ℕ) : Type 0 where
+      pub find_is : find R k es ≡ None
+      pub put_is : (v : X) → put R k v es ≡ insert es i (k, v)
+      pub others_are : others k es ≡ es
+
+    found : (k : K) (es : List (K × X)) (i : ℕ) → is_sorted R es ≡ true → i < length es → HoldsAt (λ e. R e.0 k ≡ Equal) es i → IsFound k es i
+    found k [] i s l h = absurd (omega arith)
+    found k (e ∷ es) zero s l h =
+        let same : R k e.0 ≡ Equal = tied_back o e.0 k (h e) in
+        record { find_is = λ d. rw same; put_is = λ v d. rw same; others_are = rw same (no_key k e.0 es same (and_parts _ _ s).0) }
+    found k (e ∷ es) (suc i) s l h =
+        let within : i < length es = omega arith in
+        let rest = found k es i (and_parts _ _ s).1 within (λ d. h d) in
+        let after : R k e.0 ≡ Greater = above e.0 k (sym (alike_right o _ _ e.0 (h e)) ∙ below-at e.0 es i e (and_parts _ _ s).0 within) in
+        record { find_is = λ d. rw after (rest.find_is d); put_is = λ v d. rw after (ap (λ l. e ∷ l) (rest.put_is v d)); others_are = rw after (ap (λ l. e ∷ l) rest.others_are) }
+
+    missed : (k : K) (es : List (K × X)) (i : ℕ) → i ≤ length es → IsPartitionPoint (λ e. R e.0 k ≡ Less) (λ e. R e.0 k ≡ Greater) es i → IsMissed k es i
+    missed k [] zero l h = record { find_is = refl; put_is = λ v. refl; others_are = refl }
+    missed k [] (suc i) l h = absurd (omega arith)
+    missed k (e ∷ es) zero l h =
+        let rest = missed k es zero (omega arith) ((λ j d m n. absurd (omega arith)), (λ j d m n. h.1 (suc j) d (omega arith) (omega arith))) in
+        let before : R k e.0 ≡ Less = below e.0 k (h.1 0 e (omega arith) (omega arith)) in
+        record { find_is = rw before rest.find_is; put_is = λ v. rw before; others_are = rw before (ap (λ l. e ∷ l) rest.others_are) }
+    missed k (e ∷ es) (suc i) l h =
+        let rest = missed k es i (omega arith) ((λ j d m n. h.0 (suc j) d (omega arith) (omega arith)), (λ j d m n. h.1 (suc j) d (omega arith) (omega arith))) in
+        let after : R k e.0 ≡ Greater = above e.0 k (h.0 0 e (omega arith) (omega arith)) in
+        record { find_is = rw after rest.find_is; put_is = λ v. rw after (ap (λ l. e ∷ l) (rest.put_is v)); others_are = rw after (ap (λ l. e ∷ l) rest.others_are) }
+
+    -- what a binary search answers
+    pub searched : (es : List (K × X)) (k : K) (r : Result ℕ ℕ) → is_sorted R es ≡ true → IsSearchInRange r (length es) → IsBinarySearchResult (λ e. R e.0 k) es r → record { within : IsSearchInRange r (length es); found : IfOk r (HoldsAt (λ e. R e.0 k ≡ Equal) es); absent : IfErr r (IsPartitionPoint (λ e. R e.0 k ≡ Less) (λ e. R e.0 k ≡ Greater) es) }
+    searched es k (Ok i) s l h = record { within = l; found = h; absent = tt }
+    searched es k (Err i) s l h = record { within = l; found = tt; absent = h (comparisons-rise es k s) }
+
+    -- a list in order is the finite map
+    pub record IsListOf (es : List (K × X)) (m : map.FinMap R X) : Type 0 where
+      pub sorted : is_sorted R es ≡ true
+      pub is : from_sorted es ≡ m
+
+    module _ (same : IsAntisymmetric R) (es : List (K × X)) (k : K) (s : is_sorted R es ≡ true) where
+      put-is : (v : X) → IsListOf (put R k v es) (map.insert (from_sorted es) k v)
+      put-is v =
+          let t = is_sorted-put R o k v es (passes _ s) in
+          record {
+            sorted = truth _ t;
+            is = same_map o same _ _ (λ q.
+                get-from_sorted R (put R k v es) q t ∙ find-put R o q k v es
+                ∙ sym (get-insert o (from_sorted es) k v q ∙ ap (cond (eq_by_cmp R q k) (Some v)) (get-from_sorted R es q (passes _ s))));
+          }
+
+      others-is : IsListOf (others k es) (map.remove (from_sorted es) k)
+      others-is =
+          let t = is_sorted-where_key R (λ x. not (eq_by_cmp R k x)) es (passes _ s) in
+          record {
+            sorted = truth _ t;
+            is = same_map o same _ _ (λ q.
+                get-from_sorted R (others k es) q t
+                ∙ find-where_key R _ q (λ x u. ap (λ r. not (is_eq r)) (sym (alike_right o q x k u))) es
+                ∙ turned (eq_by_cmp R k q) _ _ ∙ ap (λ b. cond b None (find R q es)) ((eq_by_cmp_equiv o).symm k q)
+                ∙ sym (get-remove o (from_sorted es) k q ∙ ap (cond (eq_by_cmp R q k) None) (get-from_sorted R es q (passes _ s))));
+          }
+
+      -- what edits at the place of a key do
+      pub at-found : (fs : List (K × X)) (i : ℕ) → fs ≡ es → i < length fs → HoldsAt (λ e. R e.0 k ≡ Equal) fs i → record {
+        get : (e : K × X) → e ≡ get_or es i e → map.get (from_sorted {R = R} es) k ≡ Some e.1;
+        set : (e : K × X) (v : X) → e ≡ get_or es i e → IsListOf (set es i (e.0, v)) (map.insert (from_sorted es) k v);
+        remove : IsListOf (remove es i) (map.remove (from_sorted es) k);
+      }
+      at-found fs i f l h =
+          let there = found k es i s (rw f at l) (rw f at h) in
+          record {
+            get = λ e at. get-from_sorted R es k (passes _ s) ∙ there.find_is e ∙ ap (λ (d : K × X). Some d.1) (sym at);
+            set = λ e v at. rw (there.put_is v e, ← at) at (put-is v);
+            remove = rw there.others_are at others-is;
+          }
+
+      -- and at the place where it would be
+      pub at-gap : (fs : List (K × X)) (i : ℕ) → fs ≡ es → i ≤ length fs → IsPartitionPoint (λ e. R e.0 k ≡ Less) (λ e. R e.0 k ≡ Greater) fs i → record {
+        get : map.get (from_sorted {R = R} es) k ≡ None;
+        insert : (v : X) → IsListOf (insert es i (k, v)) (map.insert (from_sorted es) k v);
+        remove : from_sorted {R = R} es ≡ map.remove (from_sorted es) k;
+      }
+      at-gap fs i f l h =
+          let gap = missed k es i (rw f at l) (rw f at h) in
+          record {
+            get = get-from_sorted R es k (passes _ s) ∙ gap.find_is;
+            insert = λ v. rw gap.put_is at (put-is v);
+            remove = (rw gap.others_are at others-is).is;
+          }
