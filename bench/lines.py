@@ -4,7 +4,7 @@
 Usage: bench/lines.py [LINES ..]     (100000 1000000 where none are given)
 
 It runs `times` on the feed rows/feeds/a, once for each number of lines, with
-lines of all types in turn: in 24 of them 9 are bad, 10 are refused, 4 are
+lines of all served types in turn: in 24 of them 9 are bad, 10 are refused, 4 are
 accepted and one is a flush. It prints the seconds, the lines per second and
 the peak memory when the last lines are handed over, which should not grow with
 the number of lines. It needs the folder /proc of Linux. It proves nothing and
