@@ -11,7 +11,7 @@ use Rattle.schedule_build.specs.Directory.{Names, trip_of_train, day_of_train, d
 use Rattle.delay_report.specs.declared.replies.BadLine.{BadLine}
 use Rattle.delay_report.specs.declared.replies.BadLine.TheVariants as lines
 use Rattle.delay_report.specs.declared.replies.Reply.{Reply}
-use Rattle.delay_report.specs.declared.replies.Reply.TheVariants.{Accepted, Refused, Bad, Flush}
+use Rattle.delay_report.specs.declared.replies.Reply.TheVariants.{Accepted, Refused, RefusedExtra, Bad, Flush}
 use Rattle.delay_report.specs.Clocks.{clock, date_text}
 
 -- the word for a departure (dep true) or an arrival (dep false)
@@ -46,13 +46,17 @@ short_word shorts.Trains = codes "trains"
 short_word shorts.Calls = codes "calls"
 short_word shorts.Overrides = codes "overrides"
 
--- the object that names an event
-abbrev pub event_object : Names → Node → Data
-event_object names n =
+-- the object that names an event of the train of a trip on a service day
+abbrev pub event_of_trip : Names → List ℕ → ℕ → Node → Data
+event_of_trip names trip day n =
     object (member (codes "call") (number (unsigned n.label))
-    (member (codes "date") (string (date_of_train names n.train))
+    (member (codes "date") (string (date_text (date_of_day names day)))
     (member (codes "event") (string (event_word n.dep))
-    (member (codes "trip") (string (trip_of_train names n.train)) no_members))))
+    (member (codes "trip") (string trip) no_members))))
+
+-- the same for a train that has its name and its service day by number
+abbrev pub event_object : Names → Node → Data
+event_object names n = event_of_trip names (trip_of_train names n.train) (day_of_train names n.train) n
 
 -- a refusal of which the word says all
 abbrev pub plain_refusal : ℕ → List ℕ → Data
@@ -68,13 +72,13 @@ contradiction_object names line event reported =
     (member (codes "refused") (string (codes "Contradiction"))
     (member (codes "reported") (string (clock_of_train names event.train reported)) no_members))))
 
--- the new timetable would have an edge against the order of keys
-abbrev pub rank_object : Names → ℕ → Node → Node → Data
-rank_object names line from to =
-    object (member (codes "from") (event_object names from)
+-- the new timetable would have an edge against the order of keys, between the events that these objects name
+abbrev pub rank_object : ℕ → Data → Data → Data
+rank_object line from to =
+    object (member (codes "from") from
     (member (codes "line") (number (unsigned line))
     (member (codes "refused") (string (codes "AgainstRank"))
-    (member (codes "to") (event_object names to) no_members))))
+    (member (codes "to") to no_members))))
 
 -- too little is spare
 abbrev pub full_object : ℕ → Short → Data
@@ -89,10 +93,16 @@ refusal_object names line refusals.Unknown = plain_refusal line (codes "Unknown"
 refusal_object names line refusals.Known = plain_refusal line (codes "Known")
 refusal_object names line refusals.NoConnection = plain_refusal line (codes "NoConnection")
 refusal_object names line (refusals.Contradiction event reported) = contradiction_object names line event reported
-refusal_object names line (refusals.AgainstRank from to) = rank_object names line from to
+refusal_object names line (refusals.AgainstRank from to) = rank_object line (event_object names from) (event_object names to)
 refusal_object names line (refusals.Full what) = full_object line what
 
--- an accepted message: its number among those accepted, and how many events have changed their times
+-- an extra train that is refused since an edge of it runs against the order of keys. It has no number, so its trip and its service
+-- day are told
+abbrev pub refused_extra_object : Names → ℕ → List ℕ → ℕ → Node → Node → Data
+refused_extra_object names line trip day from to = rank_object line (event_of_trip names trip day from) (event_of_trip names trip day to)
+
+-- an accepted message: its number among those accepted, and how many events it changes: those that it takes away or adds, and those
+-- that have another time
 abbrev pub accepted_object : ℕ → ℕ → ℕ → Data
 accepted_object line count changed =
     object (member (codes "accepted") (number (unsigned count))
@@ -115,6 +125,7 @@ flush_object line count =
 abbrev pub reply_object : Names → Reply → Data
 reply_object names (Accepted line count changed) = accepted_object line count changed
 reply_object names (Refused line refusal) = refusal_object names line refusal
+reply_object names (RefusedExtra line trip day from to) = refused_extra_object names line trip day from to
 reply_object names (Bad line bad) = bad_object line bad
 reply_object names (Flush line count) = flush_object line count
 

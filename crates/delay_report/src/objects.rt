@@ -3,14 +3,16 @@
 ghost use Rattle.std.specs.Prelude.{◌≡◌, codes, IfOk};
 ghost use Rattle.serde_json.specs.Data.{unsigned, number, string, object, no_members, member};
 ghost use Rattle.serde_json.specs.View.{view};
-ghost use Rattle.delay_report.specs.Replies.{event_word, date_of_train, seconds_on_day, clock_of_train, bad_word, short_word, event_object, plain_refusal, contradiction_object, rank_object, full_object, refusal_object, bad_object, flush_object};
+ghost use Rattle.schedule_build.specs.Directory.{date_of_day};
+ghost use Rattle.delay_report.specs.Clocks.{date_text};
+ghost use Rattle.delay_report.specs.Replies.{event_word, date_of_train, seconds_on_day, clock_of_train, bad_word, short_word, event_of_trip, event_object, plain_refusal, contradiction_object, rank_object, full_object, refusal_object, refused_extra_object, bad_object, flush_object};
 
 use crate::clocks::{date_text, write_clock};
 use crate::replies::BadLine;
 use delay_model::messages::{Refusal, Short};
 use mt_base::keys::Node;
 use mt_base::memory::OutOfMemory;
-use mt_base::numbers::{Time, TrainNo};
+use mt_base::numbers::{Day, Time, TrainNo};
 use schedule_build::Directory;
 use serde_json::{Value, json};
 use std::alloc::Global;
@@ -61,10 +63,10 @@ pub(crate) fn seconds_on_day(dir: &Directory, train: TrainNo, time: Time) -> u32
     time.seconds().saturating_sub(base.seconds())
 }
 
-fn date_value(alloc: Global, dir: &Directory, train: TrainNo) -> Result<Value, OutOfMemory>
-    ensures { IfOk result (λ v. view v ≡ string (date_of_train dir.now train)) }
+fn date_value(alloc: Global, dir: &Directory, day: Day) -> Result<Value, OutOfMemory>
+    ensures { IfOk result (λ v. view v ≡ string (date_text (date_of_day dir.now day))) }
 {
-    let digits = date_of_train(dir, train);
+    let digits = date_text(dir.date(day));
     let text = str::from_utf8(&digits).unwrap();
     json!(in alloc; text)
 }
@@ -83,17 +85,31 @@ fn clock_value(
     json!(in alloc; text)
 }
 
-/// The object that names an event.
-fn event_value(alloc: Global, dir: &Directory, event: &Node) -> Result<Value, OutOfMemory>
-    ensures { IfOk result (λ v. view v ≡ event_object dir.now event.now) }
+/// The object that names an event of the train of a trip on a service day.
+fn event_of_trip(
+    alloc: Global,
+    dir: &Directory,
+    trip: &str,
+    day: Day,
+    event: &Node,
+) -> Result<Value, OutOfMemory>
+    ensures { IfOk result (λ v. view v ≡ event_of_trip dir.now trip.now day event.now) }
 {
-    let date = date_value(alloc, dir, event.train)?;
+    let date = date_value(alloc, dir, day)?;
     json!(in alloc; {
         "call": u64::from(event.label.get()),
         "date": &date,
         "event": event_word(event.dep),
-        "trip": dir.trip_name(event.train)
+        "trip": trip
     })
+}
+
+/// The object that names an event of a train of the directory.
+fn event_value(alloc: Global, dir: &Directory, event: &Node) -> Result<Value, OutOfMemory>
+    ensures { IfOk result (λ v. view v ≡ event_object dir.now event.now) }
+{
+    let trip = dir.trip_name(event.train);
+    event_of_trip(alloc, dir, trip, dir.train_day(event.train), event)
 }
 
 /// A refusal of which the word says all.
@@ -122,18 +138,10 @@ fn contradiction_value(
     })
 }
 
-fn rank_value(
-    alloc: Global,
-    dir: &Directory,
-    line: u64,
-    from: &Node,
-    to: &Node,
-) -> Result<Value, OutOfMemory>
-    ensures { IfOk result (λ v. view v ≡ rank_object dir.now line from.now to.now) }
+fn rank_value(alloc: Global, line: u64, from: &Value, to: &Value) -> Result<Value, OutOfMemory>
+    ensures { IfOk result (λ v. view v ≡ rank_object line (view from.now) (view to.now)) }
 {
-    let from = event_value(alloc, dir, from)?;
-    let to = event_value(alloc, dir, to)?;
-    json!(in alloc; {"from": &from, "line": line, "refused": "AgainstRank", "to": &to})
+    json!(in alloc; {"from": from, "line": line, "refused": "AgainstRank", "to": to})
 }
 
 fn full_value(alloc: Global, line: u64, what: Short) -> Result<Value, OutOfMemory>
@@ -158,9 +166,30 @@ pub(crate) fn refusal_value(
         Refusal::Contradiction { event, reported } => {
             contradiction_value(alloc, dir, line, event, *reported)
         }
-        Refusal::AgainstRank { from, to } => rank_value(alloc, dir, line, from, to),
+        Refusal::AgainstRank { from, to } => {
+            let from = event_value(alloc, dir, from)?;
+            let to = event_value(alloc, dir, to)?;
+            rank_value(alloc, line, &from, &to)
+        }
         Refusal::Full { what } => full_value(alloc, line, *what),
     }
+}
+
+/// The object for an extra train that is refused since an edge of it, between these events, runs against the order of keys.
+pub(crate) fn refused_extra_value(
+    alloc: Global,
+    dir: &Directory,
+    line: u64,
+    trip: &str,
+    day: Day,
+    from: &Node,
+    to: &Node,
+) -> Result<Value, OutOfMemory>
+    ensures { IfOk result (λ v. view v ≡ refused_extra_object dir.now line trip.now day from.now to.now) }
+{
+    let from = event_of_trip(alloc, dir, trip, day, from)?;
+    let to = event_of_trip(alloc, dir, trip, day, to)?;
+    rank_value(alloc, line, &from, &to)
 }
 
 /// The object for a line that says nothing.

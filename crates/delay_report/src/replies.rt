@@ -5,10 +5,13 @@ ghost use Rattle.serde_json.specs.View.{view};
 ghost use Rattle.serde_json.specs.Written.{has_float};
 ghost use Rattle.delay_report.specs.Replies.{accepted_object, line_of, text_of_reply};
 
-use crate::objects::{bad_value, flush_value, refusal_value};
+use crate::objects::{bad_value, flush_value, refusal_value, refused_extra_value};
 use delay_model::messages::Refusal;
 use itoa::Buffer;
+use mt_base::keys::Node;
 use mt_base::memory::OutOfMemory;
+use mt_base::names::Name;
+use mt_base::numbers::Day;
 use schedule_build::Directory;
 use serde_json::Value;
 use std::alloc::Global;
@@ -34,9 +37,10 @@ pub enum BadLine {
 }
 
 /// What is answered to a line, which is numbered from 1.
-#[derive(Clone, Copy, Debug, PartialEq, Eq)]
+#[derive(Drop)]
 pub enum Reply {
-    /// The message is the one of this number among those accepted, from 1, and changed the times of so many events.
+    /// The message is the one of this number among those accepted, from 1, and changed so many events: those that it took away or added,
+    /// and those that have another time.
     Accepted {
         line: u64,
         number: u64,
@@ -46,6 +50,15 @@ pub enum Reply {
     Refused {
         line: u64,
         refusal: Refusal,
+    },
+    /// An extra train is refused, since an edge of it between these events runs against the order of keys. The directory does not
+    /// have it, so its trip and its service day are told.
+    RefusedExtra {
+        line: u64,
+        trip: Name,
+        day: Day,
+        from: Node,
+        to: Node,
     },
     /// The line says nothing.
     Bad {
@@ -108,6 +121,16 @@ pub fn reply_text(alloc: Global, reply: &Reply, dir: &Directory) -> Result<Vec<u
         Reply::Refused { line, refusal } => {
             object_text(alloc, &refusal_value(alloc, dir, *line, refusal)?)
         }
+        Reply::RefusedExtra {
+            line,
+            trip,
+            day,
+            from,
+            to,
+        } => object_text(
+            alloc,
+            &refused_extra_value(alloc, dir, *line, trip.text(), *day, from, to)?,
+        ),
         Reply::Bad { line, bad } => object_text(alloc, &bad_value(alloc, *line, *bad)?),
         Reply::Flush { line, count } => object_text(alloc, &flush_value(alloc, *line, *count)?),
     }

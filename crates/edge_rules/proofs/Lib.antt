@@ -2,7 +2,6 @@ pub mod InLine
 pub mod Own
 pub mod Beside
 pub mod Neighbours
-pub mod Labels
 pub mod Given
 pub mod Caps
 pub mod LocalRule

@@ -75,7 +75,7 @@ fn minimum(opts: &Opts, from: &Event, to: &Event) -> u32
 }
 
 /// The edge from an event to the next one of its train, if both are live.
-fn edge_between(opts: &Opts, from: &Event, to: &Event) -> Option<Edge>
+pub(crate) fn edge_between(opts: &Opts, from: &Event, to: &Event) -> Option<Edge>
     ensures { option_to_list result ≡ edge_on opts.now from.now (to.now ∷ []) }
 {
     if !from.live || !to.live {

@@ -1,16 +1,18 @@
 //! The graph over the trains.
 
-ghost use Rattle.std.specs.Prelude.{◌≡◌, ◌+◌, ◌++◌, [], ◌&&◌, nat_eq, ◌<◌, ◌^◌, false, IsTrue, Some, All, IfOk, map, flat_map, length, not, if◌then◌else◌};
+ghost use Rattle.std.specs.Prelude.{◌≡◌, ◌+◌, ◌++◌, [], ◌∷◌, ◌&&◌, nat_eq, ◌<◌, ◌≤◌, ◌^◌, true, false, IsTrue, Some, All, IfOk, OnOk, OnErr, map, flat_map, length, not, if◌then◌else◌};
 ghost use Rattle.std.specs.Option.{option_to_list};
 ghost use Rattle.std.specs.FinMap as finmap;
 ghost use Rattle.std.specs.List.Sorted.{IsPermutation};
 ghost use Rattle.mt_base.specs.Options.{IsInRange};
 ghost use Rattle.mt_base.specs.Order.{node_of};
 ghost use Rattle.delay_model.specs.declared.state.Event.{Event as AnEvent};
-ghost use Rattle.delay_model.specs.Edges.{change_between, edge_by_change, is_planned, override_of, transfer_kind, wait_between};
-ghost use Rattle.delay_model.specs.Effect.{with_event, forecasted, reported, has_override, with_override, without_override};
-ghost use Rattle.delay_model.specs.Events.{events, event_named, is_live};
+ghost use Rattle.delay_model.specs.Edges.{change_between, edge_by_change, edge_on, is_planned, override_of, transfer_kind, wait_between};
+ghost use Rattle.delay_model.specs.Effect.{effect, with_event, forecasted, reported, has_override, with_override, without_override};
+ghost use Rattle.delay_model.specs.Events.{calls_of, events, event_named, is_live};
 ghost use Rattle.delay_model.specs.Overrides.{connection};
+ghost use Rattle.delay_model.specs.Refusals.{stands_before};
+ghost use Rattle.delay_model.specs.declared.messages.Message.TheVariants as messages;
 ghost use Rattle.train_nodes.specs.Calls.{has_event};
 ghost use Rattle.train_nodes.specs.Kept.{has_time};
 ghost use Rattle.waiting_rules.specs.WaitTable.{parent_station};
@@ -19,7 +21,7 @@ ghost use Rattle.edge_rules.specs.Held.{network_of, HasOwnLabels};
 ghost use Rattle.edge_rules.specs.Transfers.{transfer_between, transfer_with};
 
 use crate::all_events::AllEvents;
-use crate::along::{edge_into, edge_out};
+use crate::along::{edge_between, edge_into, edge_out};
 use crate::connections::{is_planned, may_connect};
 use crate::edges::Edges;
 use crate::edges_at::EdgesAt;
@@ -29,8 +31,9 @@ use delay_model::overrides::Override;
 use delay_model::state::{Edge as ModelEdge, EdgeKind, Event};
 use mt_base::keys::Node;
 use mt_base::memory::OutOfMemory;
-use mt_base::numbers::Time;
+use mt_base::numbers::{Day, Label, RouteNo, Time, TrainNo};
 use mt_base::options::Opts;
+use mt_base::plans::NewCall;
 use std::alloc::Global;
 use std::marker::Model;
 use std::sync::ledger::Ledger;
@@ -150,6 +153,7 @@ impl Graph {
         ensures { self.new ≡ record self.old { state = with_event n (forecasted t) self.old.state } }
     {
         self.trains.set_forecast(n, t);
+        self.trains.labels_are_distinct();
     }
 
     /// Sets the report of an event, in seconds from the base of day 0.
@@ -158,6 +162,7 @@ impl Graph {
         ensures { self.new ≡ record self.old { state = with_event n (reported t) self.old.state } }
     {
         self.trains.set_report(n, t);
+        self.trains.labels_are_distinct();
     }
 
     /// Keeps or drops a connection, in place of what was chosen before. It takes no memory.
@@ -173,6 +178,56 @@ impl Graph {
         ensures { self.new ≡ record self.old { state = without_override (connection feeder train) self.old.state } }
     {
         self.trains.clear_override(feeder, train);
+    }
+
+    /// A train does not run from the departure of one call to the arrival of a later one, and what was chosen for connections that name
+    /// one of these events goes.
+    pub fn cancel(&mut self, t: TrainNo, from: Label, to: Label)
+        requires { stands_before from to (calls_of self.old.state t) ≡ true }
+        ensures { self.new ≡ record self.old { state = effect self.old.state (messages.Cancel t from to) } }
+    {
+        self.trains.cancel(t, from, to);
+        self.trains.labels_are_distinct();
+    }
+
+    /// Between two of its calls a train makes these calls, and not those that it made so far, for which what was chosen goes with them.
+    /// After an error nothing is changed.
+    pub fn reroute(
+        &mut self,
+        alloc: Global,
+        t: TrainNo,
+        from: Label,
+        to: Label,
+        via: &[NewCall],
+    ) -> Result<(), OutOfMemory>
+        requires stand { stands_before from to (calls_of self.old.state t) ≡ true }
+        requires spare { length via.now ≤ self.old.state.spare_calls }
+        ensures ok { OnOk result (self.new ≡ record self.old { state = effect self.old.state (messages.Reroute t from to via.now) }) }
+        ensures err { OnErr result (self.new ≡ self.old) }
+    {
+        let done = self.trains.reroute(alloc, t, from, to, via);
+        self.trains.labels_are_distinct();
+        done
+    }
+
+    /// One more train runs. It gets the next number, which is given back. It takes no memory.
+    pub fn add_train(&mut self, day: Day, route: RouteNo, calls: &[NewCall]) -> TrainNo
+        requires train_spare { 0 < self.old.state.spare_trains }
+        requires calls_spare { length calls.now ≤ self.old.state.spare_calls }
+        requires two_calls { 2 ≤ length calls.now }
+        ensures number { result ≡ length self.old.state.trains }
+        ensures train { self.new ≡ record self.old { state = effect self.old.state (messages.Extra (length self.old.state.trains) day route calls.now) } }
+    {
+        let number = self.trains.add_train(day, route, calls);
+        self.trains.labels_are_distinct();
+        number
+    }
+
+    /// The edge along a train from an event to the next one, if both are live.
+    pub fn edge_along(&self, from: &Event, to: &Event) -> Option<ModelEdge>
+        ensures { option_to_list result ≡ edge_on self.now.network.opts from.now (to.now ∷ []) }
+    {
+        edge_between(&self.opts, from, to)
     }
 
     /// Whether edges between trains can be at an event of this kind: where there is no waiting rule and nothing is kept or dropped,

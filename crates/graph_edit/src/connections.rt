@@ -7,10 +7,11 @@ ghost use Rattle.delay_model.specs.declared.messages.Refusal.TheVariants.{Unknow
 ghost use Rattle.delay_model.specs.Effect.{effect};
 ghost use Rattle.delay_model.specs.Events.{is_live};
 ghost use Rattle.delay_model.specs.Messages.{IsWellFormed};
-ghost use Rattle.delay_model.specs.Refusals.{refusal, refused_if, is_no_connection, kept_edge, itself_reported, first_against_rank, overrides_short};
+ghost use Rattle.delay_model.specs.Refusals.{refusal, refused_if, is_no_connection, kept_edge, itself_reported, overrides_short};
 ghost use Rattle.train_nodes.specs.Kinds.{IsChoice};
 ghost use Rattle.graph_edit.specs.Values.{Answers};
 
+use crate::checks::{check_rank, check_unreported};
 use delay_model::messages::{Message, Refusal, Short};
 use delay_model::overrides::Override;
 use delay_model::state::{Edge, EdgeKind};
@@ -27,13 +28,13 @@ pub fn check_keep(g: &Graph, m: &Msg) -> Result<(), Refusal>
     match m.message() {
         Message::Keep { feeder, train } => {
             let edge = kept_edge(g, feeder, train)?;
-            check_unreported(g, train)?;
+            check_departure(g, train)?;
             check_rank(&edge)?;
             check_room(g, feeder, train)
         }
         Message::Drop { feeder, train } => {
             kept_edge(g, feeder, train)?;
-            check_unreported(g, train)?;
+            check_departure(g, train)?;
             check_room(g, feeder, train)
         }
         Message::Rule { feeder, train } => {
@@ -89,34 +90,13 @@ fn kept_edge(g: &Graph, feeder: &Node, train: &Node) -> Result<Edge, Refusal>
     }
 }
 
-/// Whether a live event is not reported.
-fn check_unreported(g: &Graph, n: &Node) -> Result<(), Refusal>
+/// Whether a live departure is not reported.
+fn check_departure(g: &Graph, n: &Node) -> Result<(), Refusal>
     requires { IsTrue (is_live g.now.state n.now) }
     ensures { Answers result (itself_reported g.now.state n.now) }
 {
     let event = g.trains().event(*n);
-    match event.report {
-        Some(reported) if event.live => Err(Refusal::Contradiction {
-            event: event.key.node(),
-            reported,
-        }),
-        _ => Ok(()),
-    }
-}
-
-/// Whether the edge leads to an event that is later by key, and the schedule leaves time enough for it.
-fn check_rank(edge: &Edge) -> Result<(), Refusal>
-    ensures { Answers result (first_against_rank (edge.now ∷ [])) }
-{
-    let earliest = u64::from(edge.from.time.seconds()) + u64::from(edge.weight);
-    if edge.from.is_before(&edge.to) && earliest <= u64::from(edge.to.time.seconds()) {
-        Ok(())
-    } else {
-        Err(Refusal::AgainstRank {
-            from: edge.from.node(),
-            to: edge.to.node(),
-        })
-    }
+    check_unreported(&event)
 }
 
 /// Whether there is room for what is chosen for the connection.

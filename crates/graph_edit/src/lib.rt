@@ -2,6 +2,7 @@
 //! change.
 #![tactic(auto)]
 
+pub mod checks;
 pub mod connections;
 pub mod values;
 

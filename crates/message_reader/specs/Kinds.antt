@@ -1,5 +1,5 @@
 -- The types of lines.
-use Rattle.std.specs.Prelude.{ℕ, List, Bool, true, false, if◌then◌else◌, Some, None, bytes_eq, codes}
+use Rattle.std.specs.Prelude.{ℕ, List, if◌then◌else◌, Some, None, bytes_eq, codes}
 use Rattle.std.specs.declared.option.Option.{Option}
 use Rattle.message_reader.specs.declared.kinds.Kind.{Kind}
 use Rattle.message_reader.specs.declared.kinds.Kind.TheVariants as kinds
@@ -17,10 +17,3 @@ kind_of name =
     else (if bytes_eq name (codes "rule") then Some kinds.Rule
     else (if bytes_eq name (codes "flush") then Some kinds.Flush
     else None))))))))
-
--- lines of this type are served: all but those that change the calls of trains
-abbrev pub is_served : Kind → Bool
-is_served kinds.Cancel = false
-is_served kinds.Reroute = false
-is_served kinds.Extra = false
-is_served _ = true

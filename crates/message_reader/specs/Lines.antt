@@ -19,7 +19,7 @@ use Rattle.message_reader.specs.declared.wire.Line.{Line}
 use Rattle.message_reader.specs.declared.wire.Line.TheVariants.{Message, Flush}
 use Rattle.message_reader.specs.Chain.{◌>>=◌, need, unless}
 use Rattle.message_reader.specs.Fields.{text_at, number_at}
-use Rattle.message_reader.specs.Kinds.{kind_of, is_served}
+use Rattle.message_reader.specs.Kinds.{kind_of}
 use Rattle.message_reader.specs.Messages.{event_of, cancel_of, reroute_of, extra_of, connect_of}
 
 -- the bytes are a text in UTF-8
@@ -62,12 +62,3 @@ line_of bytes = do
   text ← utf8_of bytes
   d ← json_of text
   said_by d
-
--- the same where a line of a type that is not served has the wrong shape
-unfoldable pub served_line_of : List ℕ → Result Line Bad
-served_line_of bytes = do
-  text ← utf8_of bytes
-  d ← json_of text
-  kind ← head_of d
-  _ ← unless (is_served kind) Shape
-  message_of kind d

@@ -19,18 +19,7 @@ IsWire (Reroute trip date from to via) = IsCivil date × All IsWireCall via
 IsWire (Extra trip date route calls) = IsCivil date × All IsWireCall calls × (2 ≤ length calls)
 IsWire (Connect kind feeder train) = IsCivil feeder.date × IsCivil train.date
 
--- the message leaves the calls of all trains, and which of their events take place, as they are
-abbrev pub LeavesCalls : Wire → Type 0
-LeavesCalls (Event report trip date call dep secs) = Unit {0}
-LeavesCalls (Connect kind feeder train) = Unit {0}
-LeavesCalls _ = ⊥
-
 -- the message of the line keeps what every message that is read keeps
 abbrev pub IsLine : Line → Type 0
 IsLine (Message w) = IsWire w
 IsLine Flush = Unit {0}
-
--- the message of the line, if it is one, leaves the calls of all trains as they are
-abbrev pub IsServedLine : Line → Type 0
-IsServedLine (Message w) = LeavesCalls w
-IsServedLine Flush = Unit {0}

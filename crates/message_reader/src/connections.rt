@@ -5,7 +5,7 @@ ghost use Rattle.serde_json.specs.View.{view};
 ghost use Rattle.mt_base.specs.Civil.{IsCivil};
 ghost use Rattle.message_reader.specs.Chain.{Gives, GivesAs};
 ghost use Rattle.message_reader.specs.Messages.{ref_texts, ref_of, connect_of};
-ghost use Rattle.message_reader.specs.Wires.{IsWire, LeavesCalls};
+ghost use Rattle.message_reader.specs.Wires.{IsWire};
 
 use crate::bad::Bad;
 use crate::fields::{date, label_at, text_at};
@@ -57,7 +57,6 @@ fn reference(alloc: Global, texts: &RefTexts) -> Result<WireRef, Bad>
 pub fn connect(alloc: Global, kind: Connect, value: &Value) -> Result<Wire, Bad>
     ensures exact { Gives result (connect_of kind (view value.now)) }
     ensures kept { IfOk result IsWire }
-    ensures served { IfOk result LeavesCalls }
 {
     let feeder = value.get("feeder").ok_or(Bad::Shape)?;
     let train = value.get("train").ok_or(Bad::Shape)?;

@@ -4,7 +4,7 @@ ghost use Rattle.std.specs.Prelude.{IfOk};
 ghost use Rattle.serde_json.specs.View.{view};
 ghost use Rattle.message_reader.specs.Chain.{Gives};
 ghost use Rattle.message_reader.specs.Messages.{event_of, cancel_of};
-ghost use Rattle.message_reader.specs.Wires.{IsWire, LeavesCalls};
+ghost use Rattle.message_reader.specs.Wires.{IsWire};
 
 use crate::bad::Bad;
 use crate::fields::{date, departure, label_at, seconds, text_at};
@@ -18,7 +18,6 @@ use std::alloc::Global;
 pub fn event(alloc: Global, report: bool, value: &Value) -> Result<Wire, Bad>
     ensures exact { Gives result (event_of report (view value.now)) }
     ensures kept { IfOk result IsWire }
-    ensures served { IfOk result LeavesCalls }
 {
     let trip = text_at(value, "trip").ok_or(Bad::Shape)?;
     let day = text_at(value, "date").ok_or(Bad::Shape)?;

@@ -1,7 +1,7 @@
 //! The types of lines.
 
 ghost use Rattle.std.specs.Prelude.{◌≡◌};
-ghost use Rattle.message_reader.specs.Kinds.{kind_of, is_served};
+ghost use Rattle.message_reader.specs.Kinds.{kind_of};
 
 /// The type of a line.
 #[derive(Clone, Copy)]
@@ -34,11 +34,4 @@ pub(crate) fn kind_named(name: &str) -> Option<Kind>
         "flush" => Some(Kind::Flush),
         _ => None,
     }
-}
-
-/// Whether lines of this type are served.
-pub(crate) fn is_served(kind: Kind) -> bool
-    ensures { result ≡ is_served kind }
-{
-    !matches!(kind, Kind::Cancel | Kind::Reroute | Kind::Extra)
 }

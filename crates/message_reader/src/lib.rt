@@ -17,7 +17,7 @@ mod wire;
 
 pub use bad::Bad;
 pub use laws::{dates_are_read_back, messages_are_read_back, times_are_read_back};
-pub use lines::{read_line, read_wire};
+pub use lines::read_line;
 pub use messages::resolve;
 pub use unresolved::ResolveFault;
 pub use wire::{Connect, Line, Wire, WireCall, WireRef};

@@ -1,17 +1,16 @@
 //! A line: its text, its value, its type, and what it says.
 
-ghost use Rattle.std.specs.Prelude.{◌≡◌, true, IfOk};
+ghost use Rattle.std.specs.Prelude.{◌≡◌, IfOk};
 ghost use Rattle.serde_json.specs.View.{view};
 ghost use Rattle.message_reader.specs.Chain.{Gives, GivesAs};
-ghost use Rattle.message_reader.specs.Kinds.{is_served};
-ghost use Rattle.message_reader.specs.Lines.{utf8_of, json_of, head_of, message_of, said_by, line_of, served_line_of};
-ghost use Rattle.message_reader.specs.Wires.{IsLine, IsServedLine};
+ghost use Rattle.message_reader.specs.Lines.{utf8_of, json_of, head_of, message_of, said_by, line_of};
+ghost use Rattle.message_reader.specs.Wires.{IsLine};
 
 use crate::bad::Bad;
 use crate::connections::connect;
 use crate::events::{cancel, event};
 use crate::fields::{number_at, text_at};
-use crate::kinds::{Kind, is_served, kind_named};
+use crate::kinds::{Kind, kind_named};
 use crate::routes::{extra, reroute};
 use crate::wire::{Connect, Line};
 use serde_json::Value;
@@ -52,7 +51,6 @@ fn head(value: &Value) -> Result<Kind, Bad>
 fn message(alloc: Global, kind: Kind, value: &Value) -> Result<Line, Bad>
     ensures exact { Gives result (message_of kind (view value.now)) }
     ensures kept { IfOk result IsLine }
-    ensures served { is_served kind ≡ true → IfOk result IsServedLine }
 {
     let wire = match kind {
         Kind::Forecast => event(alloc, false, value)?,
@@ -79,28 +77,11 @@ fn said(alloc: Global, value: &Value) -> Result<Line, Bad>
 
 /// What a line says, or its first fault. Memory may run out at any line.
 #[tactic(auto, unfolding(crate::specs::Lines::line_of))]
-pub fn read_wire(alloc: Global, bytes: &[u8]) -> Result<Line, Bad>
+pub fn read_line(alloc: Global, bytes: &[u8]) -> Result<Line, Bad>
     ensures exact { Gives result (line_of bytes.now) }
     ensures kept { IfOk result IsLine }
 {
     let text = utf8(bytes)?;
     let value = json(alloc, text)?;
     said(alloc, &value)
-}
-
-/// What a line says that is of a type which is served, or its first fault: a line of another type is `Shape`, whatever its other
-/// members are. Memory may run out at any line.
-#[tactic(auto, unfolding(crate::specs::Lines::served_line_of))]
-pub fn read_line(alloc: Global, bytes: &[u8]) -> Result<Line, Bad>
-    ensures exact { Gives result (served_line_of bytes.now) }
-    ensures kept { IfOk result IsLine }
-    ensures served { IfOk result IsServedLine }
-{
-    let text = utf8(bytes)?;
-    let value = json(alloc, text)?;
-    let kind = head(&value)?;
-    if !is_served(kind) {
-        return Err(Bad::Shape);
-    }
-    message(alloc, kind, &value)
 }

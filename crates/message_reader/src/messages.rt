@@ -3,8 +3,8 @@
 ghost use Rattle.std.specs.Prelude.{◌≤◌, All, IfOk, length};
 ghost use Rattle.delay_model.specs.Messages.{IsWellFormed};
 ghost use Rattle.message_reader.specs.Resolved.{event_resolved, cancel_resolved, reroute_resolved, extra_resolved, connect_resolved, resolved, Resolves};
-ghost use Rattle.message_reader.specs.Wires.{IsWire, IsWireCall, LeavesCalls as LeavesCallsWire};
-ghost use Rattle.train_nodes.specs.Kinds.{LeavesCalls};
+ghost use Rattle.message_reader.specs.Wires.{IsWire, IsWireCall};
+ghost use Rattle.train_nodes.specs.Kinds.{HasFewCalls};
 
 use crate::numbers::{new_calls, node, time_on, train_on};
 use crate::unresolved::ResolveFault;
@@ -31,7 +31,7 @@ fn event(
     requires { secs ≤ 359999 }
     ensures exact { Resolves result (event_resolved dir.now report trip.now date call dep secs) }
     ensures kept { IfOk result IsWellFormed }
-    ensures kind { IfOk result LeavesCalls }
+    ensures few { IfOk result HasFewCalls }
 {
     let found = train_on(dir, trip, date)?;
     let node = Node {
@@ -58,6 +58,7 @@ fn cancel(
 ) -> Result<Message, ResolveFault>
     ensures exact { Resolves result (cancel_resolved dir.now trip.now date from to) }
     ensures kept { IfOk result IsWellFormed }
+    ensures few { IfOk result HasFewCalls }
 {
     let found = train_on(dir, trip, date)?;
     Ok(Message::Cancel {
@@ -81,6 +82,7 @@ fn reroute(
     requires { All IsWireCall via.now }
     ensures exact { Resolves result (reroute_resolved dir.now trip.now date from to via.now) }
     ensures kept { IfOk result IsWellFormed }
+    ensures few { IfOk result HasFewCalls }
 {
     let found = train_on(dir, trip, date)?;
     let via = new_calls(alloc, dir, found.day, via)?;
@@ -106,6 +108,7 @@ fn extra(
     requires two { 2 ≤ length calls.now }
     ensures exact { Resolves result (extra_resolved dir.now trip.now date route.now calls.now) }
     ensures kept { IfOk result IsWellFormed }
+    ensures few { IfOk result HasFewCalls }
 {
     let day = dir.day(date).ok_or(ResolveFault::Unknown)?;
     let route = dir.route(route.text()).ok_or(ResolveFault::Unknown)?;
@@ -131,7 +134,7 @@ fn connect(
 ) -> Result<Message, ResolveFault>
     ensures exact { Resolves result (connect_resolved dir.now kind feeder.now train.now) }
     ensures kept { IfOk result IsWellFormed }
-    ensures kind { IfOk result LeavesCalls }
+    ensures few { IfOk result HasFewCalls }
 {
     let feeder = node(dir, false, feeder)?;
     let train = node(dir, true, train)?;
@@ -148,7 +151,7 @@ fn message(alloc: Global, wire: &Wire, dir: &Directory) -> Result<Message, Resol
     requires { IsWire wire.now }
     ensures exact { Resolves result (resolved dir.now wire.now) }
     ensures kept { IfOk result IsWellFormed }
-    ensures kind { LeavesCallsWire wire.now → IfOk result LeavesCalls }
+    ensures few { IfOk result HasFewCalls }
 {
     match wire {
         Wire::Event {
@@ -188,11 +191,10 @@ fn message(alloc: Global, wire: &Wire, dir: &Directory) -> Result<Message, Resol
 
 /// The message with the numbers for which its names stand. `Unknown` exactly where a train of the message, other than the new train
 /// of an extra, or a stop, a route or a service day of it is not there; `Known` exactly where an extra's train is there already and
-/// the message is not `Unknown`. Times are in seconds from the base of day 0. Memory may run out at reroutings and extra trains.
+/// the message is not `Unknown`. Times are in seconds from the base of day 0. Memory may be wanted for new calls.
 pub fn resolve(alloc: Global, wire: &Wire, dir: &Directory) -> Result<Msg, ResolveFault>
     requires kept { IsWire wire.now }
-    ensures exact { Resolves result (resolved dir.now wire.now) }
-    ensures kind { LeavesCallsWire wire.now → IfOk result LeavesCalls }
+    ensures { Resolves result (resolved dir.now wire.now) }
 {
     let message = message(alloc, wire, dir)?;
     Ok(Msg::new(message))

@@ -1,6 +1,6 @@
 //! The numbers for which single names stand.
 
-ghost use Rattle.std.specs.Prelude.{◌≡◌, ◌<◌, ◌≤◌, ◌+◌, All, IfOk, length};
+ghost use Rattle.std.specs.Prelude.{◌≡◌, ◌<◌, ◌≤◌, ◌+◌, ◌^◌, All, IfOk, length};
 ghost use Rattle.delay_model.specs.Messages.{IsSmallCall};
 ghost use Rattle.schedule_build.specs.Directory.{base_of};
 ghost use Rattle.message_reader.specs.Resolved.{train_on, stop_named, node_named, new_call, new_calls, Resolves};
@@ -98,7 +98,12 @@ pub(crate) fn new_calls(
     ensures exact { Resolves result (new_calls dir.now day wire_calls.now) }
     ensures small { IfOk result (λ calls. All IsSmallCall calls) }
     ensures all { IfOk result (λ calls. length calls ≡ length wire_calls.now) }
+    ensures few { IfOk result (λ calls. length calls < 2 ^ 31) }
 {
+    // There are no labels for so many calls, which is answered as want of memory.
+    if wire_calls.len() >= 1 << 31 {
+        return Err(ResolveFault::OutOfMemory);
+    }
     let mut calls = Vec::new(alloc);
     for wire_call in wire_calls {
         let call = new_call(dir, day, wire_call)?;

@@ -1,16 +1,16 @@
-use crate::{Bad, Connect, Line, Wire, WireCall, WireRef, read_wire};
+use crate::{Bad, Connect, Line, Wire, WireCall, WireRef, read_line};
 use std::alloc::Global;
 use std::test::Fail;
 
 fn fault(alloc: Global, line: &[u8]) -> Option<Bad> {
-    match read_wire(alloc, line) {
+    match read_line(alloc, line) {
         Ok(_) => None,
         Err(bad) => Some(bad),
     }
 }
 
 fn message(alloc: Global, line: &[u8]) -> Option<Wire> {
-    match read_wire(alloc, line) {
+    match read_line(alloc, line) {
         Ok(Line::Message(wire)) => Some(wire),
         _ => None,
     }
@@ -215,7 +215,7 @@ fn connections(rt: HostRuntime) {
 }
 
 fn is_flush(alloc: Global, line: &[u8]) -> bool {
-    match read_wire(alloc, line) {
+    match read_line(alloc, line) {
         Ok(Line::Flush) => true,
         _ => false,
     }

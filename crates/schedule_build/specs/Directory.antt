@@ -1,5 +1,5 @@
 -- The names of a timetable, and what they stand for.
-use Rattle.std.specs.Prelude.{ℕ, zero, suc, ◌+◌, ◌*◌, List, [], ◌∷◌, Bool, ◌&&◌, if◌then◌else◌, Option, None, Some, nat_eq, bytes_eq, slice_index_or, map}
+use Rattle.std.specs.Prelude.{ℕ, zero, suc, ◌+◌, ◌*◌, List, [], ◌∷◌, ◌++◌, Bool, ◌&&◌, if◌then◌else◌, Option, None, Some, nat_eq, bytes_eq, slice_index_or, map}
 use Rattle.std.specs.Option.{option_map_or}
 use Rattle.std.specs.Prelude.{slice_get}
 use Rattle.mt_base.specs.declared.tables.StopRow.{StopRow}
@@ -70,6 +70,12 @@ id_of_place names place = option_map_or (λ (p : Place). p.id) (slice_get names.
 -- the `location_type` of a place
 abbrev pub kind_of_place : Names → ℕ → ℕ
 kind_of_place names place = option_map_or (λ (p : Place). p.kind) (slice_get names.places place) 0
+
+-- ---- one more train
+
+-- the names with one more train, which gets the next number
+abbrev pub with_extra : List ℕ → ℕ → Names → Names
+with_extra trip day names = record names { trains = names.trains ++ record { trip = trip; day = day } ∷ [] }
 
 -- ---- the names of a feed
 

@@ -1,12 +1,14 @@
 //! The names of a timetable, and the numbers that they stand for.
 
-ghost use Rattle.std.specs.Prelude.{◌≡◌, ◌<◌, ◌≤◌, IfOk, IfSome, length};
-ghost use Rattle.schedule_build.specs.Directory.{train_named, day_named, place_named, route_named, date_of_day, base_of, trip_of_train, day_of_train, id_of_place, kind_of_place};
+ghost use Rattle.std.specs.Prelude.{◌≡◌, ◌+◌, ◌<◌, ◌≤◌, ◌^◌, IfSome, OnOk, OnErr, length};
+ghost use Rattle.schedule_build.specs.Directory.{train_named, day_named, place_named, route_named, date_of_day, base_of, trip_of_train, day_of_train, id_of_place, kind_of_place, with_extra};
 
 use crate::name_list::NameList;
 use crate::places::Places;
 use crate::train_names::TrainNames;
+use mt_base::memory::OutOfMemory;
 use mt_base::numbers::{Day, RouteNo, StopNo, Time, TrainNo};
+use std::alloc::Global;
 use std::marker::Model;
 
 /// The names of the trains, places, routes and days of a timetable. It is seen as these names in the order of their numbers.
@@ -48,6 +50,16 @@ impl Directory {
             routes,
             trains,
         }
+    }
+
+    /// The name of one more train, which gets the next number. After an error nothing is changed.
+    pub fn add_extra(&mut self, alloc: Global, trip: &str, day: Day) -> Result<(), OutOfMemory>
+        requires loaded { day < 31 }
+        requires few { length self.old.trains + 1 < 2 ^ 32 }
+        ensures ok { OnOk result (self.new ≡ with_extra trip.now day self.old) }
+        ensures err { OnErr result (self.new ≡ self.old) }
+    {
+        self.trains.push(alloc, trip, day)
     }
 
     /// The train of a trip on a service day. None exactly where there is none.

@@ -45,7 +45,7 @@ to-ends o P (u ∷ v ∷ vs) h =
     (cond_both (u.live && v.live) (train_edge o u v ∷ []) [] (All Q) (λ _. All-cons Q (train_edge o u v) [] (All-head K v vs rest) (All-nil Q)) (λ _. All-nil Q))
     (to-ends o P (v ∷ vs) rest)
 
-events-push : (first at : ℕ) (ts : List Train) (t : Train) → at ≡ first + length ts → events_from first (ts ++ t ∷ []) ≡ events_from first ts ++ (events_of at t ++ [])
+pub events-push : (first at : ℕ) (ts : List Train) (t : Train) → at ≡ first + length ts → events_from first (ts ++ t ∷ []) ≡ events_from first ts ++ (events_of at t ++ [])
 events-push first at [] t e = let same : first ≡ at = omega arith in ap (λ i. events_of i t ++ []) same
 events-push first at (u ∷ us) t e =
     let here = events_of first u in

@@ -45,7 +45,7 @@ stretch-each P st n from to all =
     All-up_to P (is_event (node_at n to false)) (Cuts.from (is_event (node_at n from true)) (train_events st n))
     (All-from P (is_event (node_at n from true)) (train_events st n) all)
 
-cancel-mapping : (st : State) (n from to : ℕ) → IsMapping st (effect st (Cancel n from to)) n (kill_in (stretch st n from to) n) (kill_at (stretch st n from to))
+pub cancel-mapping : (st : State) (n from to : ℕ) → IsMapping st (effect st (Cancel n from to)) n (kill_in (stretch st n from to) n) (kill_at (stretch st n from to))
 unfolding effect
 cancel-mapping st n from to =
     let es = stretch st n from to in

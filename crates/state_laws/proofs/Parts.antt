@@ -91,7 +91,7 @@ edges-each o P first (t ∷ ts) h =
 trains-from_each : (P : Train → Type 0) (ts : List Train) → AtEach (λ n t. P t) 0 ts → All P ts
 trains-from_each P ts h = λ k d l. h k k _ (omega arith) (slice_get-get_or ts k d l)
 
-trains-each : (P : Train → Type 0) (ts : List Train) → All P ts → AtEach (λ n t. P t) 0 ts
+pub trains-each : (P : Train → Type 0) (ts : List Train) → All P ts → AtEach (λ n t. P t) 0 ts
 trains-each P ts h = λ k at t e got. subst P (get_or_from_slice_get ts k t t got) (h k t (slice_get_within ts k t got))
 
 -- an event that is not live has no report

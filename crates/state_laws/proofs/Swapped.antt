@@ -100,7 +100,7 @@ after-part P p (x ∷ xs) ys some h =
     ]
 
 -- the events before and after a rerouting
-record IsSwap (st : State) (n from to : ℕ) (via : List NewCall) : Type 0 where
+pub record IsSwap (st : State) (n from to : ℕ) (via : List NewCall) : Type 0 where
   pub train : Train
   pub got : slice_get st.trains n ≡ Some train
   pub front : List Event
@@ -176,7 +176,7 @@ swap-by st n from to via t got c used small agrees =
       is_made = ap (λ (o : Option Train). option_map_or (λ (t : Train). events_at n t.route (new_calls t.next_label via)) o []) got;
     }
 
-swap-of : (nw : Network) (st : State) (n from to : ℕ) (via : List NewCall) → IsValid nw st → All IsSmallCall via → refusal nw st (Reroute n from to via) ≡ None → IsSwap st n from to via
+pub swap-of : (nw : Network) (st : State) (n from to : ℕ) (via : List NewCall) → IsValid nw st → All IsSmallCall via → refusal nw st (Reroute n from to via) ≡ None → IsSwap st n from to via
 swap-of nw st n from to via valid small h =
     let a = accepted-by nw st (Reroute n from to via) h in
     let stands = and_parts (stands_before from to (calls_of st n)) _ (not-false _ a.known) in

@@ -1,5 +1,5 @@
 -- What a message that leaves the calls leaves: the live events and their order. And the list of the events that a message changes.
-use Rattle.std.proofs.Common.{◌≡◌, ℕ, ◌+◌, Bool, true, false, not, ◌&&◌, ◌||◌, cond, nat_eq, List, [], ◌∷◌, ◌++◌, None, unwrap_or, map, length, length-append, get_or, refl, sym, ◌∙◌, ap, subst, arith, inl, inr}
+use Rattle.std.proofs.Common.{◌≡◌, ◌+◌, Bool, true, false, not, ◌&&◌, ◌||◌, cond, nat_eq, List, [], ◌∷◌, ◌++◌, unwrap_or, map, length, length-append, get_or, refl, sym, ◌∙◌, ap, subst, arith, inl, inr}
 use Rattle.std.specs.List.{All, Contains, filter}
 use Rattle.std.specs.List.Sorted.{IsPermutation}
 use Rattle.std.proofs.lemmas.Bool.{cond_both, cond-true, cond-false, and_from, and_parts}
@@ -17,29 +17,26 @@ use Rattle.delay_model.specs.declared.messages.Message.TheVariants.{Report, Fore
 use Rattle.delay_model.specs.declared.state.EventValues.{EventValues}
 use Rattle.delay_model.specs.declared.state.State.{State}
 use Rattle.delay_model.specs.declared.state.Event.{Event}
-use Rattle.delay_model.specs.Effect.{effect, reported, forecasted, change_labelled, change_event, with_event}
+use Rattle.delay_model.specs.Effect.{effect, reported, forecasted, change_calls, change_labelled, change_event, with_event}
 use Rattle.delay_model.specs.Events.{events, live_events}
-use Rattle.delay_model.specs.Messages.{IsWellFormed}
-use Rattle.delay_model.specs.Refusals.{refusal}
 use Rattle.delay_model.specs.Timing.{event_time}
 use Rattle.delay_model.specs.Touched.{is_live_key, live_only, retimed, changed, names_of}
-use Rattle.delay_model.specs.Valid.{IsTrain, IsValid}
+use Rattle.delay_model.specs.Valid.{IsTrain}
 use Rattle.delay_model.proofs.Ends.{IsLiveAt}
 use Rattle.delay_model.proofs.Lists.{Contains-filter}
 use Rattle.state_laws.proofs.Changed.{Contains-map}
 use Rattle.state_laws.proofs.Mappings.{contains-unmap, mapping-events}
 use Rattle.state_laws.proofs.Settings.{set-mapping}
-use Rattle.state_laws.proofs.Stays.{stays-valid}
 use Rattle.state_laws.proofs.Values.{IsSetting, set_at, set-shape, put_report, put_forecast}
-use Rattle.edge_rules.specs.Timetabled.{Timetabled}
 use Rattle.edge_rules.proofs.InLine.{filter-none}
 use Rattle.train_nodes.specs.Kept.{Kept}
-use Rattle.train_nodes.specs.Kinds.{LeavesCalls}
+use Rattle.train_nodes.specs.Kinds.{IsShape}
 use Rattle.timetable.specs.Changed.{in_order, is_changed, changed_nodes}
 use Rattle.timetable.specs.LiveTimes.{live_keys}
-use Rattle.timetable.specs.Settled.{IsOrderOf, HasItsTime, has_another}
+use Rattle.timetable.specs.Settled.{IsOrderOf, HasItsTime, has_another, next_labels}
 use Rattle.timetable.proofs.Named.{any-from}
 use Rattle.timetable.proofs.Ordered.{filtered, key-live}
+use Rattle.timetable.proofs.Sized.{labels-kept}
 use Rattle.timetable.proofs.Sorted.{in_order-moves, order-is}
 
 -- the live keys stay where each event keeps its key and whether it is live
@@ -51,47 +48,58 @@ keys-stay h keys lives (v ∷ vs) =
     (λ e. ap (λ k. k ∷ live_keys (map h vs)) (keys v) ∙ ap (λ ks. v.key ∷ ks) (keys-stay h keys lives vs) ∙ sym (ap (map (λ (v : Event). v.key)) (cond-true v.live (v ∷ live_events vs) (live_events vs) e)))
     (λ e. keys-stay h keys lives vs ∙ sym (ap (map (λ (v : Event). v.key)) (cond-false v.live (v ∷ live_events vs) (live_events vs) e)))
 
-value-keys : (st : State) (n : Node) (f : EventValues → EventValues) (k : Event → Event) → IsSetting f k → live_keys (events (with_event n f st)) ≡ live_keys (events st)
-value-keys st n f k s =
-    let m = set-mapping st n f k s in
-    ap live_keys (mapping-events st (with_event n f st) n.train (change_labelled n.label (change_event n.dep f)) (set_at n k) m)
-    ∙ keys-stay (set_at n k) m.mapped.keys (λ v. ap (λ (w : Event). w.live) (set-shape n f k s v)) (events st)
+-- the live events, the labels and the spare calls are as they were
+pub record IsAlike (old new : State) : Type 0 where
+  pub keys : live_keys (events new) ≡ live_keys (events old)
+  pub labels : next_labels new ≡ next_labels old
+  pub spare : new.spare_calls ≡ old.spare_calls
 
-pub left-keys : (st : State) (m : Message) → LeavesCalls m → live_keys (events (effect st m)) ≡ live_keys (events st)
+value-alike : (st : State) (n : Node) (f : EventValues → EventValues) (k : Event → Event) → IsSetting f k → IsAlike st (with_event n f st)
+value-alike st n f k s =
+    let m = set-mapping st n f k s in
+    let g = change_labelled n.label (change_event n.dep f) in
+    record {
+      keys = ap live_keys (mapping-events st (with_event n f st) n.train g (set_at n k) m)
+          ∙ keys-stay (set_at n k) m.mapped.keys (λ v. ap (λ (w : Event). w.live) (set-shape n f k s v)) (events st);
+      labels = labels-kept n.train (change_calls (map g)) st.trains (λ t. refl);
+      spare = refl;
+    }
+
+pub left-alike : (st : State) (m : Message) → (IsShape m → ⊥) → IsAlike st (effect st m)
 unfolding effect events
-left-keys st (Forecast n t) h = value-keys st n (forecasted t) (put_forecast t) (record { by = λ train route label stop dep e. refl; shape = λ v. refl })
-left-keys st (Report n t) h = value-keys st n (reported t) (put_report t) (record { by = λ train route label stop dep e. refl; shape = λ v. refl })
-left-keys st (Cancel n from to) h = absurd h
-left-keys st (Reroute n from to via) h = absurd h
-left-keys st (Extra n day route calls) h = absurd h
-left-keys st (Keep feeder train) h = refl
-left-keys st (Drop feeder train) h = refl
-left-keys st (Rule feeder train) h = refl
+left-alike st (Forecast n t) h = value-alike st n (forecasted t) (put_forecast t) (record { by = λ train route label stop dep e. refl; shape = λ v. refl })
+left-alike st (Report n t) h = value-alike st n (reported t) (put_report t) (record { by = λ train route label stop dep e. refl; shape = λ v. refl })
+left-alike st (Cancel n from to) h = absurd (h tt)
+left-alike st (Reroute n from to via) h = absurd (h tt)
+left-alike st (Extra n day route calls) h = absurd (h tt)
+left-alike st (Keep feeder train) h = record { keys = refl; labels = refl; spare = refl }
+left-alike st (Drop feeder train) h = record { keys = refl; labels = refl; spare = refl }
+left-alike st (Rule feeder train) h = record { keys = refl; labels = refl; spare = refl }
 
 -- so the order stays
 pub order-stays : (es fs : List Event) (order : List Key) → live_keys fs ≡ live_keys es → IsOrderOf es order → IsOrderOf fs order
 order-stays es fs order same is =
     record { moved = subst (λ ks. IsPermutation ks order) (sym same) is.moved; ascends = is.ascends }
 
-filter-same : {X : Type 0} (p q : X → Bool) (xs : List X) → All (λ x. p x ≡ q x) xs → filter p xs ≡ filter q xs
+pub filter-same : {X : Type 0} (p q : X → Bool) (xs : List X) → All (λ x. p x ≡ q x) xs → filter p xs ≡ filter q xs
 filter-same p q [] h = refl
 filter-same {X} p q (x ∷ xs) h =
     let P : X → Type 0 = λ x. p x ≡ q x in
     ap (λ b. cond b (x ∷ filter p xs) (filter p xs)) (All-head P x xs h)
     ∙ ap (λ ys. cond (q x) (x ∷ ys) ys) (filter-same p q xs (All-tail P x xs h))
 
-filter-map : {X Y : Type 0} (f : X → Y) (p : Y → Bool) (xs : List X) → map f (filter (λ x. p (f x)) xs) ≡ filter p (map f xs)
+pub filter-map : {X Y : Type 0} (f : X → Y) (p : Y → Bool) (xs : List X) → map f (filter (λ x. p (f x)) xs) ≡ filter p (map f xs)
 filter-map f p [] = refl
 filter-map {X} f p (x ∷ xs) =
     cond_both (p (f x)) (x ∷ filter (λ x. p (f x)) xs) (filter (λ x. p (f x)) xs) (λ ys. map f ys ≡ filter p (map f (x ∷ xs)))
     (λ e. ap (λ ys. f x ∷ ys) (filter-map f p xs) ∙ sym (cond-true (p (f x)) (f x ∷ filter p (map f xs)) (filter p (map f xs)) e))
     (λ e. filter-map f p xs ∙ sym (cond-false (p (f x)) (f x ∷ filter p (map f xs)) (filter p (map f xs)) e))
 
-live-key : (es : List Event) (k : Key) → IsLiveAt es k → is_live_key es k ≡ true
+pub live-key : (es : List Event) (k : Key) → IsLiveAt es k → is_live_key es k ≡ true
 live-key es k at = any-from (λ u. u.live && is_same u.key k) es at.0 at.1 (and_from _ _ at.3 (ap (λ q. is_same q k) at.2 ∙ same-itself k))
 
 -- where the live keys are the same, none is live only in the one list
-none-only : (es fs : List Event) → live_keys es ≡ live_keys fs → live_only es fs ≡ []
+pub none-only : (es fs : List Event) → live_keys es ≡ live_keys fs → live_only es fs ≡ []
 none-only es fs same =
     filter-none (λ v. not (is_live_key fs v.key)) (live_events es) (λ i d l.
     let v = get_or (live_events es) i d in
@@ -101,13 +109,13 @@ none-only es fs same =
     ap not (live-key fs v.key (r.0, w.0, r.2, w.1)))
 
 -- where the times kept were those of the old state, an evaluation in the new one lists the changed events
-pub lists-changed : (nw : Network) (st : State) (m : Message) (times : Kept) (order : List Key) → LeavesCalls m → All IsTrain (effect st m).trains → IsOrderOf (events st) order → All (HasItsTime nw st times) order → map node_of (filter (has_another nw (effect st m) times) order) ≡ changed_nodes nw st (effect st m)
+pub lists-changed : (nw : Network) (st : State) (m : Message) (times : Kept) (order : List Key) → (IsShape m → ⊥) → All IsTrain (effect st m).trains → IsOrderOf (events st) order → All (HasItsTime nw st times) order → map node_of (filter (has_another nw (effect st m) times) order) ≡ changed_nodes nw st (effect st m)
 unfolding changed_nodes
 lists-changed nw st m times order leaves trains is h =
     let new = effect st m in
     let p = is_changed nw st new in
     let q = has_another nw new times in
-    let same = left-keys st m leaves in
+    let same = (left-alike st m leaves).keys in
     ap (map node_of) (filter-same q p order (λ i d l.
     let k = get_or order i d in
     let live = live-key (events st) k (key-live (events st) order is k (All-contains_itself order i d l)) in
@@ -180,21 +188,3 @@ changed-each nw old new v h =
             listed-key nw old new v f.0 (ap (λ b. not (is_live_key es v.key) || b) both.1 ∙ or-true (not (is_live_key es v.key)))
       ]
     ]
-
--- what the graph is after an accepted message
-module _ (g new : Timetabled) (m : Message) (is : new ≡ record g { state = effect g.state m }) where
-  pub after-valid : IsValid g.network g.state → IsWellFormed m → refusal g.network g.state m ≡ None → IsValid new.network new.state
-  after-valid valid formed accepted =
-      subst (λ (x : Timetabled). IsValid x.network x.state) (sym is) (stays-valid g.network g.state m valid formed accepted)
-
-  module _ (leaves : LeavesCalls m) (order : List Key) (was : IsOrderOf (events g.state) order) where
-    pub after-order : IsOrderOf (events new.state) order
-    after-order = order-stays (events g.state) (events new.state) order (ap (λ (x : Timetabled). live_keys (events x.state)) is ∙ left-keys g.state m leaves) was
-
-    pub after-listed : (times : Kept) (cleared list : List Node) (slice : List Key) → IsValid new.network new.state → All (HasItsTime g.network g.state times) order → cleared ≡ [] → slice ≡ order → list ≡ cleared ++ map node_of (filter (has_another new.network new.state times) slice) → list ≡ changed_nodes g.network g.state (effect g.state m)
-    after-listed times cleared list slice valid h none whole listed =
-        listed
-        ∙ ap (λ ns. ns ++ map node_of (filter (has_another new.network new.state times) slice)) none
-        ∙ ap (λ ks. map node_of (filter (has_another new.network new.state times) ks)) whole
-        ∙ ap (λ (x : Timetabled). map node_of (filter (has_another x.network x.state times) order)) is
-        ∙ lists-changed g.network g.state m times order leaves (subst (λ (x : Timetabled). All IsTrain x.state.trains) is valid.trains) was h

@@ -1,8 +1,10 @@
+pub mod Late
+pub mod Sized
 pub mod Named
 pub mod Ordered
 pub mod Settling
-pub mod Listed
-pub mod Blank
-pub mod Keys
 pub mod Sorted
+pub mod Listing
 pub mod Changed
+pub mod Shapes
+pub mod Prepared

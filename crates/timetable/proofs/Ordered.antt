@@ -13,7 +13,6 @@ use Rattle.delay_model.specs.declared.state.State.{State}
 use Rattle.delay_model.specs.declared.state.Event.{Event}
 use Rattle.delay_model.specs.Events.{events, is_live, live_events}
 use Rattle.delay_model.specs.Timing.{event_time}
-use Rattle.delay_model.specs.Touched.{names_of}
 use Rattle.delay_model.proofs.Lists.{AllPairs-after, Contains-cases, Contains-filter}
 use Rattle.delay_model.proofs.Ends.{IsLiveAt}
 use Rattle.state_laws.proofs.Changed.{Contains-map}
@@ -82,8 +81,7 @@ time-kept nw st times order n is kept live =
     )
 
 -- a time is kept for each live event, where one is kept for every event
-pub names-held : (st : State) (times : Kept) (order : List Key) (nodes : List Node) → IsOrderOf (events st) order → nodes ≡ names_of (events st) → All (λ n. has_time times n ≡ true) nodes → All (λ k. has_time times (node_of k) ≡ true) order
-names-held st times order nodes is names held = λ i d l.
+pub keys-held : (st : State) (times : Kept) (order : List Key) → IsOrderOf (events st) order → All (λ v. has_time times (node_of v.key) ≡ true) (events st) → All (λ k. has_time times (node_of k) ≡ true) order
+keys-held st times order is held = λ i d l.
     let at = key-live (events st) order is (get_or order i d) (All-contains_itself order i d l) in
-    let there = subst (λ ns. Contains ns (node_of at.0.key)) (sym names) (Contains-map (λ (v : Event). node_of v.key) (events st) at.0 at.1) in
-    ap (λ k. has_time times (node_of k)) (sym at.2) ∙ All-contains (λ n. has_time times n ≡ true) nodes (node_of at.0.key) held there
+    ap (λ k. has_time times (node_of k)) (sym at.2) ∙ All-contains (λ v. has_time times (node_of v.key) ≡ true) (events st) at.0 held at.1

@@ -21,7 +21,7 @@ use Rattle.delay_model.proofs.Apart.{events-unique}
 use Rattle.delay_model.proofs.Ends.{IsLiveAt}
 use Rattle.delay_model.proofs.Solve.{valid-graph, incoming-leads, local-agree, time-local}
 use Rattle.delay_model.proofs.Bounds.{incoming-fit}
-use Rattle.train_nodes.specs.Kept.{Kept, time_of, has_time}
+use Rattle.train_nodes.specs.Kept.{Kept, time_of, has_time, AreSized}
 use Rattle.edge_rules.specs.AtEvent.{edges_to, kept_time, local_at}
 use Rattle.edge_rules.specs.Timetabled.{Timetabled}
 use Rattle.timetable.specs.Settled.{IsOrderOf, HasItsTime, has_another}
@@ -107,6 +107,7 @@ pub record IsPart (g : Timetabled) (order : List Key) (old : Kept) (before : Vec
   pub listed : changed.items ++ map node_of (filter (has_another g.network g.state old) (drop i order)) ≡ before.items ++ map node_of (filter (has_another g.network g.state old) order)
   pub room : vec_len changed + length (drop i order) ≤ vec_capacity changed
   pub capacity : vec_capacity changed ≡ vec_capacity before
+  pub sized : (labels : List ℕ) → AreSized labels old → AreSized labels times
 
 -- a list is cut at one of its elements
 pub cut-at : {X : Type 0} (xs : List X) (i : ℕ) (x : X) → i < length xs → x ≡ get_or xs i x → drop i xs ≡ x ∷ drop (i + 1) xs
@@ -157,7 +158,7 @@ module _ {g : Timetabled} (valid : IsValid g.network g.state) {order : List Key}
   pub part-has : has_time times n ≡ true
   part-has = ap (has_time times) name ∙ ap is_some (same ∙ was.1)
 
-  module _ (new : Kept) (result : Bool) (rule : local_at g times n ≡ time_of new n) (others : (m : Node) → is_same_node n m ≡ false → time_of new m ≡ time_of times m) (differs : (x y : ℕ) → time_of times n ≡ Some x → time_of new n ≡ Some y → result ≡ not (nat_eq x y)) where
+  module _ (new : Kept) (result : Bool) (rule : local_at g times n ≡ time_of new n) (others : (m : Node) → is_same_node n m ≡ false → time_of new m ≡ time_of times m) (differs : (x y : ℕ) → time_of times n ≡ Some x → time_of new n ≡ Some y → result ≡ not (nat_eq x y)) (sizes : (labels : List ℕ) → AreSized labels times → AreSized labels new) where
     settled : HasItsTime g.network g.state new k
     settled = ap (time_of new) (sym name) ∙ sym rule ∙ ap (local_at g times) name ∙ next-local g valid order is times xs k ys whole part.done
 
@@ -193,6 +194,7 @@ module _ {g : Timetabled} (valid : IsValid g.network g.state) {order : List Key}
               ∙ part.listed;
           room = omega (arith, left-over);
           capacity = same ∙ part.capacity;
+          sized = λ labels h. sizes labels (part.sized labels h);
         }
 
     -- and one whose time it was
@@ -207,4 +209,5 @@ module _ {g : Timetabled} (valid : IsValid g.network g.state) {order : List Key}
               ∙ part.listed;
           room = omega (arith, left-over);
           capacity = part.capacity;
+          sized = λ labels h. sizes labels (part.sized labels h);
         }

@@ -3,3 +3,5 @@ pub mod LiveTimes
 pub mod Changed
 pub mod Settled
 pub mod Inside
+pub mod Faults
+pub mod Shapes

@@ -1,98 +1,83 @@
-//! The events of trains as the timetable gives them.
+//! The live events of trains in the order of their keys, and first times for the events of all trains.
 
-ghost use Rattle.std.specs.Prelude.{◌≡◌, ◌+◌, ◌<◌, ◌^◌, ◌++◌, [], All, IfOk, OnOk, IsTrue, length};
+ghost use Rattle.std.specs.Prelude.{◌≡◌, ◌+◌, ◌*◌, ◌<◌, ◌≤◌, ◌++◌, All, IfOk, OnOk, OnErr, length, vec_len, vec_capacity};
 ghost use Rattle.delay_model.specs.Events.{events, train_events};
-ghost use Rattle.delay_model.specs.Touched.{names_of};
 ghost use Rattle.delay_model.specs.Valid.{IsTrain};
-ghost use Rattle.train_nodes.specs.Kept.{has_time};
-ghost use Rattle.train_nodes.specs.Stored.{IsLoaded};
+ghost use Rattle.train_nodes.specs.Kept.{AreSized};
 ghost use Rattle.timetable.specs.LiveTimes.{live_keys};
-ghost use Rattle.timetable.specs.Settled.{AreNext, IsOrderOf};
+ghost use Rattle.timetable.specs.Settled.{IsOrderOf, next_labels};
 
-use mt_base::keys::{Key, Node};
+use mt_base::keys::Key;
 use mt_base::memory::OutOfMemory;
 use mt_base::numbers::TrainNo;
 use std::alloc::Global;
 use train_nodes::{NodeTimes, Trains};
 
-/// Adds the names of a train's events, call by call and the arrival of a call before its departure.
-fn push_nodes(nodes: &mut Vec<Node>, trains: &Trains, train: TrainNo) -> Result<(), OutOfMemory>
-    requires there { train < length trains.now.trains }
-    requires loaded { All IsLoaded trains.now.trains }
-    ensures { OnOk result (nodes.new.items ≡ nodes.old.items ++ names_of (train_events trains.now train)) }
+/// Adds the keys of a train's live events, in the train's order. It fails only where there is no room for them.
+pub(crate) fn push_keys(
+    keys: &mut Vec<Key>,
+    trains: &Trains,
+    train: TrainNo,
+) -> Result<(), OutOfMemory>
+    ensures keys { OnOk result (keys.new.items ≡ keys.old.items ++ live_keys (train_events trains.now train)) }
+    ensures full { OnErr result (vec_capacity keys.old < vec_len keys.old + length (live_keys (train_events trains.now train))) }
+    ensures capacity { vec_capacity keys.old ≤ vec_capacity keys.new }
 {
-    let mut next = Some(trains.first_call(train));
-    while let Some(label) = next {
-        nodes.push(Node {
-            train,
-            label,
-            dep: false,
-        })?;
-        nodes.push(Node {
-            train,
-            label,
-            dep: true,
-        })?;
-        next = trains.next_call(train, label);
+    for event in trains.events(train) {
+        if event.live {
+            keys.push(event.key)?;
+        }
     }
     Ok(())
 }
 
-/// The names of all events, by trains and along each train.
-pub(crate) fn list_nodes(alloc: Global, trains: &Trains) -> Result<Vec<Node>, OutOfMemory>
-    requires { All IsLoaded trains.now.trains }
-    ensures { IfOk result (λ nodes. nodes.items ≡ names_of (events trains.now)) }
+/// Adds the keys of all live events, train by train. It fails only where there is no room for them.
+fn list_keys(keys: &mut Vec<Key>, trains: &Trains) -> Result<(), OutOfMemory>
+    ensures keys { OnOk result (keys.new.items ≡ keys.old.items ++ live_keys (events trains.now)) }
+    ensures full { OnErr result (vec_capacity keys.old < vec_len keys.old + length (live_keys (events trains.now))) }
+    ensures capacity { vec_capacity keys.old ≤ vec_capacity keys.new }
 {
-    let mut nodes = Vec::new(alloc);
     for number in 0..trains.count() {
-        push_nodes(&mut nodes, trains, TrainNo::new(number))?;
+        push_keys(keys, trains, TrainNo::new(number))?;
     }
-    Ok(nodes)
+    Ok(())
 }
 
-/// The keys of the live ones of these events.
-fn list_keys(alloc: Global, trains: &Trains, nodes: &[Node]) -> Result<Vec<Key>, OutOfMemory>
-    requires names { nodes.now ≡ names_of (events trains.now) }
+/// The keys of the live events, in the order in which they are settled, with room for those that the spare calls may add.
+pub(crate) fn key_order(alloc: Global, trains: &Trains) -> Result<Vec<Key>, OutOfMemory>
     requires trains { All IsTrain trains.now.trains }
-    ensures { IfOk result (λ keys. keys.items ≡ live_keys (events trains.now)) }
+    ensures order { IfOk result (λ order. IsOrderOf (events trains.now) order.items) }
+    ensures room { IfOk result (λ order. length order.items + 2 * trains.now.spare_calls ≤ vec_capacity order) }
 {
-    let mut keys = Vec::new(alloc);
-    for n in nodes {
-        if trains.live(*n) {
-            keys.push(trains.key(*n))?;
-        }
-    }
-    Ok(keys)
-}
-
-/// The keys of the live ones of these events, in the order in which they are settled.
-pub(crate) fn key_order(
-    alloc: Global,
-    trains: &Trains,
-    nodes: &[Node],
-) -> Result<Vec<Key>, OutOfMemory>
-    requires names { nodes.now ≡ names_of (events trains.now) }
-    requires trains { All IsTrain trains.now.trains }
-    ensures { IfOk result (λ order. IsOrderOf (events trains.now) order.items) }
-{
-    let mut order = list_keys(alloc, trains, nodes)?;
+    let mut order = Vec::new(alloc);
+    list_keys(&mut order, trains)?;
     order.sort_unstable();
+    order.reserve(2 * trains.spare_calls() as usize)?;
     Ok(order)
 }
 
-/// A time for each of these events, which no event has, and room for so many more.
-pub(crate) fn blank_times(
-    alloc: Global,
-    nodes: &[Node],
-    spare: u32,
-) -> Result<NodeTimes, OutOfMemory>
-    requires room { length nodes.now + spare < 2 ^ 32 }
-    requires next { AreNext (record { trains = []; spare = length nodes.now + spare }) nodes.now }
-    ensures { IfOk result (λ times. All (λ n. IsTrue (has_time times n)) nodes.now) }
+/// Puts the keys of the live events in place of those that were in an order, which has room for them.
+pub(crate) fn renew_order(order: &mut Vec<Key>, trains: &Trains)
+    requires trains { All IsTrain trains.now.trains }
+    requires room { length (live_keys (events trains.now)) ≤ vec_capacity order.old }
+    ensures order { IsOrderOf (events trains.now) order.new.items }
+    ensures capacity { vec_capacity order.old ≤ vec_capacity order.new }
 {
-    let mut times = NodeTimes::with_room(alloc, nodes.len() as u32 + spare)?;
-    for n in nodes {
-        times.add(*n);
+    order.clear();
+    let Ok(()) = list_keys(order, trains) else {
+        unreachable!()
+    };
+    order.sort_unstable();
+}
+
+/// A time that no event has for each event of these trains, and for each that ever had one of their labels.
+pub(crate) fn first_times(alloc: Global, trains: &Trains) -> Result<NodeTimes, OutOfMemory>
+    ensures { IfOk result (λ times. AreSized (next_labels trains.now) times) }
+{
+    let mut times = NodeTimes::new(alloc);
+    for number in 0..trains.count() {
+        let labels = trains.next_label(TrainNo::new(number));
+        times.push_train(labels.get())?;
     }
     Ok(times)
 }

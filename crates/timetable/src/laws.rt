@@ -1,34 +1,39 @@
 //! Laws of timetables.
 
-ghost use Rattle.std.specs.Prelude.{◌≡◌, Contains, length};
+ghost use Rattle.std.specs.Prelude.{◌≡◌, Contains, IfOk, length};
 ghost use Rattle.mt_base.specs.Order.{node_of};
 ghost use Rattle.delay_model.specs.declared.state.Event.{Event as AnEvent};
 ghost use Rattle.delay_model.specs.Touched.{changed};
-ghost use Rattle.train_nodes.specs.Kinds.{LeavesCalls};
 ghost use Rattle.timetable.specs.Changed.{changed_nodes};
 ghost use Rattle.timetable.specs.LiveTimes.{live_time};
 ghost use Rattle.timetable.specs.Running.{state_after};
 
+use crate::faults::StepFault;
 use crate::timetable::Timetable;
 use delay_model::network::Network;
 use delay_model::state::State;
 use mt_base::keys::Node;
+use mt_base::memory::OutOfMemory;
 use mt_base::numbers::Time;
+use std::alloc::{AllocError, Global};
 use std::sync::ledger::Ledger;
 use train_nodes::{Msg, Steps};
 
-/// After every step the time of each live event is that of the definition, over the state that the message leaves.
+/// After every step for which there is memory the time of each live event is that of the definition, over the state that the message
+/// leaves.
 pub fn time_after_a_step<L: Ledger>(
+    alloc: Global,
     timetable: &mut Timetable,
     m: &Msg,
     n: Node,
     steps: &mut Steps<L>,
-) -> Option<Time>
-    requires { LeavesCalls m.now }
-    ensures { result ≡ live_time timetable.old.network (state_after timetable.old.network timetable.old.state m.now) n }
+) -> Result<Option<Time>, OutOfMemory>
+    ensures { IfOk result (λ t. t ≡ live_time timetable.old.network (state_after timetable.old.network timetable.old.state m.now) n) }
 {
-    let _answer = timetable.step(m, steps);
-    timetable.time(n, steps)
+    match timetable.step(alloc, m, steps) {
+        Err(StepFault::OutOfMemory) => Err(AllocError),
+        _ => Ok(timetable.time(n, steps)),
+    }
 }
 
 /// The events that a timetable lists as changed are those that the model calls changed: each of them, and as many.

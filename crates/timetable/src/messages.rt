@@ -1,51 +1,50 @@
-//! The messages that leave the calls of all trains as they are, by their two kinds.
+//! The kinds of messages, and which messages are refused.
 
-ghost use Rattle.std.specs.Prelude.{◌≡◌, None, IsTrue, false};
-ghost use Rattle.delay_model.specs.Effect.{effect};
-ghost use Rattle.delay_model.specs.Messages.{IsWellFormed};
+ghost use Rattle.std.specs.Prelude.{◌≡◌};
 ghost use Rattle.delay_model.specs.Refusals.{refusal};
 ghost use Rattle.graph_edit.specs.Values.{Answers};
-ghost use Rattle.train_nodes.specs.Kinds.{IsValue, IsChoice, LeavesCalls};
+ghost use Rattle.train_nodes.specs.Kinds.{IsShape};
+ghost use Rattle.timetable.specs.Shapes.{IsOfKind};
 
+use cancel_reroute::check_shape;
 use delay_model::messages::{Message, Refusal};
 use edge_rules::Graph;
-use graph_edit::{apply_keep, apply_value, check_keep, check_value};
+use graph_edit::{check_keep, check_value};
 use train_nodes::Msg;
 
-/// Whether the message is a report or a forecast; otherwise it is a choice for a connection.
-fn is_value(m: &Msg) -> bool
-    requires { LeavesCalls m.now }
-    ensures value { IsTrue result → IsValue m.now }
-    ensures choice { result ≡ false → IsChoice m.now }
+/// What a message changes.
+#[derive(Clone, Copy)]
+pub(crate) enum Kind {
+    /// The values of an event: a report or a forecast.
+    Value,
+    /// What is chosen for a connection.
+    Choice,
+    /// The calls of a train, or which of its events take place.
+    Shape,
+}
+
+/// What a message changes.
+pub(crate) fn kind_of(m: &Msg) -> Kind
+    ensures kind { IsOfKind result m.now }
+    ensures shape { IsShape m.now → result ≡ Kind.Shape }
 {
-    matches!(
-        m.message(),
-        Message::Report { .. } | Message::Forecast { .. }
-    )
+    match m.message() {
+        Message::Report { .. } => Kind::Value,
+        Message::Forecast { .. } => Kind::Value,
+        Message::Cancel { .. } => Kind::Shape,
+        Message::Reroute { .. } => Kind::Shape,
+        Message::Extra { .. } => Kind::Shape,
+        _ => Kind::Choice,
+    }
 }
 
 /// Whether a message is accepted, or why it is refused.
 pub(crate) fn check(g: &Graph, m: &Msg) -> Result<(), Refusal>
-    requires { LeavesCalls m.now }
     ensures { Answers result (refusal g.now.network g.now.state m.now) }
 {
-    if is_value(m) {
-        check_value(g, m)
-    } else {
-        check_keep(g, m)
-    }
-}
-
-/// Changes the graph as an accepted message says.
-pub(crate) fn apply(g: &mut Graph, m: &Msg)
-    requires kind { LeavesCalls m.now }
-    requires accepted { refusal g.old.network g.old.state m.now ≡ None }
-    ensures effect { g.new ≡ record g.old { state = effect g.old.state m.now } }
-    ensures well_formed { IsWellFormed m.now }
-{
-    if is_value(m) {
-        apply_value(g, m);
-    } else {
-        apply_keep(g, m);
+    match kind_of(m) {
+        Kind::Value => check_value(g, m),
+        Kind::Choice => check_keep(g, m),
+        Kind::Shape => check_shape(g, m),
     }
 }

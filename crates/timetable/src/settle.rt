@@ -1,11 +1,11 @@
 //! The rule for times, evaluated at one event after the other.
 
-ghost use Rattle.std.specs.Prelude.{◌≡◌, ◌+◌, ◌<◌, ◌≤◌, ◌^◌, ◌++◌, ℕ, IsTrue, Some, All, false, not, nat_eq, length, map, filter, vec_len, vec_capacity};
+ghost use Rattle.std.specs.Prelude.{◌≡◌, ◌+◌, ◌<◌, ◌≤◌, ◌^◌, ◌++◌, ℕ, List, IsTrue, Some, All, false, not, nat_eq, length, map, filter, vec_len, vec_capacity};
 ghost use Rattle.mt_base.specs.declared.keys.Node.{Node as ANode};
 ghost use Rattle.mt_base.specs.Order.{node_of, is_same_node};
 ghost use Rattle.delay_model.specs.Events.{events, is_live};
 ghost use Rattle.delay_model.specs.Valid.{IsValid};
-ghost use Rattle.train_nodes.specs.Kept.{time_of, has_time};
+ghost use Rattle.train_nodes.specs.Kept.{time_of, has_time, AreSized};
 ghost use Rattle.edge_rules.specs.AtEvent.{edges_to, kept_time, local_at};
 ghost use Rattle.timetable.specs.Settled.{IsOrderOf, HasItsTime, has_another};
 
@@ -28,6 +28,7 @@ fn settle_one<L: Ledger>(
     ensures rule { local_at graph.now times.old n.now ≡ time_of times.new n.now }
     ensures others { (m : ANode) → is_same_node n.now m ≡ false → time_of times.new m ≡ time_of times.old m }
     ensures changed { (was is : ℕ) → time_of times.old n.now ≡ Some was → time_of times.new n.now ≡ Some is → result ≡ not (nat_eq was is) }
+    ensures sized { (labels : List ℕ) → AreSized labels times.old → AreSized labels times.new }
 {
     let time = graph.local(*n, times, steps);
     let was = times.read(*n, steps);
@@ -54,6 +55,7 @@ pub(crate) fn settle<L: Ledger>(
     ensures times { All (HasItsTime graph.now.network graph.now.state times.new) order.now }
     ensures changed { changed.new.items ≡ changed.old.items ++ map node_of (filter (has_another graph.now.network graph.now.state times.old) order.now) }
     ensures capacity { vec_capacity changed.new ≡ vec_capacity changed.old }
+    ensures sized { (labels : List ℕ) → AreSized labels times.old → AreSized labels times.new }
 {
     for k in order {
         if settle_one(graph, &k.node(), times, steps) {
@@ -79,6 +81,7 @@ pub(crate) fn settle_all<L: Ledger>(
     requires room { vec_len changed.old + length order.now ≤ vec_capacity changed.old }
     ensures times { All (HasItsTime graph.now.network graph.now.state times.new) order.now }
     ensures capacity { vec_capacity changed.new ≡ vec_capacity changed.old }
+    ensures sized { (labels : List ℕ) → AreSized labels times.old → AreSized labels times.new }
 {
     let mut steps = Steps::<L>::open(blank);
     settle(graph, order, times, changed, &mut steps);

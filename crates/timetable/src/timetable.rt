@@ -1,6 +1,6 @@
 //! The timetable.
 
-ghost use Rattle.std.specs.Prelude.{◌≡◌, ◌+◌, ◌*◌, ◌≤◌, [], None, Some, IfOk, IfErr, length, map, vec_capacity};
+ghost use Rattle.std.specs.Prelude.{◌≡◌, ◌+◌, ◌*◌, ◌≤◌, [], None, IfOk, IfErr, length, map, vec_capacity};
 ghost use Rattle.delay_model.specs.Events.{events};
 ghost use Rattle.delay_model.specs.Refusals.{refusal};
 ghost use Rattle.delay_model.specs.Touched.{changed_count};
@@ -8,12 +8,16 @@ ghost use Rattle.delay_model.specs.Valid.{IsValid};
 ghost use Rattle.waiting_rules.specs.WaitTable.{parent_station};
 ghost use Rattle.edge_rules.specs.Held.{network_of};
 ghost use Rattle.graph_edit.specs.Values.{Answers};
-ghost use Rattle.train_nodes.specs.Kinds.{LeavesCalls};
+ghost use Rattle.timetable.specs.Faults.{IsRefusal};
 ghost use Rattle.timetable.specs.LiveTimes.{live_time};
 ghost use Rattle.timetable.specs.Running.{stepped};
+ghost use Rattle.timetable.specs.declared.faults.StepFault.TheVariants.{OutOfMemory};
+ghost use Rattle.train_nodes.specs.Kinds.{IsShape};
 
-use crate::events::{blank_times, key_order, list_nodes};
-use crate::messages::{apply, check};
+use crate::events::{first_times, key_order};
+use crate::faults::StepFault;
+use crate::messages::check;
+use crate::prepare::prepare;
 use crate::settle::{settle, settle_all};
 use change_times::Changes;
 use delay_model::messages::Refusal;
@@ -33,10 +37,10 @@ use waiting_rules::Waits;
 pub struct Timetable {
     graph: Graph,
     times: NodeTimes,
-    /// The keys of the live events, in the order in which they are settled.
+    /// The keys of the live events, in the order in which they are settled. It has room for those that the spare calls may add.
     order: Vec<Key>,
     count: u64,
-    /// The events that the last accepted message changed. It has room for all live events.
+    /// The events that the last accepted message changed. It has room for twice as many as the order.
     changed: Vec<Node>,
 }
 
@@ -79,10 +83,10 @@ impl Timetable {
         requires nodes { length (events trains) + 2 * trains.spare_calls ≤ 2097152 }
         ensures { IfOk result (λ t. t ≡ record { network = network_of changes waits opts; state = trains; count = 0; changed = [] }) }
     {
-        let nodes = list_nodes(alloc, &trains)?;
-        let mut times = blank_times(alloc, &nodes, 2 * trains.spare_calls())?;
-        let order = key_order(alloc, &trains, &nodes)?;
-        let mut changed = Vec::with_capacity(alloc, order.len())?;
+        let mut times = first_times(alloc, &trains)?;
+        let order = key_order(alloc, &trains)?;
+        let room = 2 * (order.len() + 2 * trains.spare_calls() as usize);
+        let mut changed = Vec::with_capacity(alloc, room)?;
         let graph = Graph::build(trains, changes, waits, opts);
         settle_all::<Brand>(&graph, &order, &mut times, &mut changed, Blank::new(1));
         changed.clear();
@@ -99,37 +103,47 @@ impl Timetable {
     pub fn copy(&self, alloc: Global) -> Result<Timetable, OutOfMemory>
         ensures { IfOk result (λ copy. copy ≡ self.now) }
     {
-        let room = self.order.len();
         Ok(Timetable {
             graph: self.graph.copy(alloc)?,
             times: self.times.copy(alloc)?,
-            order: copy_with_room(alloc, &self.order, room)?,
+            order: copy_with_room(alloc, &self.order, self.order.capacity())?,
             count: self.count,
-            changed: copy_with_room(alloc, &self.changed, room)?,
+            changed: copy_with_room(alloc, &self.changed, self.changed.capacity())?,
         })
     }
 
     /// Whether a message is accepted, or why it is refused. It changes nothing.
     pub fn check(&self, m: &Msg) -> Result<(), Refusal>
-        requires kind { LeavesCalls m.now }
         ensures { Answers result (refusal self.now.network self.now.state m.now) }
     {
         check(&self.graph, m)
     }
 
-    /// Takes a message, and answers how many events it changes: those whose time is another after it. A message that is refused
-    /// changes nothing. It takes no memory.
-    pub fn step<L: Ledger>(&mut self, m: &Msg, steps: &mut Steps<L>) -> Result<u64, Refusal>
-        requires kind { LeavesCalls m.now }
-        ensures refused { IfErr result (λ r. refusal self.old.network self.old.state m.now ≡ Some r) }
+    /// Takes a message, and answers how many events it changes: those that it takes away or adds, and those whose time is another after
+    /// it. A message that is refused changes nothing, nor does one for which there is no memory. Reports, forecasts and what is chosen
+    /// for connections take no memory.
+    pub fn step<L: Ledger>(
+        &mut self,
+        alloc: Global,
+        m: &Msg,
+        steps: &mut Steps<L>,
+    ) -> Result<u64, StepFault>
+        ensures refused { IfErr result (λ f. IsRefusal (refusal self.old.network self.old.state m.now) f) }
         ensures kept { IfErr result (λ _. self.new ≡ self.old) }
+        ensures memory { IfErr result (λ f. f ≡ OutOfMemory → (refusal self.old.network self.old.state m.now ≡ None) × IsShape m.now) }
         ensures accepted { IfOk result (λ _. refusal self.old.network self.old.state m.now ≡ None) }
         ensures effect { IfOk result (λ _. self.new ≡ stepped self.old m.now) }
         ensures changed { IfOk result (λ n. n ≡ changed_count self.old.network self.old.state m.now) }
     {
-        check(&self.graph, m)?;
-        apply(&mut self.graph, m);
-        self.changed.clear();
+        check(&self.graph, m).map_err(StepFault::Refused)?;
+        prepare(
+            alloc,
+            &mut self.graph,
+            &mut self.times,
+            &mut self.order,
+            &mut self.changed,
+            m,
+        )?;
         settle(
             &self.graph,
             &self.order,

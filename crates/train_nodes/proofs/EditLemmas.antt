@@ -1,112 +1,83 @@
--- A change of one event's values, in the arena and in the state.
-use Rattle.std.proofs.Common.{◌≡◌, ℕ, ◌+◌, ◌<◌, List, length, get_or, sym, ◌∙◌, ap, subst, arith, map, All}
+-- A change of one event's values, in the storage and in the state.
+use Rattle.std.proofs.Common.{◌≡◌, ℕ, ◌+◌, ◌<◌, ◌≤◌, List, Bool, false, Option, Some, None, is_some, unwrap_or, length, sym, ◌∙◌, ap, subst, arith, map, vec_capacity}
 use Rattle.std.proofs.Math.ListN.{set}
-use Rattle.std.proofs.Math.Seq.{map-set_same}
-use Rattle.std.proofs.lemmas.List.{length-set, length-map}
-use Rattle.mt_base.specs.declared.keys.Node.{Node}
 use Rattle.delay_model.specs.declared.state.Call.{Call}
 use Rattle.delay_model.specs.declared.state.Train.{Train}
-use Rattle.delay_model.specs.Effect.{change_train, change_calls, change_labelled, change_event}
+use Rattle.delay_model.specs.Effect.{is_call, change_train, change_calls, change_labelled, change_event}
+use Rattle.delay_model.specs.Events.{calls_of}
 use Rattle.train_nodes.specs.declared.calls.Edit.{Edit}
-use Rattle.train_nodes.specs.declared.trains.Row.{Row}
+use Rattle.train_nodes.specs.declared.rows.Row.{Row}
 use Rattle.train_nodes.specs.declared.trains.Trains.TheInside.{Inside}
 use Rattle.train_nodes.specs.Edits.{edited, reported_after}
-use Rattle.train_nodes.specs.Stretches.{stretch, IsLaidOut}
-use Rattle.train_nodes.specs.Stored.{train_of, first_of, len_of, IsLoaded, HasReportsWithin, HaveReportsWithin, IsStored}
-use Rattle.train_nodes.proofs.StretchLemmas.{get_or-stretch, laid-set}
-use Rattle.train_nodes.proofs.Numbered.{one_changed, numbered-changed}
-use Rattle.train_nodes.proofs.StoredLemmas.{written, change_train-same, get_or-train, loaded-changed, row-loaded, row-length, row-reports, IsRowOf}
-use Rattle.train_nodes.proofs.ReportLemmas.{reported-edited, reported-set}
+use Rattle.train_nodes.specs.Kept.{change_at}
+use Rattle.train_nodes.specs.Places.{IsFirst}
+use Rattle.train_nodes.specs.Rows.{calls_by, IsChangedWithin}
+use Rattle.train_nodes.specs.Stretches.{stretch}
+use Rattle.train_nodes.specs.Stored.{train_of, AreLabelled, IsTrainStored, IsRowStored, seen}
+use Rattle.train_nodes.proofs.StretchLemmas.{stretch-inside, length-stretch}
+use Rattle.train_nodes.proofs.CallPlaces.{changed-at, labels-at, labels-length, All-labels, distinct-labels, label_of}
+use Rattle.train_nodes.proofs.ReportLemmas.{reported-edited}
+use Rattle.train_nodes.proofs.StoredLemmas.{IsRowOf, row-calls, row-known, IsRowChange, changed-trains}
 
-with_calls : Row → List Call → Train
-with_calls r cs = record { day = r.day; route = r.route; next_label = r.next_label; calls = cs }
+-- a call is put among those of a train that has none of its own
+pub put-by : (own : Option (List Call)) (first len place : ℕ) (cs : List Call) (c : Call) → is_some own ≡ false → first + len ≤ length cs → place < length (unwrap_or own (stretch first len cs)) → unwrap_or own (stretch first len (set cs (first + place) c)) ≡ set (unwrap_or own (stretch first len cs)) place c
+put-by (Some ds) first len place cs c h l m = absurd (cc)
+put-by None first len place cs c h l m =
+    let n = length-stretch cs first len l in stretch-inside cs first len place c (omega arith)
 
--- a call is changed in its slot, and it is noted in its train's row how many calls may have reports
-pub record IsEdit (a : Inside) (n : Node) (r row : Row) (t j reported : ℕ) (old new : Call) (e : Edit) : Type 0 where
-  pub stored : IsStored a
-  pub row_of : IsRowOf a n r
-  pub train : t ≡ n.train
-  pub label : j ≡ n.label
-  pub was : old ≡ get_or a.calls.items (r.first + j) old
-  pub is : new ≡ change_event n.dep (edited e) old
-  pub row_was : row ≡ get_or a.rows.items t row
-  pub may : reported ≡ reported_after r.reported j e
+-- calls with the same labels are labelled as well
+pub labelled-same : (spare next : ℕ) (cs ds : List Call) → map label_of cs ≡ map label_of ds → AreLabelled spare next cs → AreLabelled spare next ds
+labelled-same spare next cs ds e h =
+    let len = labels-length cs ds e in
+    let some = h.some in
+    let count = h.count in
+    record { distinct = distinct-labels cs ds e h.distinct; below = All-labels (λ n. n < next) cs ds e h.below; some = omega arith; count = omega arith; small = h.small }
 
-module _ (a : Inside) (n : Node) (r row : Row) (t j reported : ℕ) (old new : Call) (e : Edit) (w : IsEdit a n r row t j reported old new e) where
-  abbrev cs : List Call
-  cs = a.calls.items
+-- an event of the call at a place among those of a train is changed
+pub record IsEdit (a b : Inside) (t place : ℕ) (dep : Bool) (e : Edit) (r q : Row) : Type 0 where
+  pub row : IsRowOf a t r
+  pub below : place < length (calls_by a.calls.items r)
+  pub rows : b.rows.items ≡ set a.rows.items t q
+  pub is : q ≡ record r { reported = reported_after r.reported place e; own = q.own }
+  pub calls : calls_by b.calls.items q ≡ change_at place (change_event dep (edited e)) (calls_by a.calls.items r)
+  pub within : IsChangedWithin r.first r.len a.calls.items b.calls.items
+  pub rows_capacity : vec_capacity b.rows ≡ vec_capacity a.rows
+  pub calls_capacity : vec_capacity b.calls ≡ vec_capacity a.calls
+  pub spare_trains : b.spare_trains ≡ a.spare_trains
+  pub spare_calls : b.spare_calls ≡ a.spare_calls
 
-  abbrev new_cs : List Call
-  new_cs = set cs (r.first + j) new
+module _ (a b : Inside) (t place : ℕ) (dep : Bool) (e : Edit) (r q : Row) (w : IsEdit a b t place dep e r q) where
+  pub edit-known : IsRowStored b.spare_calls b.calls.items q
+  edit-known =
+      let old = row-known a t r w.row in
+      let ds = calls_by a.calls.items r in
+      let f = change_event dep (edited e) in
+      let new : IsTrainStored a.spare_calls r.next_label (reported_after r.reported place e) (change_at place f ds) = record { labels = labelled-same a.spare_calls r.next_label ds (change_at place f ds) (sym (labels-at place dep (edited e) ds)) old.labels; reports = reported-edited ds r.reported place dep e w.below old.reports } in
+      subst (λ k. IsTrainStored k q.next_label q.reported (calls_by b.calls.items q)) (sym w.spare_calls)
+      (subst (IsTrainStored a.spare_calls q.next_label q.reported) (sym w.calls)
+      (subst (λ (s : Row). IsTrainStored a.spare_calls s.next_label s.reported (change_at place f ds)) (sym w.is) new))
 
-  abbrev rs : List Row
-  rs = a.rows.items
+  pub edit-change : IsRowChange a b t r q
+  edit-change = record {
+    row = w.row;
+    rows = w.rows;
+    first = ap (λ (s : Row). s.first) w.is;
+    len = ap (λ (s : Row). s.len) w.is;
+    within = w.within;
+    rows_capacity = w.rows_capacity;
+    calls_capacity = w.calls_capacity;
+    spare_trains = w.spare_trains;
+    spare_calls = let same = w.spare_calls in omega arith;
+    stored = edit-known;
+  }
 
-  abbrev new_rs : List Row
-  new_rs = set rs t (record row { reported = reported })
-
-  abbrev ds : List Call
-  ds = stretch r.first r.len cs
-
-  abbrev change : List Call → List Call
-  change = map (change_labelled n.label (change_event n.dep (edited e)))
-
-  same-calls : set ds j new ≡ change ds
-  same-calls =
-      let len = row-length a n.train r w.stored w.row_of.there w.row_of.at in
-      let below = w.row_of.below in
-      let label = w.label in
-      let here : old ≡ get_or ds j old = w.was ∙ sym (get_or-stretch cs r.first r.len j old (omega arith)) in
-      ap (λ c. set ds j c) (w.is ∙ ap (change_event n.dep (edited e)) here)
-      ∙ one_changed ds 0 j n.label old (change_event n.dep (edited e)) (row-loaded a n.train r w.stored w.row_of.there w.row_of.at).labels (omega arith) (omega arith)
-
-  train-is : get_or (map (train_of cs) rs) n.train (train_of cs r) ≡ train_of cs r
-  train-is = get_or-train cs rs n.train r ∙ ap (train_of cs) (sym w.row_of.at)
-
-  -- the event is changed in its train
-  pub edited-trains : map (train_of new_cs) new_rs ≡ change_train n.train (change_calls change) (map (train_of cs) rs)
-  unfolding with_calls
-  edited-trains =
-      let F = change_calls (λ ds. set ds j new) in
-      let below = w.row_of.below in
-      let label = w.label in
-      let inside : j < (get_or rs n.train r).len = subst (λ (q : Row). j < q.len) w.row_of.at (omega arith) in
-      map-set_same (train_of new_cs) rs t (record row { reported = reported }) row (ap (train_of new_cs) w.row_was)
-      ∙ ap (λ (q : Row). map (train_of (set cs (q.first + j) new)) rs) w.row_of.at
-      ∙ written rs n.train r 0 (length cs) j cs new w.stored.laid w.row_of.there inside
-      ∙ change_train-same (map (train_of cs) rs) n.train F (change_calls change) (train_of cs r)
-      (ap F train-is ∙ ap (λ ds. with_calls r ds) same-calls ∙ ap (change_calls change) (sym train-is))
-
-  pub edited-lengths : (length new_rs ≡ length rs) × (length new_cs ≡ length cs)
-  edited-lengths = (length-set rs t (record row { reported = reported }), length-set cs (r.first + j) new)
-
-  keeps-loaded : (t : Train) → IsLoaded t → IsLoaded (change_calls change t)
-  keeps-loaded t h =
-      let len = length-map t.calls (change_labelled n.label (change_event n.dep (edited e))) in
-      record { labels = numbered-changed t.calls 0 n.label n.dep (edited e) h.labels; next = omega arith; some = omega arith }
-
-  -- the trains stay as the timetable gave them
-  pub edited-loaded : All IsLoaded (map (train_of new_cs) new_rs)
-  edited-loaded =
-      subst (All IsLoaded) (sym edited-trains)
-      (loaded-changed (map (train_of cs) rs) n.train (change_calls change) keeps-loaded w.stored.loaded)
-
-  pub edited-laid : IsLaidOut first_of len_of 0 new_rs (length new_cs)
-  edited-laid =
-      laid-set first_of len_of 0 rs (length new_cs) t (record row { reported = reported }) row (ap first_of w.row_was) (ap len_of w.row_was)
-      (subst (IsLaidOut first_of len_of 0 rs) (sym edited-lengths.1) w.stored.laid)
-
-  changed-reports : HasReportsWithin reported (change ds)
-  changed-reports =
-      let len = row-length a n.train r w.stored w.row_of.there w.row_of.at in
-      let below = w.row_of.below in
-      subst (λ k. HasReportsWithin k (change ds)) (sym (w.may ∙ ap (λ l. reported_after r.reported l e) w.label))
-      (reported-edited ds r.reported n.label n.dep e (row-loaded a n.train r w.stored w.row_of.there w.row_of.at).labels (omega arith) (row-reports a n.train r w.stored w.row_of.there w.row_of.at))
-
-  -- and it is known which of their calls may have reports
-  pub edited-reports : HaveReportsWithin new_rs (map (train_of new_cs) new_rs)
-  edited-reports =
-      subst (HaveReportsWithin new_rs) (sym edited-trains)
-      (subst (λ k. HaveReportsWithin (set rs k (record row { reported = reported })) (change_train n.train (change_calls change) (map (train_of cs) rs))) (sym w.train)
-      (reported-set rs (map (train_of cs) rs) n.train (record row { reported = reported }) (change_calls change) (train_of cs r) w.stored.reports
-      (subst (λ (t : Train). HasReportsWithin reported (change t.calls)) (sym train-is) changed-reports)))
+  -- in the state the event of that label is changed
+  pub edit-trains : (label : ℕ) → IsFirst (is_call label) place (calls_of (seen a) t) → map (train_of b.calls.items) b.rows.items ≡ change_train t (change_calls (map (change_labelled label (change_event dep (edited e))))) (map (train_of a.calls.items) a.rows.items)
+  edit-trains label h =
+      let xs = a.calls.items in
+      let f = change_event dep (edited e) in
+      let to_train = λ (s : Row) (ds : List Call). let t : Train = record { day = s.day; route = s.route; next_label = s.next_label; calls = ds } in t in
+      let first = subst (IsFirst (is_call label) place) (row-calls a t r w.row) h in
+      changed-trains a b t r q edit-change (change_calls (map (change_labelled label f)))
+      (ap (to_train r) (sym (w.calls ∙ changed-at (calls_by xs r) place label f (row-known a t r w.row).labels.distinct first))
+      ∙ ap (λ (s : Row). to_train s (calls_by b.calls.items q)) (sym w.is))

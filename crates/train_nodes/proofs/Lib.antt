@@ -1,10 +1,13 @@
+pub mod CallPlaces
+pub mod CancelLemmas
 pub mod EditLemmas
 pub mod EventLemmas
-pub mod KeptLaws
 pub mod Numbered
 pub mod PlaceLemmas
 pub mod PushLemmas
+pub mod RemovedLemmas
 pub mod ReportLemmas
+pub mod RerouteLemmas
 pub mod StoredLemmas
 pub mod StretchLemmas
 pub mod TimeLemmas

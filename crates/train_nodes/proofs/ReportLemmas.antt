@@ -1,11 +1,10 @@
 -- The first report of some events of a train, and which of its calls may have reports.
-use Rattle.std.proofs.Common.{rules, ◌≡◌, ℕ, zero, suc, ◌+◌, ◌-◌, ◌<◌, ◌≤◌, max, List, [], ◌∷◌, ◌++◌, Bool, true, false, cond, ◌&&◌, nat_eq, length, get_or, take, drop, refl, sym, ◌∙◌, ap, subst, add-one, arith, Option, None, Some, is_some, slice_get, find, map, All}
-use Rattle.std.proofs.Math.ListN.{set}
+use Rattle.std.proofs.Common.{◌≡◌, ℕ, zero, suc, ◌+◌, ◌-◌, ◌<◌, ◌≤◌, max, List, [], ◌∷◌, ◌++◌, Bool, true, false, cond, ◌&&◌, nat_eq, length, get_or, take, drop, refl, sym, ◌∙◌, ap, subst, add-one, arith, Option, None, Some, is_some, slice_get, All}
 use Rattle.std.specs.Option.{option_or, option_map_or}
 use Rattle.std.proofs.lemmas.Bool.{cond-true, cond-false}
-use Rattle.std.proofs.lemmas.List.{length-map, drop-map, take-append-drop, drop-drop}
+use Rattle.std.proofs.lemmas.List.{take-append-drop, drop-drop}
 use Rattle.std.proofs.Math.Seq.{drop-nil, drop-cons}
-use Rattle.std.proofs.lemmas.List.Elements.{All-nil, All-cons, All-head, All-tail, All-drop, All-map, All-weaker}
+use Rattle.std.proofs.lemmas.List.Elements.{All-nil, All-cons, All-head, All-tail, All-drop}
 use Rattle.mt_base.specs.declared.keys.Node.{Node}
 use Rattle.delay_model.specs.declared.state.EventValues.{EventValues}
 use Rattle.delay_model.specs.declared.state.Call.{Call}
@@ -13,19 +12,19 @@ use Rattle.delay_model.specs.declared.state.Train.{Train}
 use Rattle.delay_model.specs.declared.state.State.{State}
 use Rattle.delay_model.specs.declared.state.Event.{Event}
 use Rattle.delay_model.specs.Cuts.{after}
-use Rattle.delay_model.specs.Effect.{is_call, node_at, change_train, change_labelled, change_event}
+use Rattle.delay_model.specs.Effect.{is_call, node_at, change_event}
 use Rattle.delay_model.specs.Events.{calls_of, events_of, events_at, is_event, arrival_of, departure_of, live_report}
 use Rattle.delay_model.specs.Timing.{first_report}
 use Rattle.train_nodes.specs.declared.calls.Edit.{Edit}
 use Rattle.train_nodes.specs.declared.calls.Edit.TheVariants.{Forecast, Report, Kill}
 use Rattle.train_nodes.specs.declared.calls.TableCall.{TableCall}
-use Rattle.train_nodes.specs.declared.trains.Row.{Row}
 use Rattle.train_nodes.specs.Edits.{edited, reported_after}
-use Rattle.train_nodes.specs.Calls.{has_event}
 use Rattle.train_nodes.specs.Reports.{report_after}
 use Rattle.train_nodes.specs.Loaded.{loaded_from}
-use Rattle.train_nodes.specs.Stored.{AreNumbered, HasNoReport, HasReportsWithin, HaveReportsWithin}
-use Rattle.train_nodes.proofs.Numbered.{nat_eq-is, none_changed, numbered-drop}
+use Rattle.train_nodes.specs.Kept.{change_at}
+use Rattle.train_nodes.specs.Places.{IsFirst}
+use Rattle.train_nodes.specs.Stored.{HasNoReport, HasReportsWithin}
+use Rattle.train_nodes.proofs.CallPlaces.{length-at}
 use Rattle.train_nodes.proofs.EventLemmas.{name-test}
 
 or-first : (b : Bool) (r o p : Option ℕ) → cond (b && is_some r) r (option_or o p) ≡ option_or (cond (b && is_some r) r o) p
@@ -101,87 +100,76 @@ after-own t route l true c cs e =
     ∙ cond-true (is_event n (departure_of t route c)) (events_at t route cs) (after (is_event n) (events_at t route cs)) (name-test t l c.label true true true e)
 
 -- what stands after an event, by the calls from its own on
-after-named : (t route l k j : ℕ) (dep : Bool) (cs : List Call) → AreNumbered k cs → l ≡ k + j → after (is_event (node_at t l dep)) (events_at t route cs) ≡ drop (cond dep 2 1) (events_at t route (drop j cs))
-unfolding AreNumbered
-after-named t route l k j dep [] h e =
-    sym (ap (λ ds. drop (cond dep 2 1) (events_at t route ds)) (drop-nil j) ∙ drop-nil (cond dep 2 1))
-after-named t route l k zero dep (c ∷ cs) h e =
-    let at : c.label ≡ k = h.0 in
-    after-own t route l dep c cs (nat_eq-is c.label l (omega arith))
-after-named t route l k (suc j) dep (c ∷ cs) h e =
-    let at : c.label ≡ k = h.0 in
-    let no : nat_eq c.label l ≡ false = search rules in
+after-named : (t route l j : ℕ) (dep : Bool) (cs : List Call) → IsFirst (is_call l) j cs → after (is_event (node_at t l dep)) (events_at t route cs) ≡ drop (cond dep 2 1) (events_at t route (drop j cs))
+after-named t route l j dep [] h = absurd h
+after-named t route l zero dep (c ∷ cs) h = after-own t route l dep c cs h
+after-named t route l (suc j) dep (c ∷ cs) h =
     let n = node_at t l dep in
     let es = events_at t route cs in
-    cond-false (is_event n (arrival_of t route c)) (departure_of t route c ∷ es) (after (is_event n) (departure_of t route c ∷ es)) (name-test t l c.label false dep false no)
-    ∙ cond-false (is_event n (departure_of t route c)) es (after (is_event n) es) (name-test t l c.label true dep false no)
-    ∙ after-named t route l (k + 1) j dep cs h.1 (omega arith)
+    cond-false (is_event n (arrival_of t route c)) (departure_of t route c ∷ es) (after (is_event n) (departure_of t route c ∷ es)) (name-test t l c.label false dep false h.0)
+    ∙ cond-false (is_event n (departure_of t route c)) es (after (is_event n) es) (name-test t l c.label true dep false h.0)
+    ∙ after-named t route l j dep cs h.1
 
 none-later : (ds : List Call) (m n : ℕ) → m ≤ n → All HasNoReport (drop m ds) → All HasNoReport (drop n ds)
 none-later ds m n l h =
     let e : m + (n - m) ≡ n = omega arith in
     subst (All HasNoReport) (drop-drop (n - m) m ds ∙ ap (λ j. drop j ds) e) (All-drop HasNoReport (n - m) (drop m ds) h)
 
-report-at : (n : Node) (o : Option Train) (m reported : ℕ) (x : Option ℕ) → AreNumbered 0 (option_map_or (λ (t : Train). t.calls) o []) → is_some (find (is_call n.label) (option_map_or (λ (t : Train). t.calls) o [])) ≡ true → HasReportsWithin reported (option_map_or (λ (t : Train). t.calls) o []) → reported ≤ n.label + m → ((train route : ℕ) → x ≡ first_report train (drop (cond n.dep 2 1) (events_at train route (take m (drop n.label (option_map_or (λ (t : Train). t.calls) o [])))))) → x ≡ first_report n.train (after (is_event n) (option_map_or (events_of n.train) o []))
-report-at n None m reported x h there w k e = absurd (cc)
-report-at n (Some t) m reported x h there w k e =
+report-at : (n : Node) (o : Option Train) (j m reported : ℕ) (x : Option ℕ) → IsFirst (is_call n.label) j (option_map_or (λ (t : Train). t.calls) o []) → HasReportsWithin reported (option_map_or (λ (t : Train). t.calls) o []) → reported ≤ j + m → ((train route : ℕ) → x ≡ first_report train (drop (cond n.dep 2 1) (events_at train route (take m (drop j (option_map_or (λ (t : Train). t.calls) o [])))))) → x ≡ first_report n.train (after (is_event n) (option_map_or (events_of n.train) o []))
+report-at n None j m reported x h w k e = absurd h
+report-at n (Some t) j m reported x h w k e =
     e n.train t.route
-    ∙ sym (report-within n.train n.train t.route (cond n.dep 2 1) m (drop n.label t.calls) (subst (All HasNoReport) (sym (drop-drop m n.label t.calls)) (none-later t.calls reported (n.label + m) k w.none)))
-    ∙ sym (ap (first_report n.train) (after-named n.train t.route n.label 0 n.label n.dep t.calls h (omega arith)))
+    ∙ sym (report-within n.train n.train t.route (cond n.dep 2 1) m (drop j t.calls) (subst (All HasNoReport) (sym (drop-drop m j t.calls)) (none-later t.calls reported (j + m) k w.none)))
+    ∙ sym (ap (first_report n.train) (after-named n.train t.route n.label j n.dep t.calls h))
 
 -- the report after an event is found between its call and the last that may have one
-pub report-named : (st : State) (n : Node) (cs : List Call) (l end reported : ℕ) (x : Option ℕ) → AreNumbered 0 (calls_of st n.train) → has_event st n ≡ true → HasReportsWithin reported (calls_of st n.train) → cs ≡ calls_of st n.train → l ≡ n.label → end ≡ max l reported → ((train route : ℕ) → x ≡ first_report train (drop (cond n.dep 2 1) (events_at train route (take (end - l) (drop l cs))))) → x ≡ report_after st n
-report-named st n cs l end reported x h there w same label e f =
-    report-at n (slice_get st.trains n.train) (end - l) reported x h there w (omega arith)
-    (λ train route. f train route ∙ ap (λ ds. first_report train (drop (cond n.dep 2 1) (events_at train route (take (end - l) ds)))) (ap (drop l) same ∙ ap (λ k. drop k (calls_of st n.train)) label))
+pub report-named : (st : State) (n : Node) (cs : List Call) (place end reported : ℕ) (x : Option ℕ) → cs ≡ calls_of st n.train → IsFirst (is_call n.label) place cs → HasReportsWithin reported cs → end ≡ max place reported → ((train route : ℕ) → x ≡ first_report train (drop (cond n.dep 2 1) (events_at train route (take (end - place) (drop place cs))))) → x ≡ report_after st n
+report-named st n cs place end reported x same h w e f =
+    report-at n (slice_get st.trains n.train) place (end - place) reported x (subst (IsFirst (is_call n.label) place) same h) (subst (HasReportsWithin reported) same w) (omega arith)
+    (λ train route. f train route ∙ ap (λ ds. first_report train (drop (cond n.dep 2 1) (events_at train route (take (end - place) (drop place ds))))) same)
 
-keeps-none : (c : Call) (b dep : Bool) (f : EventValues → EventValues) → ((v : EventValues) → v.report ≡ None → (f v).report ≡ None) → HasNoReport c → HasNoReport (cond b (change_event dep f c) c)
-keeps-none c false dep f k h = h
-keeps-none c true true f k h = (h.0, k c.departure h.1)
-keeps-none c true false f k h = (k c.arrival h.0, h.1)
+keeps-none : (dep : Bool) (f : EventValues → EventValues) (c : Call) → ((v : EventValues) → v.report ≡ None → (f v).report ≡ None) → HasNoReport c → HasNoReport (change_event dep f c)
+keeps-none true f c k h = (h.0, k c.departure h.1)
+keeps-none false f c k h = (k c.arrival h.0, h.1)
 
-none-mapped : (ds : List Call) (l : ℕ) (dep : Bool) (f : EventValues → EventValues) → ((v : EventValues) → v.report ≡ None → (f v).report ≡ None) → All HasNoReport ds → All HasNoReport (map (change_labelled l (change_event dep f)) ds)
-none-mapped ds l dep f k h =
-    let g = change_labelled l (change_event dep f) in
-    All-map HasNoReport g ds (All-weaker HasNoReport (λ c. HasNoReport (g c)) (λ c. keeps-none c (nat_eq c.label l) dep f k) ds h)
+-- a change that gives no report leaves none where there was none
+none-changed : (m j : ℕ) (f : Call → Call) (cs : List Call) → ((c : Call) → HasNoReport c → HasNoReport (f c)) → All HasNoReport (drop m cs) → All HasNoReport (drop m (change_at j f cs))
+none-changed zero j f [] k h = h
+none-changed (suc m) j f [] k h = h
+none-changed zero zero f (c ∷ cs) k h =
+    All-cons HasNoReport (f c) cs (k c (All-head HasNoReport c cs h)) (All-tail HasNoReport c cs h)
+none-changed zero (suc j) f (c ∷ cs) k h =
+    All-cons HasNoReport c (change_at j f cs) (All-head HasNoReport c cs h) (none-changed zero j f cs k (All-tail HasNoReport c cs h))
+none-changed (suc m) zero f (c ∷ cs) k h = h
+none-changed (suc m) (suc j) f (c ∷ cs) k h = none-changed m j f cs k h
 
-none-edited : (ds : List Call) (m l : ℕ) (dep : Bool) (e : Edit) → AreNumbered 0 ds → All HasNoReport (drop m ds) → All HasNoReport (map (change_labelled l (change_event dep (edited e))) (drop (reported_after m l e) ds))
-none-edited ds m l dep (Forecast t) h k = none-mapped (drop m ds) l dep (edited (Forecast t)) (λ v e. e) k
-none-edited ds m l dep Kill h k = none-mapped (drop m ds) l dep (edited Kill) (λ v e. e) k
-none-edited ds m l dep (Report t) h k =
-    let past = max m (l + 1) in
-    subst (All HasNoReport) (none_changed (drop past ds) past l (change_event dep (edited (Report t))) (subst (λ j. AreNumbered j (drop past ds)) (omega arith) (numbered-drop ds 0 past h)) (omega arith))
-    (none-later ds m past (omega arith) k)
-
-reported-small : (m l n : ℕ) (e : Edit) → m ≤ n → l < n → reported_after m l e ≤ n
-reported-small m l n (Forecast t) h k = h
-reported-small m l n Kill h k = h
-reported-small m l n (Report t) h k = omega arith
+past-changed : {X : Type 0} (m j : ℕ) (f : X → X) (xs : List X) → j < m → drop m (change_at j f xs) ≡ drop m xs
+past-changed m j f [] l = refl
+past-changed zero j f (x ∷ xs) l = absurd (omega arith)
+past-changed (suc m) zero f (x ∷ xs) l = refl
+past-changed (suc m) (suc j) f (x ∷ xs) l = past-changed m j f xs (omega arith)
 
 -- which calls may have reports, once an event has changed
-pub reported-edited : (ds : List Call) (m l : ℕ) (dep : Bool) (e : Edit) → AreNumbered 0 ds → l < length ds → HasReportsWithin m ds → HasReportsWithin (reported_after m l e) (map (change_labelled l (change_event dep (edited e))) ds)
-reported-edited ds m l dep e h k w =
-    let g = change_labelled l (change_event dep (edited e)) in
-    let len = length-map ds g in
-    let small = reported-small m l (length ds) e w.within k in
+pub reported-edited : (ds : List Call) (m j : ℕ) (dep : Bool) (e : Edit) → j < length ds → HasReportsWithin m ds → HasReportsWithin (reported_after m j e) (change_at j (change_event dep (edited e)) ds)
+reported-edited ds m j dep (Forecast t) l w =
+    let f = change_event dep (edited (Forecast t)) in
+    let len = length-at j f ds in
+    let within = w.within in
+    record { within = omega arith; none = none-changed m j f ds (λ c. keeps-none dep (edited (Forecast t)) c (λ v e. e)) w.none }
+reported-edited ds m j dep Kill l w =
+    let f = change_event dep (edited Kill) in
+    let len = length-at j f ds in
+    let within = w.within in
+    record { within = omega arith; none = none-changed m j f ds (λ c. keeps-none dep (edited Kill) c (λ v e. e)) w.none }
+reported-edited ds m j dep (Report t) l w =
+    let f = change_event dep (edited (Report t)) in
+    let len = length-at j f ds in
+    let within = w.within in
+    let past = max m (j + 1) in
     record {
       within = omega arith;
-      none = subst (All HasNoReport) (sym (drop-map g (reported_after m l e) ds)) (none-edited ds m l dep e h w.none);
+      none = subst (All HasNoReport) (sym (past-changed past j f ds (omega arith))) (none-later ds m past (omega arith) w.none);
     }
-
--- the same of all trains
-pub reported-set : (rs : List Row) (ts : List Train) (i : ℕ) (r : Row) (f : Train → Train) (d : Train) → HaveReportsWithin rs ts → HasReportsWithin r.reported (f (get_or ts i d)).calls → HaveReportsWithin (set rs i r) (change_train i f ts)
-reported-set [] ts i r f d all h = tt
-reported-set (q ∷ rs) [] zero r f d all h = tt
-reported-set (q ∷ rs) [] (suc i) r f d all h = tt
-reported-set (q ∷ rs) (t ∷ ts) zero r f d all h = (h, all.1)
-reported-set (q ∷ rs) (t ∷ ts) (suc i) r f d all h = (all.0, reported-set rs ts i r f d all.1 h)
-
-pub reported-push : (rs : List Row) (ts : List Train) (r : Row) (t : Train) → length rs ≡ length ts → HaveReportsWithin rs ts → HasReportsWithin r.reported t.calls → HaveReportsWithin (rs ++ r ∷ []) (ts ++ t ∷ [])
-reported-push [] [] r t e all h = (h, tt)
-reported-push [] (s ∷ ts) r t e all h = absurd (omega arith)
-reported-push (q ∷ rs) [] r t e all h = absurd (omega arith)
-reported-push (q ∷ rs) (s ∷ ts) r t e all h = (all.0, reported-push rs ts r t (omega arith) all.1 h)
 
 loaded-none : (count k : ℕ) (cs : List TableCall) → All HasNoReport (loaded_from count k cs)
 loaded-none count k [] = All-nil HasNoReport

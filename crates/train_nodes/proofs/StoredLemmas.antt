@@ -1,225 +1,293 @@
 -- Stored trains and seen ones.
-use Rattle.std.proofs.Common.{◌≡◌, ℕ, zero, suc, ◌+◌, ◌<◌, ◌≤◌, List, [], ◌∷◌, ◌++◌, true, length, get_or, refl, sym, ◌∙◌, ap, subst, arith, Some, None, slice_get, find, map, is_some, All}
+use Rattle.std.proofs.Common.{◌≡◌, ℕ, zero, suc, ◌+◌, ◌<◌, ◌≤◌, List, [], ◌∷◌, ◌++◌, length, get_or, take, drop, refl, sym, ◌∙◌, ap, subst, arith, None, Some, slice_get, map, unwrap_or, vec_capacity, All}
 use Rattle.std.proofs.Math.ListN.{set}
 use Rattle.std.specs.Option.{option_map_or}
-use Rattle.std.proofs.lemmas.Option.{slice_get-get_or, slice_get_past}
-use Rattle.std.proofs.lemmas.List.Elements.{All-cons, All-head, All-tail}
-use Rattle.mt_base.specs.declared.keys.Node.{Node}
+use Rattle.std.proofs.lemmas.Option.{slice_get-get_or}
+use Rattle.std.proofs.lemmas.List.{length-map, length-set, length-append, length-drop, length_push, get_or-map, take-append-le, map-append}
+use Rattle.std.proofs.lemmas.List.Elements.{All-map, All-set, All-push, All-weaker}
 use Rattle.delay_model.specs.declared.state.Call.{Call}
 use Rattle.delay_model.specs.declared.state.Train.{Train}
 use Rattle.delay_model.specs.declared.state.State.{State}
-use Rattle.delay_model.specs.Effect.{is_call, change_train, change_calls}
-use Rattle.delay_model.specs.Events.{calls_of, is_live}
-use Rattle.train_nodes.specs.declared.trains.Row.{Row}
+use Rattle.delay_model.specs.Effect.{change_train}
+use Rattle.delay_model.specs.Events.{calls_of}
+use Rattle.delay_model.specs.Valid.{HasDistinctLabels}
+use Rattle.train_nodes.specs.declared.rows.Row.{Row}
 use Rattle.train_nodes.specs.declared.trains.Trains.TheInside.{Inside}
-use Rattle.train_nodes.specs.Calls.{call_named, has_call}
+use Rattle.train_nodes.specs.Rows.{calls_by, IsChangedWithin}
 use Rattle.train_nodes.specs.Stretches.{stretch, IsLaidOut}
-use Rattle.train_nodes.specs.Stored.{train_of, first_of, len_of, AreNumbered, IsLoaded, HasReportsWithin, HaveReportsWithin, IsStored, seen}
-use Rattle.train_nodes.proofs.StretchLemmas.{laid-ends, laid-within, stretch-before, stretch-after, stretch-inside, stretch-append, length-stretch, get_or-stretch}
-use Rattle.train_nodes.proofs.Numbered.{found}
-use Rattle.train_nodes.proofs.EventLemmas.{live-there}
+use Rattle.train_nodes.specs.Stored.{train_of, first_of, len_of, HasReportsWithin, IsTrainStored, IsRowStored, IsStored, seen}
+use Rattle.train_nodes.proofs.StretchLemmas.{laid-ends, laid-within, laid-set, laid-push, stretch-front, stretch-back, stretch-end}
 
-with_calls : Row → List Call → Train
-with_calls r cs = record { day = r.day; route = r.route; next_label = r.next_label; calls = cs }
+module _ {Y : Type 0} (F : Row → List Call → Y) where
+  -- what rows stand for, from which something is made
+  pub made : List Call → List Row → List Y
+  made cs rs = map (λ r. F r (calls_by cs r)) rs
 
--- a write to a slot before these trains' calls changes none of them
-apart : (rs : List Row) (from end slot : ℕ) (cs : List Call) (c : Call) → IsLaidOut first_of len_of from rs end → slot < from → map (train_of (set cs slot c)) rs ≡ map (train_of cs) rs
-unfolding IsLaidOut with_calls
-apart [] from end slot cs c h l = refl
-apart (r ∷ rs) from end slot cs c h l =
-    let e : r.first ≡ from = h.0 in
-    ap (λ ds. with_calls r ds ∷ map (train_of (set cs slot c)) rs) (stretch-before cs r.first r.len slot c (omega arith))
-    ∙ ap (λ ts. train_of cs r ∷ ts) (apart rs (from + r.len) end slot cs c h.1 (omega arith))
+  -- it stays where calls change before these rows
+  later : (rs : List Row) (from end start : ℕ) (xs ys : List Call) → IsLaidOut first_of len_of from rs end → start ≤ from → drop start ys ≡ drop start xs → made ys rs ≡ made xs rs
+  unfolding IsLaidOut made
+  later [] from end start xs ys h l e = refl
+  later (r ∷ rs) from end start xs ys h l e =
+      let at : r.first ≡ from = h.0 in
+      ap (λ ds. F r (unwrap_or r.own ds) ∷ made ys rs) (stretch-back xs ys r.first r.len start (omega arith) e)
+      ∙ ap (λ zs. F r (calls_by xs r) ∷ zs) (later rs (from + r.len) end start xs ys h.1 (omega arith) e)
 
--- a write to a slot of a train's changes that train alone
-pub written : (rs : List Row) (i : ℕ) (d : Row) (from end j : ℕ) (cs : List Call) (c : Call) → IsLaidOut first_of len_of from rs end → i < length rs → j < (get_or rs i d).len → map (train_of (set cs ((get_or rs i d).first + j) c)) rs ≡ change_train i (change_calls (λ ds. set ds j c)) (map (train_of cs) rs)
-unfolding IsLaidOut with_calls
-written [] i d from end j cs c h l m = absurd (omega arith)
-written (r ∷ rs) zero d from end j cs c h l m =
-    let e : r.first ≡ from = h.0 in
-    ap (λ ds. with_calls r ds ∷ map (train_of (set cs (r.first + j) c)) rs) (stretch-inside cs r.first r.len j c m)
-    ∙ ap (λ ts. with_calls r (set (stretch r.first r.len cs) j c) ∷ ts) (apart rs (from + r.len) end (r.first + j) cs c h.1 (omega arith))
-written (r ∷ rs) (suc i) d from end j cs c h l m =
-    let e : r.first ≡ from = h.0 in
-    let k = laid-within first_of len_of (from + r.len) rs end i d h.1 (omega arith) in
-    let later : from + r.len ≤ (get_or rs i d).first = k.0 in
-    ap (λ ds. with_calls r ds ∷ map (train_of (set cs ((get_or rs i d).first + j) c)) rs) (stretch-after cs r.first r.len ((get_or rs i d).first + j) c (omega arith))
-    ∙ ap (λ ts. train_of cs r ∷ ts) (written rs i d (from + r.len) end j cs c h.1 (omega arith) m)
+  -- and after them
+  pub earlier : (rs : List Row) (from end : ℕ) (xs ys : List Call) → IsLaidOut first_of len_of from rs end → take end ys ≡ take end xs → made ys rs ≡ made xs rs
+  unfolding IsLaidOut made
+  earlier [] from end xs ys h e = refl
+  earlier (r ∷ rs) from end xs ys h e =
+      let at : r.first ≡ from = h.0 in
+      let ends = laid-ends first_of len_of (from + r.len) rs end h.1 in
+      ap (λ ds. F r (unwrap_or r.own ds) ∷ made ys rs) (stretch-front xs ys r.first r.len end (omega arith) e)
+      ∙ ap (λ zs. F r (calls_by xs r) ∷ zs) (earlier rs (from + r.len) end xs ys h.1 e)
 
--- appended calls change no train
-pub appended : (rs : List Row) (from : ℕ) (cs new : List Call) → IsLaidOut first_of len_of from rs (length cs) → map (train_of (cs ++ new)) rs ≡ map (train_of cs) rs
-unfolding IsLaidOut with_calls
-appended [] from cs new h = refl
-appended (r ∷ rs) from cs new h =
-    let e : r.first ≡ from = h.0 in
-    let k = laid-ends first_of len_of (from + r.len) rs (length cs) h.1 in
-    ap (λ ds. with_calls r ds ∷ map (train_of (cs ++ new)) rs) (stretch-append cs new r.first r.len (omega arith))
-    ∙ ap (λ ts. train_of cs r ∷ ts) (appended rs (from + r.len) cs new h.1)
+  -- where another row takes the place of one, and calls change where that has its own, only that changes
+  pub changed : (rs : List Row) (t from end : ℕ) (q d : Row) (xs ys : List Call) → IsLaidOut first_of len_of from rs end → t < length rs → IsChangedWithin (get_or rs t d).first (get_or rs t d).len xs ys → made ys (set rs t q) ≡ set (made xs rs) t (F q (calls_by ys q))
+  unfolding IsLaidOut made
+  changed [] t from end q d xs ys h l w = absurd (omega arith)
+  changed (r ∷ rs) zero from end q d xs ys h l w =
+      let at : r.first ≡ from = h.0 in
+      ap (λ zs. F q (calls_by ys q) ∷ zs) (later rs (from + r.len) end (r.first + r.len) xs ys h.1 (omega arith) w.after)
+  changed (r ∷ rs) (suc t) from end q d xs ys h l w =
+      let at : r.first ≡ from = h.0 in
+      let k = laid-within first_of len_of (from + r.len) rs end t d h.1 (omega arith) in
+      let ends : from + r.len ≤ (get_or rs t d).first = k.0 in
+      ap (λ ds. F r (unwrap_or r.own ds) ∷ made ys (set rs t q)) (stretch-front xs ys r.first r.len (get_or rs t d).first (omega arith) w.before)
+      ∙ ap (λ zs. F r (calls_by xs r) ∷ zs) (changed rs t (from + r.len) end q d xs ys h.1 (omega arith) w)
 
--- two changes that do the same to one train
-pub change_train-same : (ts : List Train) (i : ℕ) (f g : Train → Train) (d : Train) → f (get_or ts i d) ≡ g (get_or ts i d) → change_train i f ts ≡ change_train i g ts
-change_train-same [] i f g d e = refl
-change_train-same (t ∷ ts) zero f g d e = ap (λ s. s ∷ ts) e
-change_train-same (t ∷ ts) (suc i) f g d e = ap (λ ss. t ∷ ss) (change_train-same ts i f g d e)
+abbrev to_train : Row → List Call → Train
+to_train r cs = record { day = r.day; route = r.route; next_label = r.next_label; calls = cs }
 
-pub get_or-train : (cs : List Call) (rs : List Row) (i : ℕ) (d : Row) → get_or (map (train_of cs) rs) i (train_of cs d) ≡ train_of cs (get_or rs i d)
-get_or-train cs [] i d = refl
-get_or-train cs (r ∷ rs) zero d = refl
-get_or-train cs (r ∷ rs) (suc i) d = get_or-train cs rs i d
+-- what is known of a row's calls
+abbrev to_known : Row → List Call → ℕ × ℕ × List Call
+to_known r cs = (r.next_label, r.reported, cs)
 
--- what holds of each train holds of each row's
-pub loaded-at : (cs : List Call) (rs : List Row) (i : ℕ) (d : Row) → All IsLoaded (map (train_of cs) rs) → i < length rs → IsLoaded (train_of cs (get_or rs i d))
-loaded-at cs [] i d h l = absurd (omega arith)
-loaded-at cs (r ∷ rs) zero d h l = All-head IsLoaded (train_of cs r) (map (train_of cs) rs) h
-loaded-at cs (r ∷ rs) (suc i) d h l = loaded-at cs rs i d (All-tail IsLoaded (train_of cs r) (map (train_of cs) rs) h) (omega arith)
+abbrev IsKnown : ℕ → ℕ × ℕ × List Call → Type 0
+IsKnown spare k = IsTrainStored spare k.0 k.1 k.2
 
-reports-at : (cs : List Call) (rs : List Row) (i : ℕ) (d : Row) → HaveReportsWithin rs (map (train_of cs) rs) → i < length rs → HasReportsWithin (get_or rs i d).reported (train_of cs (get_or rs i d)).calls
-reports-at cs [] i d h l = absurd (omega arith)
-reports-at cs (r ∷ rs) zero d h l = h.0
-reports-at cs (r ∷ rs) (suc i) d h l = reports-at cs rs i d h.1 (omega arith)
+unmapped : {X Y : Type 0} (P : Y → Type 0) (f : X → Y) (xs : List X) → All P (map f xs) → All (λ x. P (f x)) xs
+unmapped P f xs h = λ k d l.
+    let len = length-map xs f in
+    subst P (get_or-map f xs k d (f d) l) (h k (f d) (omega arith))
 
--- a change that keeps it keeps it for all
-pub loaded-changed : (ts : List Train) (i : ℕ) (f : Train → Train) → ((t : Train) → IsLoaded t → IsLoaded (f t)) → All IsLoaded ts → All IsLoaded (change_train i f ts)
-loaded-changed [] i f k h = h
-loaded-changed (t ∷ ts) zero f k h =
-    All-cons IsLoaded (f t) ts (k t (All-head IsLoaded t ts h)) (All-tail IsLoaded t ts h)
-loaded-changed (t ∷ ts) (suc i) f k h =
-    All-cons IsLoaded t (change_train i f ts) (All-head IsLoaded t ts h) (loaded-changed ts i f k (All-tail IsLoaded t ts h))
+-- what is known of all rows, by what is made of them
+known : (spare : ℕ) (cs : List Call) (rs : List Row) → All (IsRowStored spare cs) rs → All (IsKnown spare) (made to_known cs rs)
+unfolding made
+known spare cs rs h = All-map (IsKnown spare) (λ r. to_known r (calls_by cs r)) rs h
 
--- the calls of a train are a stretch of all calls, and no calls where there is no such train
-pub calls_at-row : (cs : List Call) (rs : List Row) (i : ℕ) (d : Row) → i < length rs → option_map_or (λ (t : Train). t.calls) (slice_get (map (train_of cs) rs) i) [] ≡ stretch (get_or rs i d).first (get_or rs i d).len cs
+known-rows : (spare : ℕ) (cs : List Call) (rs : List Row) → All (IsKnown spare) (made to_known cs rs) → All (IsRowStored spare cs) rs
+unfolding made
+known-rows spare cs rs h = unmapped (IsKnown spare) (λ r. to_known r (calls_by cs r)) rs h
+
+pub less-spare : (more less : ℕ) → less ≤ more → (next reported : ℕ) (cs : List Call) → IsTrainStored more next reported cs → IsTrainStored less next reported cs
+less-spare more less l next reported cs h =
+    let small = h.labels.small in
+    record {
+      labels = record { distinct = h.labels.distinct; below = h.labels.below; some = h.labels.some; count = h.labels.count; small = omega arith };
+      reports = h.reports;
+    }
+
+all-less : (more less : ℕ) (cs : List Call) (rs : List Row) → less ≤ more → All (IsRowStored more cs) rs → All (IsRowStored less cs) rs
+all-less more less cs rs l h =
+    All-weaker (IsRowStored more cs) (IsRowStored less cs) (λ r. less-spare more less l r.next_label r.reported (calls_by cs r)) rs h
+
+set-train : (ts : List Train) (t : ℕ) (f : Train → Train) (x d : Train) → f (get_or ts t d) ≡ x → set ts t x ≡ change_train t f ts
+set-train [] t f x d e = refl
+set-train (s ∷ ts) zero f x d e = ap (λ r. r ∷ ts) (sym e)
+set-train (s ∷ ts) (suc t) f x d e = ap (λ rs. s ∷ rs) (set-train ts t f x d e)
+
+pub calls_at-row : (cs : List Call) (rs : List Row) (i : ℕ) (d : Row) → i < length rs → option_map_or (λ (t : Train). t.calls) (slice_get (map (train_of cs) rs) i) [] ≡ calls_by cs (get_or rs i d)
 calls_at-row cs [] i d l = absurd (omega arith)
 calls_at-row cs (r ∷ rs) zero d l = refl
 calls_at-row cs (r ∷ rs) (suc i) d l = calls_at-row cs rs i d (omega arith)
 
-pub calls_at-past : (cs : List Call) (rs : List Row) (i : ℕ) → length rs ≤ i → option_map_or (λ (t : Train). t.calls) (slice_get (map (train_of cs) rs) i) [] ≡ []
-calls_at-past cs [] i l = refl
-calls_at-past cs (r ∷ rs) zero l = absurd (omega arith)
-calls_at-past cs (r ∷ rs) (suc i) l = calls_at-past cs rs i (omega arith)
+-- the row of a train that is there
+pub record IsRowOf (a : Inside) (t : ℕ) (r : Row) : Type 0 where
+  pub stored : IsStored a
+  pub there : t < length a.rows.items
+  pub at : r ≡ get_or a.rows.items t r
 
--- where a call is found, its train is there
-pub found-train : (cs : List Call) (rs : List Row) (i l : ℕ) → is_some (find (is_call l) (option_map_or (λ (t : Train). t.calls) (slice_get (map (train_of cs) rs) i) [])) ≡ true → i < length rs
-found-train cs [] i l h = absurd (cc)
-found-train cs (r ∷ rs) zero l h = omega arith
-found-train cs (r ∷ rs) (suc i) l h = let k = found-train cs rs i l h in omega arith
+pub row-of : (a : Inside) (t i : ℕ) (r : Row) → IsStored a → t < length a.rows.items → r ≡ get_or a.rows.items i r → i ≡ t → IsRowOf a t r
+row-of a t i r s l e f =
+    record { stored = s; there = l; at = e ∙ ap (λ k. get_or a.rows.items k r) f }
 
--- an element that is there is within the list
-pub slice_get-some : {X : Type 0} (xs : List X) (i : ℕ) → is_some (slice_get xs i) ≡ true → i < length xs
-slice_get-some [] i h = absurd (cc)
-slice_get-some (x ∷ xs) zero h = omega arith
-slice_get-some (x ∷ xs) (suc i) h = let k = slice_get-some xs i h in omega arith
+module _ (a : Inside) (t : ℕ) (r : Row) (w : IsRowOf a t r) where
+  -- what its calls are
+  pub row-calls : calls_of (seen a) t ≡ calls_by a.calls.items r
+  row-calls = calls_at-row a.calls.items a.rows.items t r w.there ∙ ap (calls_by a.calls.items) (sym w.at)
 
--- what a train's calls are, by its row
-pub row-calls : (a : Inside) (t : ℕ) (r : Row) → t < length a.rows.items → r ≡ get_or a.rows.items t r → calls_of (seen a) t ≡ stretch r.first r.len a.calls.items
-row-calls a t r l e = calls_at-row a.calls.items a.rows.items t r l ∙ ap (λ (q : Row). stretch q.first q.len a.calls.items) (sym e)
+  -- and what is known of them
+  pub row-known : IsRowStored a.spare_calls a.calls.items r
+  row-known =
+      subst (IsRowStored a.spare_calls a.calls.items) (sym w.at) (w.stored.trains t r w.there)
 
--- they are labelled from 0 on
-pub row-loaded : (a : Inside) (t : ℕ) (r : Row) → IsStored a → t < length a.rows.items → r ≡ get_or a.rows.items t r → IsLoaded (train_of a.calls.items r)
-row-loaded a t r s l e = subst (λ (q : Row). IsLoaded (train_of a.calls.items q)) (sym e) (loaded-at a.calls.items a.rows.items t r s.loaded l)
+  pub row-is : get_or (map (train_of a.calls.items) a.rows.items) t (train_of a.calls.items r) ≡ train_of a.calls.items r
+  row-is =
+      get_or-map (train_of a.calls.items) a.rows.items t r (train_of a.calls.items r) w.there ∙ ap (train_of a.calls.items) (sym w.at)
 
--- only the first of them have reports
-pub row-reports : (a : Inside) (t : ℕ) (r : Row) → IsStored a → t < length a.rows.items → r ≡ get_or a.rows.items t r → HasReportsWithin r.reported (stretch r.first r.len a.calls.items)
-row-reports a t r s l e =
-    subst (λ (q : Row). HasReportsWithin q.reported (train_of a.calls.items q).calls) (sym e) (reports-at a.calls.items a.rows.items t r s.reports l)
+  -- the train that is seen
+  pub row-train : slice_get (map (train_of a.calls.items) a.rows.items) t ≡ Some (train_of a.calls.items r)
+  row-train =
+      let n = length-map a.rows.items (train_of a.calls.items) in
+      let l = w.there in
+      slice_get-get_or (map (train_of a.calls.items) a.rows.items) t (train_of a.calls.items r) (omega arith) ∙ ap Some row-is
 
--- and lie within all calls
-pub row-within : (a : Inside) (t : ℕ) (r : Row) → IsStored a → t < length a.rows.items → r ≡ get_or a.rows.items t r → r.first + r.len ≤ length a.calls.items
-row-within a t r s l e =
-    let k = laid-within first_of len_of 0 a.rows.items (length a.calls.items) t r s.laid l in
-    subst (λ (q : Row). q.first + q.len ≤ length a.calls.items) (sym e) k.1
+  pub row-within : r.first + r.len ≤ length a.calls.items
+  row-within =
+      let k = laid-within first_of len_of 0 a.rows.items (length a.calls.items) t r w.stored.laid w.there in
+      subst (λ (q : Row). q.first + q.len ≤ length a.calls.items) (sym w.at) k.1
 
-pub row-length : (a : Inside) (t : ℕ) (r : Row) → IsStored a → t < length a.rows.items → r ≡ get_or a.rows.items t r → length (stretch r.first r.len a.calls.items) ≡ r.len
-row-length a t r s l e = length-stretch a.calls.items r.first r.len (row-within a t r s l e)
+-- no two calls of a train have one label
+pub stored-distinct : (a : Inside) (st : State) → IsStored a → seen a ≡ st → All (λ (t : Train). HasDistinctLabels t.calls) st.trains
+stored-distinct a st s v =
+    subst (λ (st : State). All (λ (t : Train). HasDistinctLabels t.calls) st.trains) v
+    (All-map (λ (t : Train). HasDistinctLabels t.calls) (train_of a.calls.items) a.rows.items
+    (All-weaker (IsRowStored a.spare_calls a.calls.items) (λ r. HasDistinctLabels (calls_by a.calls.items r)) (λ r h. h.labels.distinct) a.rows.items s.trains))
 
-named-row : (a : Inside) (t l : ℕ) (r : Row) → IsStored a → t < length a.rows.items → r ≡ get_or a.rows.items t r → call_named (seen a) t l ≡ slice_get (stretch r.first r.len a.calls.items) l
-named-row a t l r s m e =
-    ap (find (is_call l)) (row-calls a t r m e) ∙ found (stretch r.first r.len a.calls.items) 0 l l (row-loaded a t r s m e).labels (omega arith)
+-- one row changed, and calls only where it has its own
+pub record IsRowChange (a b : Inside) (t : ℕ) (r q : Row) : Type 0 where
+  pub row : IsRowOf a t r
+  pub rows : b.rows.items ≡ set a.rows.items t q
+  pub first : q.first ≡ r.first
+  pub len : q.len ≡ r.len
+  pub within : IsChangedWithin r.first r.len a.calls.items b.calls.items
+  pub rows_capacity : vec_capacity b.rows ≡ vec_capacity a.rows
+  pub calls_capacity : vec_capacity b.calls ≡ vec_capacity a.calls
+  pub spare_trains : b.spare_trains ≡ a.spare_trains
+  pub spare_calls : b.spare_calls ≤ a.spare_calls
+  pub stored : IsRowStored b.spare_calls b.calls.items q
 
--- the call with a label is the one in its slot
-pub named-within : (a : Inside) (t l : ℕ) (r : Row) (c : Call) → IsStored a → t < length a.rows.items → r ≡ get_or a.rows.items t r → l < r.len → c ≡ get_or a.calls.items (r.first + l) c → call_named (seen a) t l ≡ Some c
-named-within a t l r c s m e n f =
-    let k = row-length a t r s m e in
-    named-row a t l r s m e
-    ∙ slice_get-get_or (stretch r.first r.len a.calls.items) l c (omega arith)
-    ∙ ap Some (get_or-stretch a.calls.items r.first r.len l c n ∙ sym f)
+module _ (a b : Inside) (t : ℕ) (r q : Row) (w : IsRowChange a b t r q) where
+  there : IsChangedWithin (get_or a.rows.items t r).first (get_or a.rows.items t r).len a.calls.items b.calls.items
+  there =
+      subst (λ (s : Row). IsChangedWithin s.first s.len a.calls.items b.calls.items) w.row.at w.within
 
--- there is none where the label is not below the count of the train's calls
-pub named-past : (a : Inside) (t l : ℕ) (r : Row) → IsStored a → t < length a.rows.items → r ≡ get_or a.rows.items t r → r.len ≤ l → call_named (seen a) t l ≡ None
-named-past a t l r s m e n =
-    let k = row-length a t r s m e in
-    named-row a t l r s m e ∙ slice_get_past (stretch r.first r.len a.calls.items) l (omega arith)
+  changed-laid : IsLaidOut first_of len_of 0 b.rows.items (length b.calls.items)
+  changed-laid =
+      subst (λ rs. IsLaidOut first_of len_of 0 rs (length b.calls.items)) (sym w.rows)
+      (subst (IsLaidOut first_of len_of 0 (set a.rows.items t q)) (sym w.within.length_same)
+      (laid-set first_of len_of 0 a.rows.items (length a.calls.items) t q r (w.first ∙ ap first_of w.row.at) (w.len ∙ ap len_of w.row.at) w.row.stored.laid))
 
--- nor where there is no such train
-pub named-nowhere : (a : Inside) (t l : ℕ) → length a.rows.items ≤ t → call_named (seen a) t l ≡ None
-named-nowhere a t l m = ap (find (is_call l)) (calls_at-past a.calls.items a.rows.items t m)
+  changed-known : All (IsRowStored b.spare_calls b.calls.items) b.rows.items
+  changed-known =
+      let xs = a.calls.items in
+      let ys = b.calls.items in
+      let rs = a.rows.items in
+      let old = known b.spare_calls xs rs (all-less a.spare_calls b.spare_calls xs rs w.spare_calls w.row.stored.trains) in
+      subst (All (IsRowStored b.spare_calls ys)) (sym w.rows)
+      (known-rows b.spare_calls ys (set rs t q)
+      (subst (All (IsKnown b.spare_calls)) (sym (changed to_known rs t 0 (length xs) q r xs ys w.row.stored.laid w.row.there there))
+      (All-set (IsKnown b.spare_calls) (made to_known xs rs) t (to_known q (calls_by ys q)) w.stored old)))
 
--- where there is a call, its label is below the count
-pub has-label : (a : Inside) (t l : ℕ) (r : Row) → IsStored a → t < length a.rows.items → r ≡ get_or a.rows.items t r → has_call (seen a) t l ≡ true → l < r.len
-has-label a t l r s m e h =
-    let k = row-length a t r s m e in
-    let n = slice_get-some (stretch r.first r.len a.calls.items) l (ap is_some (sym (named-row a t l r s m e)) ∙ h) in
+  -- it is stored as before
+  pub changed-stored : IsStored b
+  changed-stored =
+      let s = w.row.stored in
+      let rows : length b.rows.items ≡ length a.rows.items = ap length w.rows ∙ length-set a.rows.items t q in
+      let calls = w.within.length_same in
+      record {
+        laid = changed-laid;
+        trains = changed-known;
+        rows_room = let room = s.rows_room in omega (arith, w.rows_capacity, w.spare_trains);
+        calls_room = let room = s.calls_room in omega (arith, w.calls_capacity, w.spare_calls);
+        rows_small = let small = s.rows_small in omega (arith, w.spare_trains);
+        calls_small = let small = s.calls_small in omega (arith, w.spare_calls);
+      }
+
+  -- one train is changed
+  pub changed-trains : (f : Train → Train) → f (train_of a.calls.items r) ≡ train_of b.calls.items q → map (train_of b.calls.items) b.rows.items ≡ change_train t f (map (train_of a.calls.items) a.rows.items)
+  unfolding made
+  changed-trains f e =
+      let xs = a.calls.items in
+      let rs = a.rows.items in
+      ap (map (train_of b.calls.items)) w.rows
+      ∙ changed to_train rs t 0 (length xs) q r xs b.calls.items w.row.stored.laid w.row.there there
+      ∙ set-train (map (train_of xs) rs) t f (train_of b.calls.items q) (train_of xs r) (ap f (row-is a t r w.row) ∙ e)
+
+-- one row more, whose calls are appended to all calls
+pub record IsPush (a b : Inside) (r : Row) (new : List Call) : Type 0 where
+  pub before : IsStored a
+  pub rows : b.rows.items ≡ a.rows.items ++ r ∷ []
+  pub calls : b.calls.items ≡ a.calls.items ++ new
+  pub first : r.first ≡ length a.calls.items
+  pub len : r.len ≡ length new
+  pub own : r.own ≡ None
+  pub rows_capacity : vec_capacity b.rows ≡ vec_capacity a.rows
+  pub calls_capacity : vec_capacity b.calls ≡ vec_capacity a.calls
+  pub spare_trains : b.spare_trains + 1 ≡ a.spare_trains
+  pub spare_calls : b.spare_calls + length new ≡ a.spare_calls
+  pub stored : IsTrainStored b.spare_calls r.next_label r.reported new
+
+module _ (a b : Inside) (r : Row) (new : List Call) (w : IsPush a b r new) where
+  pushed-length : length b.calls.items ≡ length a.calls.items + length new
+  pushed-length = ap length w.calls ∙ length-append a.calls.items new
+
+  -- the calls of the new row
+  own-calls : calls_by b.calls.items r ≡ new
+  own-calls =
+      ap (λ o. unwrap_or o (stretch r.first r.len b.calls.items)) w.own
+      ∙ ap (stretch r.first r.len) w.calls
+      ∙ ap (λ k. stretch k r.len (a.calls.items ++ new)) w.first
+      ∙ ap (λ k. stretch (length a.calls.items) k (a.calls.items ++ new)) w.len
+      ∙ stretch-end a.calls.items new
+
+  front : take (length a.calls.items) b.calls.items ≡ take (length a.calls.items) a.calls.items
+  front =
+      let n = length a.calls.items in
+      ap (take n) w.calls ∙ take-append-le n a.calls.items new (omega arith)
+
+  pushed-known : All (IsRowStored b.spare_calls b.calls.items) b.rows.items
+  pushed-known =
+      let rs = a.rows.items in
+      let spare = w.spare_calls in
+      let old = known b.spare_calls a.calls.items rs (all-less a.spare_calls b.spare_calls a.calls.items rs (omega arith) w.before.trains) in
+      subst (All (IsRowStored b.spare_calls b.calls.items)) (sym w.rows)
+      (All-push (IsRowStored b.spare_calls b.calls.items) rs r
+      (known-rows b.spare_calls b.calls.items rs (subst (All (IsKnown b.spare_calls)) (sym (earlier to_known rs 0 (length a.calls.items) a.calls.items b.calls.items w.before.laid front)) old))
+      (subst (IsTrainStored b.spare_calls r.next_label r.reported) (sym own-calls) w.stored))
+
+  pub pushed-stored : IsStored b
+  pushed-stored =
+      let s = w.before in
+      let rows : length b.rows.items ≡ length a.rows.items + 1 = ap length w.rows ∙ length_push a.rows.items r in
+      let calls = pushed-length in
+      record {
+        laid = subst (λ rs. IsLaidOut first_of len_of 0 rs (length b.calls.items)) (sym w.rows)
+            (laid-push first_of len_of 0 a.rows.items (length a.calls.items) r (length b.calls.items) s.laid w.first (pushed-length ∙ ap (λ k. length a.calls.items + k) (sym w.len)));
+        trains = pushed-known;
+        rows_room = let room = s.rows_room in omega (arith, w.rows_capacity, w.spare_trains);
+        calls_room = let room = s.calls_room in omega (arith, w.calls_capacity, w.spare_calls);
+        rows_small = let small = s.rows_small in omega (arith, w.spare_trains);
+        calls_small = let small = s.calls_small in omega (arith, w.spare_calls);
+      }
+
+  pub pushed-trains : map (train_of b.calls.items) b.rows.items ≡ map (train_of a.calls.items) a.rows.items ++ record { day = r.day; route = r.route; next_label = r.next_label; calls = new } ∷ []
+  unfolding made
+  pushed-trains =
+      let rs = a.rows.items in
+      ap (map (train_of b.calls.items)) w.rows
+      ∙ map-append (train_of b.calls.items) rs (r ∷ [])
+      ∙ ap (λ ts. ts ++ train_of b.calls.items r ∷ []) (earlier to_train rs 0 (length a.calls.items) a.calls.items b.calls.items w.before.laid front)
+      ∙ ap (λ ds. map (train_of a.calls.items) rs ++ to_train r ds ∷ []) own-calls
+
+-- a train of the state has a row
+pub there-seen : (a : Inside) (st : State) (t : ℕ) → seen a ≡ st → t < length st.trains → t < length a.rows.items
+there-seen a st t v l =
+    let n : length st.trains ≡ length a.rows.items = ap (λ (s : State). length s.trains) (sym v) ∙ length-map a.rows.items (train_of a.calls.items) in
     omega arith
 
-pub has-train : (a : Inside) (t l : ℕ) → has_call (seen a) t l ≡ true → t < length a.rows.items
-has-train a t l h = found-train a.calls.items a.rows.items t l h
+some-there : (cs : List Call) (rs : List Row) (t j : ℕ) → j < length (option_map_or (λ (t : Train). t.calls) (slice_get (map (train_of cs) rs) t) []) → t < length rs
+some-there cs [] t j l = absurd (omega arith)
+some-there cs (r ∷ rs) zero j l = omega arith
+some-there cs (r ∷ rs) (suc t) j l = let k = some-there cs rs t j l in omega arith
 
-slice_get-within : {X : Type 0} (xs : List X) (i : ℕ) → i < length xs → is_some (slice_get xs i) ≡ true
-slice_get-within [] i l = absurd (omega arith)
-slice_get-within (x ∷ xs) zero l = refl
-slice_get-within (x ∷ xs) (suc i) l = slice_get-within xs i (omega arith)
+-- and so has a train with calls
+pub place-there : (a : Inside) (st : State) (t j : ℕ) → seen a ≡ st → j < length (calls_of st t) → t < length a.rows.items
+place-there a st t j v l =
+    some-there a.calls.items a.rows.items t j (subst (λ ds. j < length ds) (ap (λ (s : State). calls_of s t) (sym v)) l)
 
--- and where its label is below the count, there is a call
-pub has-within : (a : Inside) (t l : ℕ) (r : Row) → IsStored a → t < length a.rows.items → r ≡ get_or a.rows.items t r → l < r.len → has_call (seen a) t l ≡ true
-has-within a t l r s m e n =
-    let k = row-length a t r s m e in
-    ap is_some (named-row a t l r s m e) ∙ slice_get-within (stretch r.first r.len a.calls.items) l (omega arith)
-
-numbered-at : (ts : List Train) (t : ℕ) → All IsLoaded ts → AreNumbered 0 (option_map_or (λ (t : Train). t.calls) (slice_get ts t) [])
-unfolding AreNumbered
-numbered-at [] t h = tt
-numbered-at (t ∷ ts) zero h = (All-head IsLoaded t ts h).labels
-numbered-at (t ∷ ts) (suc i) h = numbered-at ts i (All-tail IsLoaded t ts h)
-
--- the calls of each train are labelled from 0 on
-pub stored-numbered : (a : Inside) (st : State) (t : ℕ) → IsStored a → seen a ≡ st → AreNumbered 0 (calls_of st t)
-stored-numbered a st t s e = subst (λ st. AreNumbered 0 (calls_of st t)) e (numbered-at (map (train_of a.calls.items) a.rows.items) t s.loaded)
-
-some-at : (ts : List Train) (t : ℕ) → All IsLoaded ts → t < length ts → 0 < length (option_map_or (λ (t : Train). t.calls) (slice_get ts t) [])
-some-at [] t h l = absurd (omega arith)
-some-at (t ∷ ts) zero h l = (All-head IsLoaded t ts h).some
-some-at (t ∷ ts) (suc i) h l = some-at ts i (All-tail IsLoaded t ts h) (omega arith)
-
--- each train has a call
-pub stored-some : (a : Inside) (st : State) (t : ℕ) → IsStored a → seen a ≡ st → t < length st.trains → 0 < length (calls_of st t)
-stored-some a st t s e = subst (λ (st : State). t < length st.trains → 0 < length (calls_of st t)) e (λ l. some-at (map (train_of a.calls.items) a.rows.items) t s.loaded l)
-
--- how many calls a train has
-pub calls-length : (a : Inside) (st : State) (t : ℕ) (r : Row) → IsStored a → seen a ≡ st → t < length a.rows.items → r ≡ get_or a.rows.items t r → length (calls_of st t) ≡ r.len
-calls-length a st t r s v l e = ap (λ st. length (calls_of st t)) (sym v) ∙ ap length (row-calls a t r l e) ∙ row-length a t r s l e
-
--- where a call is found, its label is below the count
-pub has-below : (cs : List Call) (l : ℕ) → AreNumbered 0 cs → is_some (find (is_call l) cs) ≡ true → l < length cs
-has-below cs l h k = slice_get-some cs l (ap is_some (sym (found cs 0 l l h (omega arith))) ∙ k)
-
--- the row of the train of an event
-pub record IsRowOf (a : Inside) (n : Node) (r : Row) : Type 0 where
-  pub there : n.train < length a.rows.items
-  pub at : r ≡ get_or a.rows.items n.train r
-  pub below : n.label < r.len
-  pub within : r.first + r.len ≤ length a.calls.items
-
-pub event-row : (a : Inside) (st : State) (n : Node) (r : Row) (i : ℕ) → IsStored a → seen a ≡ st → has_call st n.train n.label ≡ true → r ≡ get_or a.rows.items i r → i ≡ n.train → IsRowOf a n r
-event-row a st n r i s v h e f =
-    let has = ap (λ st. has_call st n.train n.label) v ∙ h in
-    let there = has-train a n.train n.label has in
-    let at = e ∙ ap (λ i. get_or a.rows.items i r) f in
-    record { there = there; at = at; below = has-label a n.train n.label r s there at has; within = row-within a n.train r s there at }
-
-pub live-row : (a : Inside) (st : State) (n : Node) (r : Row) (i : ℕ) → IsStored a → seen a ≡ st → is_live st n ≡ true → r ≡ get_or a.rows.items i r → i ≡ n.train → IsRowOf a n r
-live-row a st n r i s v h e f = event-row a st n r i s v (live-there st n (stored-numbered a st n.train s v) h) e f
-
--- only the first of a train's calls have reports, so many as its row says
-pub calls-reports : (a : Inside) (st : State) (t : ℕ) (r : Row) → IsStored a → seen a ≡ st → t < length a.rows.items → r ≡ get_or a.rows.items t r → HasReportsWithin r.reported (calls_of st t)
-calls-reports a st t r s v l e =
-    subst (λ st. HasReportsWithin r.reported (calls_of st t)) v
-    (subst (HasReportsWithin r.reported) (sym (row-calls a t r l e)) (row-reports a t r s l e))
+-- where all calls may have reports, there is none after them
+pub all-reported : (cs : List Call) → HasReportsWithin (length cs) cs
+all-reported cs =
+    record { within = omega arith; none = λ k d l. let n = length-drop (length cs) cs in absurd (omega arith) }

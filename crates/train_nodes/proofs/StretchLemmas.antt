@@ -2,7 +2,7 @@
 use Rattle.std.proofs.Common.{◌≡◌, ℕ, zero, suc, ◌+◌, ◌-◌, ◌<◌, ◌≤◌, List, [], ◌∷◌, ◌++◌, length, get_or, take, drop, sym, ◌∙◌, ap, subst, arith}
 use Rattle.std.proofs.Math.ListN.{set}
 use Rattle.std.proofs.Math.Seq.{take-set-lt, drop-append_seam}
-use Rattle.std.proofs.lemmas.List.{drop-set-lt, drop-set-add, take-set-le, get_or-take, get_or-drop, length-drop, length-take-le, drop-append-le, take-append-le, take_all}
+use Rattle.std.proofs.lemmas.List.{drop-set-add, length-drop, length-take-le, drop-drop, drop-take, take-take, take_all}
 use Rattle.train_nodes.specs.Stretches.{stretch, IsLaidOut}
 
 -- rows that are laid out end at or after their beginning
@@ -37,35 +37,32 @@ laid-set first len from [] end i r d e f h = h
 laid-set first len from (q ∷ rs) end zero r d e f h = (e ∙ h.0, subst (λ k. IsLaidOut first len (from + k) rs end) (sym f) h.1)
 laid-set first len from (q ∷ rs) end (suc i) r d e f h = (h.0, laid-set first len (from + len q) rs end i r d e f h.1)
 
--- a write before a stretch leaves it
-pub stretch-before : {X : Type 0} (xs : List X) (first len slot : ℕ) (x : X) → slot < first → stretch first len (set xs slot x) ≡ stretch first len xs
-stretch-before xs first len slot x l = ap (take len) (drop-set-lt first xs slot x l)
-
-stretch-past : {X : Type 0} (xs : List X) (first len j : ℕ) (x : X) → len ≤ j → stretch first len (set xs (first + j) x) ≡ stretch first len xs
-stretch-past xs first len j x l = ap (take len) (drop-set-add first xs j x) ∙ take-set-le len (drop first xs) j x l
-
--- so does a write after it
-pub stretch-after : {X : Type 0} (xs : List X) (first len slot : ℕ) (x : X) → first + len ≤ slot → stretch first len (set xs slot x) ≡ stretch first len xs
-stretch-after xs first len slot x l =
-    let e : slot ≡ first + (slot - first) = omega arith in
-    ap (λ s. stretch first len (set xs s x)) e ∙ stretch-past xs first len (slot - first) x (omega arith)
-
--- a write inside it is a write to it
+-- a write inside a stretch is a write to it
 pub stretch-inside : {X : Type 0} (xs : List X) (first len j : ℕ) (x : X) → j < len → stretch first len (set xs (first + j) x) ≡ set (stretch first len xs) j x
 stretch-inside xs first len j x l = ap (take len) (drop-set-add first xs j x) ∙ take-set-lt len (drop first xs) j x l
 
-pub get_or-stretch : {X : Type 0} (xs : List X) (first len j : ℕ) (d : X) → j < len → get_or (stretch first len xs) j d ≡ get_or xs (first + j) d
-get_or-stretch xs first len j d l = get_or-take len (drop first xs) j d l ∙ get_or-drop first xs j d
+front-part : {X : Type 0} (xs : List X) (first len end : ℕ) → first + len ≤ end → stretch first len xs ≡ stretch first len (take end xs)
+front-part xs first len end l =
+    let all : first + (end - first) ≡ end = omega arith in
+    sym (take-take len (end - first) (drop first xs) (omega arith)) ∙ ap (take len) (sym (drop-take first (end - first) xs))
+    ∙ ap (λ k. stretch first len (take k xs)) all
+
+-- a stretch stays where the list changes after it
+pub stretch-front : {X : Type 0} (xs ys : List X) (first len end : ℕ) → first + len ≤ end → take end ys ≡ take end xs → stretch first len ys ≡ stretch first len xs
+stretch-front xs ys first len end l e =
+    front-part ys first len end l ∙ ap (stretch first len) e ∙ sym (front-part xs first len end l)
+
+-- and where it changes before it
+pub stretch-back : {X : Type 0} (xs ys : List X) (first len start : ℕ) → start ≤ first → drop start ys ≡ drop start xs → stretch first len ys ≡ stretch first len xs
+stretch-back xs ys first len start l e =
+    let all : start + (first - start) ≡ first = omega arith in
+    ap (λ k. take len (drop k ys)) (sym all) ∙ ap (take len) (sym (drop-drop (first - start) start ys))
+    ∙ ap (λ zs. take len (drop (first - start) zs)) e
+    ∙ sym (ap (λ k. take len (drop k xs)) (sym all) ∙ ap (take len) (sym (drop-drop (first - start) start xs)))
 
 pub length-stretch : {X : Type 0} (xs : List X) (first len : ℕ) → first + len ≤ length xs → length (stretch first len xs) ≡ len
 length-stretch xs first len l = let n = length-drop first xs in length-take-le len (drop first xs) (omega arith)
 
--- what is appended changes no stretch
-pub stretch-append : {X : Type 0} (xs ys : List X) (first len : ℕ) → first + len ≤ length xs → stretch first len (xs ++ ys) ≡ stretch first len xs
-stretch-append xs ys first len l =
-    let n = length-drop first xs in
-    ap (take len) (drop-append-le first xs ys (omega arith)) ∙ take-append-le len (drop first xs) ys (omega arith)
-
--- and is a stretch of its own
+-- what is appended is a stretch of its own
 pub stretch-end : {X : Type 0} (xs ys : List X) → stretch (length xs) (length ys) (xs ++ ys) ≡ ys
 stretch-end xs ys = ap (take (length ys)) (drop-append_seam xs ys) ∙ take_all (length ys) ys (omega arith)

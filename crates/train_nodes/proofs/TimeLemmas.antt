@@ -1,137 +1,175 @@
--- Stored times and seen ones.
-use Rattle.std.proofs.Common.{◌≡◌, ℕ, zero, suc, ◌+◌, ◌<◌, ◌≤◌, List, [], ◌∷◌, ◌++◌, true, length, get_or, take, drop, refl, sym, ◌∙◌, ap, subst, arith, Some, slice_get, map, is_some, option_and_then}
+-- Kept times by event, after one is written, and after times are added or taken away.
+use Rattle.std.proofs.Common.{◌≡◌, ℕ, zero, suc, ◌+◌, ◌-◌, ◌*◌, ◌<◌, ◌≤◌, List, [], ◌∷◌, ◌++◌, Bool, true, false, cond, ◌&&◌, nat_eq, length, get_or, take, refl, sym, ◌∙◌, ap, arith, Option, Some, None, slice_get, is_some, option_and_then, option_map}
+use mathlib.Core.Bool.{beq}
 use Rattle.std.proofs.Math.ListN.{set}
-use Rattle.std.proofs.lemmas.List.{map-append, length-append, length-drop, drop-append-le, take_all}
+use Rattle.std.proofs.Math.Seq.{take-append_seam}
+use Rattle.std.proofs.lemmas.Bool.Decides.{nat_tests}
+use Rattle.std.proofs.lemmas.List.{length-append, length-replicate, get_or-replicate}
 use Rattle.std.proofs.lemmas.Option.{slice_get-get_or}
 use Rattle.mt_base.specs.declared.keys.Node.{Node}
-use Rattle.train_nodes.specs.declared.times.Stretch.{Stretch}
-use Rattle.train_nodes.specs.declared.times.NodeTimes.TheInside.{Inside}
-use Rattle.train_nodes.specs.Stretches.{stretch, IsLaidOut}
-use Rattle.train_nodes.specs.StoredTimes.{times_of, seen, first_of, len_of, AreStored}
-use Rattle.train_nodes.specs.Kept.{place_of, time_of, has_time, change_at}
-use Rattle.train_nodes.proofs.StretchLemmas.{laid-ends, laid-within, stretch-before, stretch-after, stretch-inside, stretch-append, stretch-end, length-stretch, get_or-stretch}
-use Rattle.train_nodes.proofs.StoredLemmas.{slice_get-some}
+use Rattle.mt_base.specs.Order.{is_same_node}
+use Rattle.train_nodes.specs.Kept.{Kept, place_of, time_of, has_time, change_at, with_time, no_time, blank_times, with_train_times, without_last, with_labels, without_labels}
 
-apart : (rs : List Stretch) (from end slot : ℕ) (ts : List ℕ) (x : ℕ) → IsLaidOut first_of len_of from rs end → slot < from → map (times_of (set ts slot x)) rs ≡ map (times_of ts) rs
-unfolding IsLaidOut
-apart [] from end slot ts x h l = refl
-apart (r ∷ rs) from end slot ts x h l =
-    let e : r.first ≡ from = h.0 in
-    ap (λ xs. xs ∷ map (times_of (set ts slot x)) rs) (stretch-before ts r.first r.len slot x (omega arith))
-    ∙ ap (λ xss. times_of ts r ∷ xss) (apart rs (from + r.len) end slot ts x h.1 (omega arith))
+-- the time at a place of a train
+abbrev time_at : List (List ℕ) → ℕ → ℕ → Option ℕ
+time_at tss i p = option_and_then (λ ts. slice_get ts p) (slice_get tss i)
 
--- a write to a slot of a train's changes that train alone
-pub written : (rs : List Stretch) (i : ℕ) (d : Stretch) (from end j : ℕ) (ts : List ℕ) (x : ℕ) → IsLaidOut first_of len_of from rs end → i < length rs → j < (get_or rs i d).len → map (times_of (set ts ((get_or rs i d).first + j) x)) rs ≡ change_at i (λ xs. set xs j x) (map (times_of ts) rs)
-unfolding IsLaidOut
-written [] i d from end j ts x h l m = absurd (omega arith)
-written (r ∷ rs) zero d from end j ts x h l m =
-    let e : r.first ≡ from = h.0 in
-    ap (λ xs. xs ∷ map (times_of (set ts (r.first + j) x)) rs) (stretch-inside ts r.first r.len j x m)
-    ∙ ap (λ xss. set (stretch r.first r.len ts) j x ∷ xss) (apart rs (from + r.len) end (r.first + j) ts x h.1 (omega arith))
-written (r ∷ rs) (suc i) d from end j ts x h l m =
-    let e : r.first ≡ from = h.0 in
-    let k = laid-within first_of len_of (from + r.len) rs end i d h.1 (omega arith) in
-    let later : from + r.len ≤ (get_or rs i d).first = k.0 in
-    ap (λ xs. xs ∷ map (times_of (set ts ((get_or rs i d).first + j) x)) rs) (stretch-after ts r.first r.len ((get_or rs i d).first + j) x (omega arith))
-    ∙ ap (λ xss. times_of ts r ∷ xss) (written rs i d (from + r.len) end j ts x h.1 (omega arith) m)
+-- to put a changed element in its place is to change the one there
+pub set-changed : {X : Type 0} (f : X → X) (xs : List X) (i j : ℕ) (x y : X) → x ≡ get_or xs i x → y ≡ f x → i ≡ j → set xs i y ≡ change_at j f xs
+set-changed f [] i j x y p q e = refl
+set-changed f (z ∷ xs) zero zero x y p q e = ap (λ w. w ∷ xs) (q ∙ ap f p)
+set-changed f (z ∷ xs) zero (suc j) x y p q e = absurd (omega arith)
+set-changed f (z ∷ xs) (suc i) zero x y p q e = absurd (omega arith)
+set-changed f (z ∷ xs) (suc i) (suc j) x y p q e = ap (λ ws. z ∷ ws) (set-changed f xs i j x y p q (omega arith))
 
-appended : (rs : List Stretch) (from : ℕ) (ts new : List ℕ) → IsLaidOut first_of len_of from rs (length ts) → map (times_of (ts ++ new)) rs ≡ map (times_of ts) rs
-unfolding IsLaidOut
-appended [] from ts new h = refl
-appended (r ∷ rs) from ts new h =
-    let e : r.first ≡ from = h.0 in
-    let k = laid-ends first_of len_of (from + r.len) rs (length ts) h.1 in
-    ap (λ xs. xs ∷ map (times_of (ts ++ new)) rs) (stretch-append ts new r.first r.len (omega arith))
-    ∙ ap (λ xss. times_of ts r ∷ xss) (appended rs (from + r.len) ts new h.1)
+within : {X : Type 0} (xs : List X) (i : ℕ) → is_some (slice_get xs i) ≡ true → i < length xs
+within [] i h = absurd (cc)
+within (x ∷ xs) zero h = omega arith
+within (x ∷ xs) (suc i) h = let k = within xs i h in omega arith
 
--- a first time for a new train
-pub begun : (rs : List Stretch) (ts : List ℕ) (x : ℕ) (r : Stretch) → IsLaidOut first_of len_of 0 rs (length ts) → r.first ≡ length ts → r.len ≡ 1 → map (times_of (ts ++ x ∷ [])) (rs ++ r ∷ []) ≡ map (times_of ts) rs ++ (x ∷ []) ∷ []
-begun rs ts x r h e f =
-    map-append (times_of (ts ++ x ∷ [])) rs (r ∷ [])
-    ∙ ap (λ xss. xss ++ times_of (ts ++ x ∷ []) r ∷ []) (appended rs 0 ts (x ∷ []) h)
-    ∙ ap (λ xs. map (times_of ts) rs ++ xs ∷ []) (ap (λ k. stretch k r.len (ts ++ x ∷ [])) e ∙ ap (λ k. stretch (length ts) k (ts ++ x ∷ [])) f ∙ stretch-end ts (x ∷ []))
+train-there : (tss : List (List ℕ)) (i p : ℕ) → is_some (time_at tss i p) ≡ true → i < length tss
+train-there [] i p h = absurd (cc)
+train-there (ts ∷ tss) zero p h = omega arith
+train-there (ts ∷ tss) (suc i) p h = let k = train-there tss i p h in omega arith
 
-stretch-longer : (ts : List ℕ) (x first len : ℕ) → first + len ≡ length ts → stretch first (len + 1) (ts ++ x ∷ []) ≡ stretch first len ts ++ x ∷ []
-stretch-longer ts x first len e =
-    let n = length-drop first ts in
-    let m = length-append (drop first ts) (x ∷ []) in
-    ap (take (len + 1)) (drop-append-le first ts (x ∷ []) (omega arith))
-    ∙ take_all (len + 1) (drop first ts ++ x ∷ []) (omega arith)
-    ∙ ap (λ ys. ys ++ x ∷ []) (sym (take_all len (drop first ts) (omega arith)))
-
--- one more time for the last train
-pub gone-on : (rs : List Stretch) (i from : ℕ) (ts : List ℕ) (x : ℕ) (r new : Stretch) → IsLaidOut first_of len_of from rs (length ts) → i + 1 ≡ length rs → r ≡ get_or rs i r → new.first ≡ r.first → new.len ≡ r.len + 1 → map (times_of (ts ++ x ∷ [])) (set rs i new) ≡ change_at i (λ xs. xs ++ x ∷ []) (map (times_of ts) rs)
-unfolding IsLaidOut
-gone-on [] i from ts x r new h l e f g = refl
-gone-on (s ∷ []) zero from ts x r new h l e f g =
-    let ends : from + s.len ≡ length ts = h.1 in
-    let begins : s.first ≡ from = h.0 in
-    let same_first : new.first ≡ s.first = f ∙ ap (λ (r : Stretch). r.first) e in
-    let same_len : new.len ≡ s.len + 1 = g ∙ ap (λ (r : Stretch). r.len + 1) e in
-    ap (λ k. stretch k new.len (ts ++ x ∷ []) ∷ []) same_first
-    ∙ ap (λ k. stretch s.first k (ts ++ x ∷ []) ∷ []) same_len
-    ∙ ap (λ xs. xs ∷ []) (stretch-longer ts x s.first s.len (omega arith))
-gone-on (s ∷ []) (suc i) from ts x r new h l e f g = absurd (omega arith)
-gone-on (s ∷ t ∷ rs) zero from ts x r new h l e f g = absurd (omega arith)
-gone-on (s ∷ t ∷ rs) (suc i) from ts x r new h l e f g =
-    let begins : s.first ≡ from = h.0 in
-    let k = laid-ends first_of len_of (from + s.len) (t ∷ rs) (length ts) h.1 in
-    ap (λ xs. xs ∷ map (times_of (ts ++ x ∷ [])) (set (t ∷ rs) i new)) (stretch-append ts (x ∷ []) s.first s.len (omega arith))
-    ∙ ap (λ xss. times_of ts s ∷ xss) (gone-on (t ∷ rs) i (from + s.len) ts x r new h.1 (omega arith) e f g)
-
--- the rows stay laid out
-pub laid-longer : (rs : List Stretch) (i from end : ℕ) (r new : Stretch) → IsLaidOut first_of len_of from rs end → i + 1 ≡ length rs → r ≡ get_or rs i r → new.first ≡ r.first → new.len ≡ r.len + 1 → IsLaidOut first_of len_of from (set rs i new) (end + 1)
-unfolding IsLaidOut
-laid-longer [] i from end r new h l e f g = absurd (omega arith)
-laid-longer (s ∷ []) zero from end r new h l e f g =
-    let ends : from + s.len ≡ end = h.1 in
-    let begins : s.first ≡ from = h.0 in
-    let same_first : new.first ≡ s.first = f ∙ ap (λ (r : Stretch). r.first) e in
-    let same_len : new.len ≡ s.len + 1 = g ∙ ap (λ (r : Stretch). r.len + 1) e in
-    (omega arith, omega arith)
-laid-longer (s ∷ []) (suc i) from end r new h l e f g = absurd (omega arith)
-laid-longer (s ∷ t ∷ rs) zero from end r new h l e f g = absurd (omega arith)
-laid-longer (s ∷ t ∷ rs) (suc i) from end r new h l e f g =
-    (h.0, laid-longer (t ∷ rs) i (from + s.len) end r new h.1 (omega arith) e f g)
-
-row-at : (ts : List ℕ) (rs : List Stretch) (i : ℕ) (d : Stretch) → i < length rs → slice_get (map (times_of ts) rs) i ≡ Some (times_of ts (get_or rs i d))
-row-at ts [] i d l = absurd (omega arith)
-row-at ts (r ∷ rs) zero d l = refl
-row-at ts (r ∷ rs) (suc i) d l = row-at ts rs i d (omega arith)
-
-found-row : (ts : List ℕ) (rs : List Stretch) (i p : ℕ) → is_some (option_and_then (λ xs. slice_get xs p) (slice_get (map (times_of ts) rs) i)) ≡ true → i < length rs
-found-row ts [] i p h = absurd (cc)
-found-row ts (r ∷ rs) zero p h = omega arith
-found-row ts (r ∷ rs) (suc i) p h = let k = found-row ts rs i p h in omega arith
-
-time-row : (a : Inside) (n : Node) (r : Stretch) → n.train < length a.rows.items → r ≡ get_or a.rows.items n.train r → time_of (seen a) n ≡ slice_get (stretch r.first r.len a.times.items) (place_of n)
-unfolding time_of
-time-row a n r l e =
-    ap (option_and_then (λ ts. slice_get ts (place_of n))) (row-at a.times.items a.rows.items n.train r l)
-    ∙ ap (λ (q : Stretch). slice_get (stretch q.first q.len a.times.items) (place_of n)) (sym e)
+place-there : (tss : List (List ℕ)) (i p : ℕ) (ts : List ℕ) → is_some (time_at tss i p) ≡ true → ts ≡ get_or tss i ts → p < length ts
+place-there [] i p ts h e = absurd (cc)
+place-there (us ∷ tss) zero p ts h e = rw e (within us p h)
+place-there (us ∷ tss) (suc i) p ts h e = place-there tss i p ts h e
 
 -- where an event has a time, its train is there
-pub time-train : (a : Inside) (n : Node) → has_time (seen a) n ≡ true → n.train < length a.rows.items
+pub time-train : (k : Kept) (n : Node) → has_time k n ≡ true → n.train < length k.trains
 unfolding time_of
-time-train a n h = found-row a.times.items a.rows.items n.train (place_of n) h
+time-train k n h = train-there k.trains n.train (place_of n) h
 
--- its train's times lie within all times
-pub times-within : (a : Inside) (t : ℕ) (r : Stretch) → AreStored a → t < length a.rows.items → r ≡ get_or a.rows.items t r → r.first + r.len ≤ length a.times.items
-times-within a t r s l e =
-    let k = laid-within first_of len_of 0 a.rows.items (length a.times.items) t r s.laid l in
-    subst (λ (q : Stretch). q.first + q.len ≤ length a.times.items) (sym e) k.1
+-- and its place is among the times of the train
+pub time-place : (k : Kept) (n : Node) (ts : List ℕ) → has_time k n ≡ true → ts ≡ get_or k.trains n.train ts → place_of n < length ts
+unfolding time_of
+time-place k n ts h e = place-there k.trains n.train (place_of n) ts h e
 
--- and its place is among them
-pub time-place : (a : Inside) (n : Node) (r : Stretch) → AreStored a → n.train < length a.rows.items → r ≡ get_or a.rows.items n.train r → has_time (seen a) n ≡ true → place_of n < r.len
-time-place a n r s l e h =
-    let k = length-stretch a.times.items r.first r.len (times-within a n.train r s l e) in
-    let m = slice_get-some (stretch r.first r.len a.times.items) (place_of n) (ap is_some (sym (time-row a n r l e)) ∙ h) in
-    omega arith
+-- the time of an event stands there
+pub time-read : (k : Kept) (n : Node) (ts : List ℕ) (x : ℕ) → n.train < length k.trains → ts ≡ get_or k.trains n.train ts → slice_get ts (place_of n) ≡ Some x → time_of k n ≡ Some x
+unfolding time_of
+time-read k n ts x l e h =
+    ap (option_and_then (λ ts. slice_get ts (place_of n))) (slice_get-get_or k.trains n.train ts l ∙ ap Some (sym e)) ∙ h
 
--- the time of an event is the one in its slot
-pub time-slot : (a : Inside) (n : Node) (r : Stretch) (x : ℕ) → AreStored a → n.train < length a.rows.items → r ≡ get_or a.rows.items n.train r → place_of n < r.len → x ≡ get_or a.times.items (r.first + place_of n) x → time_of (seen a) n ≡ Some x
-time-slot a n r x s l e m f =
-    let k = length-stretch a.times.items r.first r.len (times-within a n.train r s l e) in
-    time-row a n r l e
-    ∙ slice_get-get_or (stretch r.first r.len a.times.items) (place_of n) x (omega arith)
-    ∙ ap Some (get_or-stretch a.times.items r.first r.len (place_of n) x m ∙ sym f)
+set-slot : (xs : List ℕ) (i j x : ℕ) → i < length xs → slice_get (set xs i x) j ≡ cond (nat_eq i j) (Some x) (slice_get xs j)
+set-slot [] i j x l = absurd (omega arith)
+set-slot (y ∷ xs) zero zero x l = refl
+set-slot (y ∷ xs) zero (suc j) x l = grind (arith, nat_tests)
+set-slot (y ∷ xs) (suc i) zero x l = grind (arith, nat_tests)
+set-slot (y ∷ xs) (suc i) (suc j) x l = let rest = set-slot xs i j x (omega arith) in grind (arith, nat_tests, rest)
+
+set-time : (tss : List (List ℕ)) (i j p q x : ℕ) → is_some (time_at tss i p) ≡ true → time_at (change_at i (λ ts. set ts p x) tss) j q ≡ cond (nat_eq i j && nat_eq p q) (Some x) (time_at tss j q)
+set-time [] i j p q x h = absurd (cc)
+set-time (ts ∷ tss) zero zero p q x h = set-slot ts p q x (within ts p h)
+set-time (ts ∷ tss) zero (suc j) p q x h = grind (arith, nat_tests)
+set-time (ts ∷ tss) (suc i) zero p q x h = grind (arith, nat_tests)
+set-time (ts ∷ tss) (suc i) (suc j) p q x h = let rest = set-time tss i j p q x h in grind (arith, nat_tests, rest)
+
+-- two places of a train are one where the labels are, and both are arrivals or departures
+place-test : (l m : ℕ) (d e : Bool) → nat_eq (2 * l + cond d 1 0) (2 * m + cond e 1 0) ≡ (nat_eq l m && beq d e)
+place-test l m true true = grind (arith, nat_tests)
+place-test l m true false = grind (arith, nat_tests)
+place-test l m false true = grind (arith, nat_tests)
+place-test l m false false = grind (arith, nat_tests)
+
+-- a written time is the event's, and the others stay
+pub with_time-law : (k : Kept) (n m : Node) (x : ℕ) → has_time k n ≡ true → time_of (with_time n x k) m ≡ cond (is_same_node n m) (Some x) (time_of k m)
+unfolding time_of is_same_node
+with_time-law k n m x h =
+    set-time k.trains n.train m.train (place_of n) (place_of m) x h
+    ∙ ap (λ b. cond (nat_eq n.train m.train && b) (Some x) (time_at k.trains m.train (place_of m))) (place-test n.label m.label n.dep m.dep)
+
+get-before : {X : Type 0} (xs ys : List X) (i : ℕ) → is_some (slice_get xs i) ≡ true → slice_get (xs ++ ys) i ≡ slice_get xs i
+get-before [] ys i h = absurd (cc)
+get-before (x ∷ xs) ys zero h = refl
+get-before (x ∷ xs) ys (suc i) h = get-before xs ys i h
+
+get-past : {X : Type 0} (xs ys : List X) (i j : ℕ) → i ≡ length xs + j → slice_get (xs ++ ys) i ≡ slice_get ys j
+get-past [] ys i j e = let same : i ≡ j = omega arith in ap (slice_get ys) same
+get-past (x ∷ xs) ys zero j e = absurd (omega arith)
+get-past (x ∷ xs) ys (suc i) j e = get-past xs ys i j (omega arith)
+
+get-blank : (labels i : ℕ) → i < 2 * labels → slice_get (blank_times labels) i ≡ Some no_time
+get-blank labels i l =
+    slice_get-get_or (blank_times labels) i 0 (omega (arith, length-replicate (2 * labels) no_time))
+    ∙ ap Some (get_or-replicate (2 * labels) i no_time 0 l)
+
+below : (label m : ℕ) (d : Bool) → label < m → 2 * label + cond d 1 0 < 2 * m
+below label m true l = omega arith
+below label m false l = omega arith
+
+some-first : (o : Option (List ℕ)) (p : ℕ) → is_some (option_and_then (λ ts. slice_get ts p) o) ≡ true → is_some o ≡ true
+some-first None p h = absurd (cc)
+some-first (Some ts) p h = refl
+
+-- with times for one more train, an old time stays
+pub pushed-old : (labels : ℕ) (k : Kept) (n : Node) → has_time k n ≡ true → time_of (with_train_times labels k) n ≡ time_of k n
+unfolding time_of
+pushed-old labels k n h =
+    ap (option_and_then (λ ts. slice_get ts (place_of n))) (get-before k.trains (blank_times labels ∷ []) n.train (some-first (slice_get k.trains n.train) (place_of n) h))
+
+-- and a new one is that of no event
+pub pushed-new : (labels : ℕ) (k : Kept) (n : Node) → n.train ≡ length k.trains → n.label < labels → time_of (with_train_times labels k) n ≡ Some no_time
+unfolding time_of
+pushed-new labels k n e l =
+    ap (option_and_then (λ ts. slice_get ts (place_of n))) (get-past k.trains (blank_times labels ∷ []) n.train 0 (omega arith))
+    ∙ get-blank labels (place_of n) (below n.label labels n.dep l)
+
+-- to take them away leaves what was
+pub popped-again : (labels : ℕ) (k : Kept) → without_last (with_train_times labels k) ≡ k
+popped-again labels k =
+    let added : length (k.trains ++ blank_times labels ∷ []) - 1 ≡ length k.trains = omega (arith, length-append k.trains (blank_times labels ∷ [])) in
+    ap (λ tss. let new : Kept = record { trains = tss } in new)
+    (ap (λ n. take n (k.trains ++ blank_times labels ∷ [])) added ∙ take-append_seam k.trains (blank_times labels ∷ []))
+
+lengthened-old : (tss : List (List ℕ)) (new : List ℕ) (t i p : ℕ) → is_some (time_at tss i p) ≡ true → time_at (change_at t (λ ts. ts ++ new) tss) i p ≡ time_at tss i p
+lengthened-old [] new t i p h = refl
+lengthened-old (ts ∷ tss) new zero zero p h = get-before ts new p h
+lengthened-old (ts ∷ tss) new zero (suc i) p h = refl
+lengthened-old (ts ∷ tss) new (suc t) zero p h = refl
+lengthened-old (ts ∷ tss) new (suc t) (suc i) p h = lengthened-old tss new t i p h
+
+lengthened-new : (tss : List (List ℕ)) (new : List ℕ) (i p q m : ℕ) → option_map length (slice_get tss i) ≡ Some m → p ≡ m + q → time_at (change_at i (λ ts. ts ++ new) tss) i p ≡ slice_get new q
+lengthened-new [] new i p q m h e = absurd (cc)
+lengthened-new (ts ∷ tss) new zero p q m h e = let same : length ts ≡ m = cc in get-past ts new p q (omega arith)
+lengthened-new (ts ∷ tss) new (suc i) p q m h e = lengthened-new tss new i p q m h e
+
+-- with times for more labels of a train, an old time stays
+pub added-old : (t labels : ℕ) (k : Kept) (n : Node) → has_time k n ≡ true → time_of (with_labels t labels k) n ≡ time_of k n
+unfolding time_of
+added-old t labels k n h = lengthened-old k.trains (blank_times labels) t n.train (place_of n) h
+
+beyond : (label next labels : ℕ) (d : Bool) → next ≤ label → label < next + labels → (q : ℕ) × (2 * label + cond d 1 0 ≡ 2 * next + q) × (q < 2 * labels)
+beyond label next labels true l m = (2 * (label - next) + 1, omega arith, omega arith)
+beyond label next labels false l m = (2 * (label - next), omega arith, omega arith)
+
+-- and a new one is that of no event
+pub added-new : (t labels : ℕ) (k : Kept) (n : Node) (next : ℕ) → n.train ≡ t → option_map length (slice_get k.trains t) ≡ Some (2 * next) → next ≤ n.label → n.label < next + labels → time_of (with_labels t labels k) n ≡ Some no_time
+unfolding time_of
+added-new t labels k n next e h l m =
+    let q = beyond n.label next labels n.dep l m in
+    ap (λ i. time_at (change_at t (λ ts. ts ++ blank_times labels) k.trains) i (place_of n)) e
+    ∙ lengthened-new k.trains (blank_times labels) t (place_of n) q.0 (2 * next) h q.1
+    ∙ get-blank labels q.0 q.2
+
+cut-again : (tss : List (List ℕ)) (new : List ℕ) (t m : ℕ) → option_map length (slice_get tss t) ≡ Some m → change_at t (take m) (change_at t (λ ts. ts ++ new) tss) ≡ tss
+cut-again [] new t m h = refl
+cut-again (ts ∷ tss) new zero m h =
+    let same : m ≡ length ts = cc in
+    ap (λ ts. ts ∷ tss) (ap (λ m. take m (ts ++ new)) same ∙ take-append_seam ts new)
+cut-again (ts ∷ tss) new (suc t) m h = ap (λ tss. ts ∷ tss) (cut-again tss new t m h)
+
+-- to take away what was added leaves what was
+pub kept-again : (t labels next : ℕ) (k : Kept) → option_map length (slice_get k.trains t) ≡ Some (2 * next) → without_labels t next (with_labels t labels k) ≡ k
+kept-again t labels next k h = ap (λ tss. let new : Kept = record { trains = tss } in new) (cut-again k.trains (blank_times labels) t (2 * next) h)
+
+held-at : (o : Option (List ℕ)) (p m : ℕ) → option_map length o ≡ Some m → p < m → is_some (option_and_then (λ ts. slice_get ts p) o) ≡ true
+held-at None p m h l = absurd (cc)
+held-at (Some ts) p m h l = let same : length ts ≡ m = cc in ap is_some (slice_get-get_or ts p 0 (omega arith))
+
+-- each label of a train has its times
+pub held : (k : Kept) (n : Node) (next : ℕ) → option_map length (slice_get k.trains n.train) ≡ Some (2 * next) → n.label < next → has_time k n ≡ true
+unfolding time_of
+held k n next h l = held-at (slice_get k.trains n.train) (place_of n) (2 * next) h (below n.label next n.dep l)

@@ -1,12 +1,11 @@
 -- Kept times by event.
-use Rattle.std.specs.Prelude.{ℕ, zero, suc, ◌+◌, ◌-◌, ◌*◌, List, [], ◌∷◌, ◌++◌, Bool, ◌&&◌, ◌||◌, nat_eq, if◌then◌else◌, Option, is_some, slice_get, slice_set, slice_index_or, option_and_then, length}
+use Rattle.std.specs.Prelude.{◌≡◌, ℕ, zero, suc, ◌+◌, ◌-◌, ◌*◌, List, [], ◌∷◌, ◌++◌, Bool, if◌then◌else◌, Option, is_some, slice_get, slice_set, map, take, replicate, length}
+use Rattle.std.specs.Option.{option_and_then}
 use Rattle.mt_base.specs.declared.keys.Node.{Node}
 
--- for each train the times that are kept for its events, in the order of its labels and of each label the arrival first; and for
--- how many more events a time may be kept
+-- for each train the times that are kept for its events, in the order of its labels and of each label the arrival first
 pub record Kept : Type 0 where
   pub trains : List (List ℕ)
-  pub spare : ℕ
 
 -- the place of an event among those of its train
 abbrev pub place_of : Node → ℕ
@@ -30,31 +29,30 @@ change_at (suc n) f (x ∷ xs) = x ∷ change_at n f xs
 abbrev pub with_time : Node → ℕ → Kept → Kept
 with_time n time k = record k { trains = change_at n.train (λ ts. slice_set ts (place_of n) time) k.trains }
 
--- the event is the first of the train after all that have times
-abbrev pub begins_train : Kept → Node → Bool
-begins_train k n = nat_eq n.train (length k.trains) && nat_eq (place_of n) 0
-
--- the event is of the last train that has times, and the next after those that have
-abbrev pub goes_on : Kept → Node → Bool
-goes_on k n = nat_eq (n.train + 1) (length k.trains) && nat_eq (place_of n) (length (slice_index_or k.trains n.train []))
-
--- the event is the next one, in the order of trains, labels, and the arrival before the departure
-abbrev pub is_next : Kept → Node → Bool
-is_next k n = begins_train k n || goes_on k n
-
--- a first time for the train after the others, which takes a spare one
-abbrev pub with_first : ℕ → Kept → Kept
-with_first time k = record k { trains = k.trains ++ (time ∷ []) ∷ []; spare = k.spare - 1 }
-
--- one more time for a train, which takes a spare one
-abbrev pub with_further : ℕ → ℕ → Kept → Kept
-with_further train time k = record k { trains = change_at train (λ ts. ts ++ time ∷ []) k.trains; spare = k.spare - 1 }
-
--- a time for the next event
-abbrev pub with_next : Node → ℕ → Kept → Kept
-with_next n time k =
-    if nat_eq n.train (length k.trains) then with_first time k else with_further n.train time k
-
 -- the time of an event that was never settled: 2^25 - 1, which no event has by the rule for times
 abbrev pub no_time : ℕ
 no_time = 33554431
+
+-- so many times that no event has: two for each label
+abbrev pub blank_times : ℕ → List ℕ
+blank_times labels = replicate (2 * labels) no_time
+
+-- times for one more train, which has so many labels
+abbrev pub with_train_times : ℕ → Kept → Kept
+with_train_times labels k = record k { trains = k.trains ++ blank_times labels ∷ [] }
+
+-- the times of the last train go
+abbrev pub without_last : Kept → Kept
+without_last k = record k { trains = take (length k.trains - 1) k.trains }
+
+-- times for so many more labels of a train
+abbrev pub with_labels : ℕ → ℕ → Kept → Kept
+with_labels train labels k = record k { trains = change_at train (λ ts. ts ++ blank_times labels) k.trains }
+
+-- of a train the times of the first so many labels alone
+abbrev pub without_labels : ℕ → ℕ → Kept → Kept
+without_labels train labels k = record k { trains = change_at train (take (2 * labels)) k.trains }
+
+-- the times of each train are those of so many labels
+abbrev pub AreSized : List ℕ → Kept → Type 0
+AreSized labels k = map length k.trains ≡ map (λ n. 2 * n) labels

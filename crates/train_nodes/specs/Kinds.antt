@@ -1,4 +1,5 @@
 -- Kinds of messages.
+use Rattle.std.specs.Prelude.{◌^◌, ◌<◌, length}
 use Rattle.delay_model.specs.declared.messages.Message.{Message}
 use Rattle.delay_model.specs.declared.messages.Message.TheVariants.{Report, Forecast, Cancel, Reroute, Extra, Keep, Drop, Rule}
 
@@ -15,9 +16,15 @@ IsChoice (Drop feeder train) = Unit {0}
 IsChoice (Rule feeder train) = Unit {0}
 IsChoice _ = ⊥
 
--- the message leaves the calls of all trains, and which of their events take place, as they are
-abbrev pub LeavesCalls : Message → Type 0
-LeavesCalls (Cancel train from to) = ⊥
-LeavesCalls (Reroute train from to via) = ⊥
-LeavesCalls (Extra train day route calls) = ⊥
-LeavesCalls _ = Unit {0}
+-- the message changes which calls a train makes or which of its events take place
+abbrev pub IsShape : Message → Type 0
+IsShape (Cancel train from to) = Unit {0}
+IsShape (Reroute train from to via) = Unit {0}
+IsShape (Extra train day route calls) = Unit {0}
+IsShape _ = ⊥
+
+-- the message makes fewer than 2^31 new calls, so that each has a label
+abbrev pub HasFewCalls : Message → Type 0
+HasFewCalls (Reroute train from to via) = length via < 2 ^ 31
+HasFewCalls (Extra train day route calls) = length calls < 2 ^ 31
+HasFewCalls _ = Unit {0}

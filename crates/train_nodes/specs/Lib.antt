@@ -2,9 +2,11 @@ pub mod Calls
 pub mod Edits
 pub mod Kept
 pub mod Loaded
+pub mod Places
+pub mod Removed
+pub mod Rows
 pub mod Stored
 pub mod StoredOverrides
-pub mod StoredTimes
 pub mod Stretches
 pub mod Kinds
 pub mod Reports

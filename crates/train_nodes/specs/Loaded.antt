@@ -1,5 +1,6 @@
 -- Trains as the timetable gives them.
-use Rattle.std.specs.Prelude.{ℕ, ◌+◌, ◌-◌, ◌≤◌, List, [], ◌∷◌, ◌++◌, Bool, not, nat_eq, nat_lt, None, length}
+use Rattle.std.specs.Prelude.{ℕ, ◌+◌, ◌-◌, ◌≤◌, List, [], ◌∷◌, ◌++◌, Bool, true, not, nat_eq, nat_lt, None, length}
+use Rattle.mt_base.specs.declared.plans.NewCall.{NewCall}
 use Rattle.delay_model.specs.declared.state.EventValues.{EventValues}
 use Rattle.delay_model.specs.declared.state.Call.{Call}
 use Rattle.delay_model.specs.declared.state.Train.{Train}
@@ -31,6 +32,10 @@ with_train t st =
       spare_trains = st.spare_trains - 1;
       spare_calls = st.spare_calls - length t.calls;
     }
+
+-- a call of an extra train, as the timetable would have it
+abbrev pub by_table : NewCall → TableCall
+by_table c = record { stop = c.stop; arr = c.arr; dep = c.dep; board = true; alight = true }
 
 -- no scheduled time is before the one before it, nor before `time`
 abbrev pub DoNotFallFrom : ℕ → List TableCall → Type 0

@@ -1,13 +1,16 @@
 //! Calls as the timetable gives them, and as they are stored.
 
-ghost use Rattle.std.specs.Prelude.{◌≡◌, ◌+◌, ◌<◌, ◌≤◌, ◌^◌, [], ◌∷◌, ◌++◌, true, length, vec_len, vec_capacity};
-ghost use Rattle.delay_model.specs.Effect.{change_event};
+ghost use Rattle.std.specs.Prelude.{◌≡◌, ◌+◌, ◌<◌, ◌≤◌, ◌^◌, [], ◌∷◌, ◌++◌, true, length, take, drop, map, vec_len, vec_capacity, IfOk};
+ghost use Rattle.delay_model.specs.Effect.{change_event, new_event, new_call, new_calls};
 ghost use Rattle.train_nodes.specs.Edits.{edited, reported_after};
-ghost use Rattle.train_nodes.specs.Loaded.{event_by_table, call_at, loaded_from};
+ghost use Rattle.train_nodes.specs.Loaded.{event_by_table, call_at, loaded_from, by_table};
 ghost use Rattle.train_nodes.specs.Calls.{values_of};
 
 use delay_model::state::{Call, EventValues};
+use mt_base::memory::OutOfMemory;
 use mt_base::numbers::{Label, StopNo, Time};
+use mt_base::plans::NewCall;
+use std::alloc::Global;
 
 /// A train's call as the timetable has it.
 #[derive(Clone, Copy, Debug, PartialEq, Eq)]
@@ -74,6 +77,88 @@ pub(crate) fn push_calls(all: &mut Vec<Call>, calls: &[TableCall])
     for place in 0..calls.len() {
         push_call(all, stored_call(calls.len(), place as u32, &calls[place]));
     }
+}
+
+/// A call of an extra train, as the timetable would have it: passengers may board and alight.
+fn extra_call(call: &NewCall) -> TableCall
+    ensures { result ≡ by_table call.now }
+{
+    TableCall {
+        stop: call.stop,
+        arr: call.arr,
+        dep: call.dep,
+        board: true,
+        alight: true,
+    }
+}
+
+/// Appends the calls of an extra train, labelled from 0 on.
+pub(crate) fn push_extra_calls(all: &mut Vec<Call>, calls: &[NewCall])
+    requires room { vec_len all.old + length calls.now ≤ vec_capacity all.old }
+    requires labels { length calls.now < 2 ^ 32 }
+    ensures items { all.new.items ≡ all.old.items ++ loaded_from (length calls.now) 0 (map by_table calls.now) }
+    ensures capacity { vec_capacity all.new ≡ vec_capacity all.old }
+{
+    for place in 0..calls.len() {
+        let call = extra_call(&calls[place]);
+        push_call(all, stored_call(calls.len(), place as u32, &call));
+    }
+}
+
+/// A new event: live, with no forecast and no report.
+fn live_event(scheduled: Time) -> EventValues
+    ensures { result ≡ new_event scheduled }
+{
+    table_event(scheduled, true)
+}
+
+/// A call that a message makes, under a label: both of its events are live, and passengers may board and alight.
+pub fn new_call(label: Label, call: &NewCall) -> Call
+    ensures { result ≡ new_call label call.now }
+{
+    Call {
+        label,
+        stop: call.stop,
+        arrival: live_event(call.arr),
+        departure: live_event(call.dep),
+        board: true,
+        alight: true,
+    }
+}
+
+/// Appends the calls of a rerouting, labelled from this label on.
+fn push_rerouted_calls(all: &mut Vec<Call>, label: Label, calls: &[NewCall])
+    requires room { vec_len all.old + length calls.now ≤ vec_capacity all.old }
+    requires labels { label + length calls.now < 2 ^ 32 }
+    ensures items { all.new.items ≡ all.old.items ++ new_calls label calls.now }
+    ensures capacity { vec_capacity all.new ≡ vec_capacity all.old }
+{
+    for place in 0..calls.len() {
+        let new = Label::new(label.get() + place as u32);
+        push_call(all, new_call(new, &calls[place]));
+    }
+}
+
+/// The calls of a train that makes the calls `via`, labelled from this label on, in place of those strictly between two places.
+pub(crate) fn rerouted_calls(
+    alloc: Global,
+    calls: &[Call],
+    first: usize,
+    last: usize,
+    label: Label,
+    via: &[NewCall],
+) -> Result<Vec<Call>, OutOfMemory>
+    requires order { first < last }
+    requires end { last < length calls.now }
+    requires small { length calls.now < 2 ^ 32 }
+    requires labels { label + length via.now < 2 ^ 32 }
+    ensures { IfOk result (λ all. all.items ≡ take (first + 1) calls.now ++ new_calls label via.now ++ drop last calls.now) }
+{
+    let mut all = Vec::with_capacity(alloc, first + 1 + via.len() + (calls.len() - last))?;
+    all.extend_from_slice(&calls[..first + 1])?;
+    push_rerouted_calls(&mut all, label, via);
+    all.extend_from_slice(&calls[last..])?;
+    Ok(all)
 }
 
 /// What is known of a call's arrival or departure.

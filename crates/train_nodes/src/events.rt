@@ -12,8 +12,8 @@ use mt_base::keys::Node;
 use mt_base::numbers::{RouteNo, Time, TrainNo};
 use std::marker::Model;
 
-/// An event of a call of the train that has this number and route.
-pub(crate) fn event_of(train: TrainNo, route: RouteNo, call: &Call, dep: bool) -> Event
+/// The arrival or the departure (dep true) of a call of the train that has this number and route.
+pub fn event_of(train: TrainNo, route: RouteNo, call: &Call, dep: bool) -> Event
     ensures { result ≡ event_by train route call.now.label call.now.stop dep (values_of dep call.now) }
 {
     let values = values(call, dep);

@@ -1,4 +1,4 @@
-//! Trains, their calls and their events' values, and the kept times of events, in flat storage that is filled once.
+//! Trains, their calls and their events' values, and the kept times of events, in vectors by number.
 #![tactic(auto)]
 
 pub mod calls;
@@ -6,6 +6,7 @@ pub mod events;
 pub mod messages;
 mod override_table;
 mod room;
+mod rows;
 pub mod steps;
 pub mod times;
 pub mod trains;

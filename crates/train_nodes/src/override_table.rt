@@ -1,16 +1,20 @@
 //! What dispatchers chose for connections, in the order of the connections, with room that was taken when it was made.
 
-ghost use Rattle.std.specs.Prelude.{◌≡◌, ◌+◌, ◌-◌, ◌<◌, length, false, IsTrue, IfOk, IfErr, if◌then◌else◌, nat_eq};
+ghost use Rattle.std.specs.Prelude.{◌≡◌, ◌+◌, ◌-◌, ◌<◌, ◌≤◌, length, filter, not, false, IsTrue, IfOk, IfErr, if◌then◌else◌, nat_eq, vec_capacity};
 ghost use Rattle.std.specs.List.{HoldsAt};
 ghost use Rattle.std.specs.List.Sorted.{IsSearchInRange, IsPartitionPoint};
 ghost use Rattle.std.specs.declared.cmp.Ordering.TheVariants.{Less, Equal, Greater};
 ghost use Rattle.std.specs.FinMap as map;
 ghost use Rattle.delay_model.specs.Overrides.{connection as a_connection, connection_cmp};
+ghost use Rattle.delay_model.specs.Refusals.{has_call};
+ghost use Rattle.train_nodes.specs.Removed.{is_end, is_removed, names_removed};
 
 use crate::room::copy_with_room;
 use delay_model::overrides::{Connection, Override};
+use delay_model::state::Call;
 use mt_base::keys::Node;
 use mt_base::memory::OutOfMemory;
+use mt_base::numbers::{Label, TrainNo};
 use std::alloc::Global;
 use std::marker::Model;
 
@@ -104,6 +108,64 @@ impl OverrideTable {
             self.spare += 1;
         }
     }
+
+    /// Takes back what was chosen for connections that name one of these events, and gives its room back.
+    pub(crate) fn remove_all(&mut self, events: &RemovedEvents)
+        ensures choices { self.new.choices ≡ map.retain_keys self.old.choices (λ p. not (names_removed events.now.train events.now.calls.now events.now.ends p)) }
+        ensures spare { self.new.spare ≡ self.old.spare + (map.len self.old.choices - map.len self.new.choices) }
+    {
+        let before = self.rows.len();
+        retain(&mut self.rows, events);
+        self.spare += (before - self.rows.len()) as u32;
+    }
+}
+
+/// Events of a train that a message takes out: those of these calls, and where there are ends, the departure of the one and the
+/// arrival of the other.
+#[derive(Clone, Copy)]
+pub(crate) struct RemovedEvents<'a> {
+    pub(crate) train: TrainNo,
+    pub(crate) calls: &'a [Call],
+    pub(crate) ends: Option<(Label, Label)>,
+}
+
+impl RemovedEvents<'_> {
+    /// Whether the event is one of them.
+    fn has(&self, n: &Node) -> bool
+        ensures { result ≡ is_removed self.now.train self.now.calls.now self.now.ends n.now }
+    {
+        n.train == self.train && (self.is_end(n) || has_call(self.calls, n.label))
+    }
+
+    fn is_end(&self, n: &Node) -> bool
+        ensures { result ≡ is_end self.now.ends n.now }
+    {
+        match self.ends {
+            Some((from, to)) => n.label == if n.dep { from } else { to },
+            None => false,
+        }
+    }
+}
+
+/// Whether one of these calls has the label.
+fn has_call(calls: &[Call], label: Label) -> bool
+    ensures { result ≡ has_call label calls.now }
+{
+    for call in calls {
+        if call.label == label {
+            return true;
+        }
+    }
+    false
+}
+
+/// Keeps the choices for connections that name none of these events.
+fn retain(rows: &mut Vec<(Connection, Override)>, events: &RemovedEvents)
+    ensures items { rows.new.items ≡ filter (λ row. not (names_removed events.now.train events.now.calls.now events.now.ends row.0)) rows.old.items }
+    ensures bound { length rows.new.items ≤ length rows.old.items }
+    ensures capacity { vec_capacity rows.new ≡ vec_capacity rows.old }
+{
+    rows.retain(|row| !(events.has(&row.0.arrival) || events.has(&row.0.departure)));
 }
 
 /// The connection from an arrival to a departure.

@@ -1,9 +1,10 @@
-ghost use Rattle.std.specs.Prelude.{◌≡◌};
+ghost use Rattle.std.specs.Prelude.{◌≡◌, ◌<◌};
 
 use crate::{TableCall, Trains};
 use mt_base::keys::Node;
 use mt_base::memory::OutOfMemory;
 use mt_base::numbers::{Day, Label, RouteNo, StopNo, Time, TrainNo};
+use mt_base::plans::NewCall;
 use std::alloc::Global;
 use std::test::Fail;
 
@@ -162,5 +163,86 @@ fn the_next_report(rt: HostRuntime) -> Result<(), Fail> {
         }
     }
     assert_eq!(rt; reported, 900);
+    Ok(())
+}
+
+/// A call of a minute at a stop.
+fn stop_at(stop: u32, arr: u32) -> NewCall
+    requires { arr < 1000 }
+{
+    NewCall {
+        stop: StopNo::new(stop),
+        arr: Time::new(arr),
+        dep: Time::new(arr + 60),
+    }
+}
+
+/// Reroutes train 0 between two of its calls, if they stand so and there is room.
+fn reroute(
+    alloc: Global,
+    trains: &mut Trains,
+    from: u32,
+    to: u32,
+    via: &[NewCall],
+) -> Result<(), OutOfMemory> {
+    let (t, from, to) = (TrainNo::new(0), Label::new(from), Label::new(to));
+    if trains.stands_before(t, from, to) && via.len() <= trains.spare_calls() as usize {
+        trains.reroute(alloc, t, from, to, via)?;
+    }
+    Ok(())
+}
+
+#[test]
+fn a_rerouted_train(rt: HostRuntime) -> Result<(), Fail> {
+    let mut trains = loaded(rt.alloc())?;
+    reroute(
+        rt.alloc(),
+        &mut trains,
+        0,
+        1,
+        &[stop_at(7, 200), stop_at(8, 400)],
+    )?;
+    reroute(rt.alloc(), &mut trains, 2, 1, &[stop_at(9, 600)])?;
+    assert_eq!(rt; train(&trains, 0), Some((1, 4, 5, 0)));
+    assert_eq!(rt;
+        call(&trains, 0, 2),
+        Some((7, true, true, Some(0), Some(4)))
+    );
+    assert_eq!(rt; call(&trains, 0, 3), None);
+    assert_eq!(rt;
+        call(&trains, 0, 4),
+        Some((9, true, true, Some(2), Some(1)))
+    );
+    assert_eq!(rt; call(&trains, 0, 1), Some((5, false, true, Some(4), None)));
+    let (t, from, to) = (TrainNo::new(0), Label::new(2), Label::new(1));
+    if trains.stands_before(t, from, to) {
+        trains.cancel(t, from, to);
+    }
+    let copy = trains.copy(rt.alloc())?;
+    assert_eq!(rt;
+        seconds(&copy, &node(0, 2, false)),
+        Some((true, 200, None, None))
+    );
+    assert_eq!(rt;
+        seconds(&copy, &node(0, 2, true)),
+        Some((false, 260, None, None))
+    );
+    assert_eq!(rt;
+        seconds(&copy, &node(0, 1, false)),
+        Some((false, 900, None, None))
+    );
+    Ok(())
+}
+
+#[test]
+fn an_extra_train(rt: HostRuntime) -> Result<(), Fail> {
+    let mut trains = loaded(rt.alloc())?;
+    let calls = [stop_at(7, 200), stop_at(8, 400)];
+    if trains.spare_trains() > 0 && trains.spare_calls() >= 2 {
+        let _ = trains.add_train(Day::new(2), RouteNo::new(6), &calls);
+    }
+    assert_eq!(rt; train(&trains, 1), Some((2, 6, 2, 0)));
+    assert_eq!(rt; call(&trains, 1, 1), Some((8, true, true, Some(0), None)));
+    assert_eq!(rt; trains.spare_calls(), 1);
     Ok(())
 }

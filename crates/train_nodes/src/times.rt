@@ -1,33 +1,84 @@
 //! The kept times of events.
 
-ghost use Rattle.std.specs.Prelude.{◌≡◌, ℕ, ◌+◌, ◌<◌, [], true, IsTrue, IfOk, Some, if◌then◌else◌, length};
+ghost use Rattle.std.specs.Prelude.{◌≡◌, ℕ, ◌+◌, ◌*◌, ◌<◌, ◌++◌, [], true, IsTrue, IfOk, OnOk, OnErr, Some, if◌then◌else◌, length, slice_get, slice_set, take};
 ghost use Rattle.mt_base.specs.declared.keys.Node.{Node as ANode};
 ghost use Rattle.mt_base.specs.Order.{is_same_node};
-ghost use Rattle.train_nodes.specs.Kept.{Kept, place_of, time_of, has_time, with_time, is_next, with_next, with_first, with_further, no_time};
+ghost use Rattle.train_nodes.specs.Kept.{place_of, time_of, has_time, with_time, blank_times, with_train_times, without_last, with_labels, without_labels};
 
-use crate::room::copy_with_room;
 use crate::steps::Steps;
 use mt_base::keys::Node;
 use mt_base::memory::OutOfMemory;
-use mt_base::numbers::Time;
+use mt_base::numbers::{Time, TrainNo};
 use std::alloc::Global;
 use std::marker::Model;
 use std::sync::ledger::Ledger;
 
-/// Where a train's times lie among all times.
-#[derive(Clone, Copy, Debug)]
-struct Stretch {
-    first: u32,
-    len: u32,
+/// The times of a train's events, in the order of its labels and of each label the arrival first.
+#[derive(Drop)]
+struct TrainTimes {
+    times: Vec<Time>,
 }
 
-/// A time for each event, in seconds from the base of day 0. An event's number is its train's first number, and twice its
-/// label, and 1 for a departure.
+impl Model for TrainTimes {
+    ghost use Rattle.std.specs.Prelude.{ℕ, List};
+
+    ghost Value = { List ℕ };
+
+    ghost view = { λ s. s.times.items };
+}
+
+impl TrainTimes {
+    /// No times.
+    fn new(alloc: Global) -> TrainTimes
+        ensures { result ≡ [] }
+    {
+        TrainTimes {
+            times: Vec::new(alloc),
+        }
+    }
+
+    fn copy(&self) -> Result<TrainTimes, OutOfMemory>
+        ensures { IfOk result (λ copy. copy ≡ self.now) }
+    {
+        Ok(TrainTimes {
+            times: self.times.clone()?,
+        })
+    }
+
+    fn get(&self, place: usize) -> Time
+        requires { place < length self.now }
+        ensures { slice_get self.now place ≡ Some result }
+    {
+        self.times[place]
+    }
+
+    fn set(&mut self, place: usize, t: Time)
+        requires { place < length self.old }
+        ensures { self.new ≡ slice_set self.old place t }
+    {
+        self.times[place] = t;
+    }
+
+    /// Times for so many more labels: 2^25 - 1, which no settled event has.
+    fn add(&mut self, labels: u32) -> Result<(), OutOfMemory>
+        ensures ok { OnOk result (self.new ≡ self.old ++ blank_times labels) }
+        ensures err { OnErr result (self.new ≡ self.old) }
+    {
+        let places = self.times.len() + 2 * labels as usize;
+        self.times.resize(places, Time::new(33_554_431))
+    }
+
+    fn keep(&mut self, labels: u32)
+        ensures { self.new ≡ take (2 * labels) self.old }
+    {
+        self.times.truncate(2 * labels as usize);
+    }
+}
+
+/// A time for each event, in seconds from the base of day 0.
 #[derive(Drop)]
 pub struct NodeTimes {
-    rows: Vec<Stretch>,
-    times: Vec<Time>,
-    spare: u32,
+    trains: Vec<TrainTimes>,
 }
 
 impl Model for NodeTimes {
@@ -35,11 +86,7 @@ impl Model for NodeTimes {
 
     ghost Value = { Kept };
 
-    ghost use Rattle.train_nodes.specs.StoredTimes.{seen, AreStored};
-
-    ghost view = { seen };
-
-    ghost invariant = { AreStored };
+    ghost view = { λ s. record { trains = s.trains.items } };
 }
 
 /// The place of an event among those of its train.
@@ -50,26 +97,32 @@ fn place(n: Node) -> usize
     if n.dep { arrival + 1 } else { arrival }
 }
 
+fn copy_trains(alloc: Global, trains: &[TrainTimes]) -> Result<Vec<TrainTimes>, OutOfMemory>
+    ensures { IfOk result (λ all. all.items ≡ trains.now) }
+{
+    let mut all = Vec::with_capacity(alloc, trains.len())?;
+    for train in trains {
+        all.push(train.copy()?)?;
+    }
+    Ok(all)
+}
+
 impl NodeTimes {
-    /// No times, with room for the times of so many events.
-    pub fn with_room(alloc: Global, nodes: u32) -> Result<NodeTimes, OutOfMemory>
-        ensures { IfOk result (λ r. r ≡ record { trains = []; spare = nodes }) }
+    /// No times.
+    pub fn new(alloc: Global) -> NodeTimes
+        ensures { result ≡ record { trains = [] } }
     {
-        Ok(NodeTimes {
-            rows: Vec::with_capacity(alloc, nodes as usize)?,
-            times: Vec::with_capacity(alloc, nodes as usize)?,
-            spare: nodes,
-        })
+        NodeTimes {
+            trains: Vec::new(alloc),
+        }
     }
 
-    /// The same times once more, with the same room.
+    /// The same times once more.
     pub fn copy(&self, alloc: Global) -> Result<NodeTimes, OutOfMemory>
         ensures { IfOk result (λ copy. copy ≡ self.now) }
     {
         Ok(NodeTimes {
-            rows: copy_with_room(alloc, self.rows.as_slice(), self.spare)?,
-            times: copy_with_room(alloc, self.times.as_slice(), self.spare)?,
-            spare: self.spare,
+            trains: copy_trains(alloc, &self.trains)?,
         })
     }
 
@@ -80,8 +133,7 @@ impl NodeTimes {
         ensures cost { steps.new ≡ steps.old + 1 }
     {
         steps.tick();
-        let row = &self.rows[n.train.get() as usize];
-        self.times[row.first as usize + place(n)]
+        self.trains[n.train.get() as usize].get(place(n))
     }
 
     /// Changes the time of an event, in seconds from the base of day 0.
@@ -90,48 +142,43 @@ impl NodeTimes {
         ensures kept { self.new ≡ with_time n t self.old }
         ensures time { (m : ANode) → time_of self.new m ≡ (if is_same_node n m then Some t else time_of self.old m) }
     {
-        let row = self.rows[n.train.get() as usize];
-        let slot = row.first as usize + place(n);
-        self.times[slot] = t;
+        self.trains[n.train.get() as usize].set(place(n), t);
     }
 
-    /// Gives the next event the time 2^25 - 1, which no settled event has. Events are added in the order of trains, labels, and the
-    /// arrival before the departure. It takes no memory.
-    pub fn add(&mut self, n: Node)
-        requires next { IsTrue (is_next self.old n) }
-        requires room { 0 < self.old.spare }
-        ensures kept { self.new ≡ with_next n no_time self.old }
-        ensures time { (m : ANode) → time_of self.new m ≡ (if is_same_node n m then Some no_time else time_of self.old m) }
+    /// Times for the events of one more train, which has so many labels: 2^25 - 1 for each, which no settled event has. After an
+    /// error nothing is changed.
+    pub fn push_train(&mut self, labels: u32) -> Result<(), OutOfMemory>
+        ensures ok { OnOk result (self.new ≡ with_train_times labels self.old) }
+        ensures err { OnErr result (self.new ≡ self.old) }
     {
-        let train = n.train.get() as usize;
-        if train == self.rows.len() {
-            self.begin_train();
-            return;
-        }
-        self.go_on(train);
+        let mut times = TrainTimes::new(*self.trains.allocator());
+        times.add(labels)?;
+        self.trains.push(times)?;
+        Ok(())
     }
 
-    fn begin_train(&mut self)
-        requires { 0 < self.old.spare }
-        ensures { self.new ≡ with_first no_time self.old }
+    /// Takes the times of the last train away.
+    pub fn pop_train(&mut self)
+        requires there { 0 < length self.old.trains }
+        ensures { self.new ≡ without_last self.old }
     {
-        let first = self.times.len() as u32;
-        self.rows.push_reserved(Stretch { first, len: 1 });
-        self.times.push_reserved(Time::new(33_554_431));
-        self.spare -= 1;
+        self.trains.truncate(self.trains.len() - 1);
     }
 
-    fn go_on(&mut self, train: usize)
-        requires last { train + 1 ≡ length self.old.trains }
-        requires room { 0 < self.old.spare }
-        ensures { self.new ≡ with_further train no_time self.old }
+    /// Times for the events of so many more labels of a train, as for those of a new train. After an error nothing is changed.
+    pub fn add_labels(&mut self, t: TrainNo, labels: u32) -> Result<(), OutOfMemory>
+        requires there { t < length self.old.trains }
+        ensures ok { OnOk result (self.new ≡ with_labels t labels self.old) }
+        ensures err { OnErr result (self.new ≡ self.old) }
     {
-        let row = self.rows[train];
-        self.rows[train] = Stretch {
-            first: row.first,
-            len: row.len + 1,
-        };
-        self.times.push_reserved(Time::new(33_554_431));
-        self.spare -= 1;
+        self.trains[t.get() as usize].add(labels)
+    }
+
+    /// Keeps the times of so many labels of a train, the first ones, and takes the others away.
+    pub fn keep_labels(&mut self, t: TrainNo, labels: u32)
+        requires there { t < length self.old.trains }
+        ensures { self.new ≡ without_labels t labels self.old }
+    {
+        self.trains[t.get() as usize].keep(labels);
     }
 }

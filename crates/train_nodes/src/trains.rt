@@ -1,6 +1,6 @@
-//! All trains, in one arena of calls.
+//! All trains. Their calls stand in one arena, but for those of a train that was rerouted.
 
-ghost use Rattle.std.specs.Prelude.{◌≡◌, ◌+◌, ◌<◌, ◌≤◌, ◌^◌, [], true, false, IsTrue, IfOk, Some, length, nat_eq, slice_get};
+ghost use Rattle.std.specs.Prelude.{◌≡◌, ℕ, ◌+◌, ◌-◌, ◌<◌, ◌≤◌, ◌^◌, [], true, false, IsTrue, IfOk, MatchOption, OnOk, OnErr, Some, None, length, take, drop, nat_eq, slice_get, All};
 ghost use Rattle.std.specs.Option.{option_map, option_copied, option_and_then};
 ghost use Rattle.std.specs.FinMap as map;
 ghost use Rattle.delay_model.specs.declared.state.State.{State as AState};
@@ -8,40 +8,33 @@ ghost use Rattle.delay_model.specs.declared.state.Call.{Call as ACall};
 ghost use Rattle.delay_model.specs.declared.state.Train.{Train as ATrain};
 ghost use Rattle.delay_model.specs.declared.state.Event.{Event as AnEvent};
 ghost use Rattle.delay_model.specs.Events.{calls_of, train_events, event_named, is_live};
-ghost use Rattle.delay_model.specs.Effect.{with_event, with_override, without_override, has_override, forecasted, reported, killed};
+ghost use Rattle.delay_model.specs.Effect.{effect, with_event, with_override, without_override, has_override, forecasted, reported, killed, change_train, is_call, node_at};
+ghost use Rattle.delay_model.specs.Refusals.{stands_before};
+ghost use Rattle.delay_model.specs.Valid.{HasDistinctLabels};
+ghost use Rattle.delay_model.specs.declared.messages.Message.TheVariants as Message;
 ghost use Rattle.delay_model.specs.Overrides.{connection};
 ghost use Rattle.train_nodes.specs.Calls.{call_named, has_call, has_event, first_label, label_after, label_before};
 ghost use Rattle.train_nodes.specs.Edits.{edited};
 ghost use Rattle.train_nodes.specs.Reports.{report_after};
-ghost use Rattle.train_nodes.specs.Stored.{AreNumbered};
+ghost use Rattle.train_nodes.specs.Places.{IsFirst, AreInOrder};
+ghost use Rattle.train_nodes.specs.Removed.{without_removed};
+ghost use Rattle.train_nodes.specs.Rows.{with_own};
+ghost use Rattle.train_nodes.specs.Stored.{AreLabelled};
 ghost use Rattle.train_nodes.specs.Loaded.{loaded_train, with_train, DoNotFall};
 
-use crate::calls::{Edit, TableCall, edit_call, push_calls, reported_after, values};
+use crate::calls::{Edit, TableCall, push_calls, push_extra_calls, rerouted_calls, values};
 use crate::events::{TrainEvents, event_of, report_after};
-use crate::override_table::{OverrideTable, connection};
+use crate::override_table::{OverrideTable, RemovedEvents, connection};
 use crate::room::copy_with_room;
+use crate::rows::{OwnCalls, Row, calls_from, calls_in, copy_rows, edit_row, new_row, place_of};
 use delay_model::overrides::Override;
 use delay_model::state::{Call, Event};
 use mt_base::keys::{Key, Node};
 use mt_base::memory::OutOfMemory;
 use mt_base::numbers::{Day, Label, RouteNo, StopNo, Time, TrainNo};
-use std::alloc::Global;
+use mt_base::plans::NewCall;
+use std::alloc::{AllocError, Global};
 use std::marker::Model;
-
-/// A train, whose calls stand in the arena from `first` on. The call labelled `l` is the one in the slot `first + l`.
-///
-/// Reroutings and extra trains will put their calls at the arena's end and link them. Today the trains' calls lie one after
-/// another, in the order of the trains and of their labels.
-#[derive(Clone, Copy, Debug)]
-struct Row {
-    day: Day,
-    route: RouteNo,
-    next_label: Label,
-    first: u32,
-    len: u32,
-    /// A number of calls, from the first on, after which no event of the train is reported.
-    reported: u32,
-}
 
 /// The trains with their calls and the values of their events, the overrides, and how much room is left.
 #[derive(Drop)]
@@ -69,7 +62,8 @@ impl Model for Trains {
 }
 
 impl Trains {
-    /// No trains, with room for so many trains, calls of all trains together, and overrides.
+    /// No trains, with room for so many trains, calls of all trains together, and overrides. Room for 2^31 calls or more is answered as
+    /// want of memory, so that each new call has a label.
     pub fn with_room(
         alloc: Global,
         trains: u32,
@@ -78,6 +72,9 @@ impl Trains {
     ) -> Result<Trains, OutOfMemory>
         ensures { IfOk result (λ r. r ≡ record { trains = []; overrides = map.empty; spare_trains = trains; spare_calls = calls; spare_overrides = overrides }) }
     {
+        if calls >= 1 << 31 {
+            return Err(AllocError);
+        }
         Ok(Trains {
             rows: Vec::with_capacity(alloc, trains as usize)?,
             calls: Vec::with_capacity(alloc, calls as usize)?,
@@ -92,7 +89,7 @@ impl Trains {
         ensures { IfOk result (λ copy. copy ≡ self.now) }
     {
         Ok(Trains {
-            rows: copy_with_room(alloc, self.rows.as_slice(), self.spare_trains)?,
+            rows: copy_rows(alloc, &self.rows, self.spare_trains)?,
             calls: copy_with_room(alloc, self.calls.as_slice(), self.spare_calls)?,
             overrides: self.overrides.copy(alloc)?,
             spare_trains: self.spare_trains,
@@ -113,15 +110,26 @@ impl Trains {
         let first = self.calls.len() as u32;
         let len = calls.len() as u32;
         push_calls(&mut self.calls, calls);
-        self.rows.push_reserved(Row {
-            day,
-            route,
-            next_label: Label::new(len),
-            first,
-            len,
-            reported: 0,
-        });
+        self.rows.push_reserved(new_row(day, route, first, len));
         self.spare_trains -= 1;
+        self.spare_calls -= len;
+        number
+    }
+
+    /// One more train, after all others, and its number. It takes no memory.
+    pub fn add_train(&mut self, day: Day, route: RouteNo, calls: &[NewCall]) -> TrainNo
+        requires train_spare { 0 < self.old.spare_trains }
+        requires calls_spare { length calls.now ≤ self.old.spare_calls }
+        requires two_calls { 2 ≤ length calls.now }
+        ensures number { result ≡ length self.old.trains }
+        ensures train { self.new ≡ effect self.old (Message.Extra (length self.old.trains) day route calls.now) }
+    {
+        let number = TrainNo::new(self.count());
+        let first = self.calls.len() as u32;
+        let len = calls.len() as u32;
+        push_extra_calls(&mut self.calls, calls);
+        self.rows.push_reserved(new_row(day, route, first, len));
+        self.spare_trains -= 1; // An extra train takes a spare one.
         self.spare_calls -= len;
         number
     }
@@ -190,7 +198,8 @@ impl Trains {
     /// The label of the next call that a rerouting of the train makes.
     pub fn next_label(&self, t: TrainNo) -> Label
         requires { t < length self.now.trains }
-        ensures { option_map (λ (train : ATrain). train.next_label) (slice_get self.now.trains t) ≡ Some result }
+        ensures label { option_map (λ (train : ATrain). train.next_label) (slice_get self.now.trains t) ≡ Some result }
+        ensures small { result < 2 ^ 31 }
     {
         self.rows[t.get() as usize].next_label
     }
@@ -200,9 +209,7 @@ impl Trains {
         requires { t < length self.now.trains }
         ensures { first_label (calls_of self.now t) ≡ Some result }
     {
-        // A field is named, so that the check knows what holds of the rows.
-        let _ = &self.rows;
-        Label::new(0)
+        self.calls_of(t)[0].label
     }
 
     /// The label of the call after this one. None exactly at the last call.
@@ -210,10 +217,10 @@ impl Trains {
         requires { IsTrue (has_call self.now t l) }
         ensures { result ≡ label_after (calls_of self.now t) l }
     {
-        let row = &self.rows[t.get() as usize];
-        let next = l.get() + 1;
-        if next < row.len {
-            Some(Label::new(next))
+        let calls = self.calls_of(t);
+        let next = place_of(calls, l)? + 1;
+        if next < calls.len() {
+            Some(calls[next].label)
         } else {
             None
         }
@@ -224,12 +231,12 @@ impl Trains {
         requires { IsTrue (has_call self.now t l) }
         ensures { result ≡ label_before (calls_of self.now t) l }
     {
-        // A field is named, so that the check knows what holds of the rows.
-        let _ = &self.rows;
-        if l.get() == 0 {
+        let calls = self.calls_of(t);
+        let place = place_of(calls, l)?;
+        if place == 0 {
             None
         } else {
-            Some(Label::new(l.get() - 1))
+            Some(calls[place - 1].label)
         }
     }
 
@@ -295,9 +302,9 @@ impl Trains {
         ensures { result ≡ report_after self.now n }
     {
         let calls = self.calls_of(n.train);
-        let label = n.label.get() as usize;
-        let end = label.max(self.rows[n.train.get() as usize].reported as usize);
-        report_after(&calls[label..end], n.dep)
+        let place = place_of(calls, n.label)?;
+        let end = place.max(self.rows[n.train.get() as usize].reported as usize);
+        report_after(&calls[place..end], n.dep)
     }
 
     /// The events of a train in its order, live or not: of each call the arrival and then the departure. No events where there is no
@@ -363,43 +370,151 @@ impl Trains {
         self.overrides.is_empty()
     }
 
+    /// A law: no two calls of one train have one label. The call does nothing.
+    pub fn labels_are_distinct(&self)
+        ensures labels { All (λ (t : ATrain). HasDistinctLabels t.calls) self.now.trains }
+    {
+        // A field is named, so that the check knows what holds of the rows.
+        let _ = &self.rows;
+    }
+
+    /// Whether both are calls of the train, and the one stands before the other.
+    pub fn stands_before(&self, t: TrainNo, from: Label, to: Label) -> bool
+        ensures { result ≡ stands_before from to (calls_of self.now t) }
+    {
+        self.places(t, from, to).is_some()
+    }
+
+    /// Cancels a train from the departure of one call to the arrival of a later one: these events no longer take place, and what was
+    /// chosen for connections that name one of them goes. It takes no memory.
+    pub fn cancel(&mut self, t: TrainNo, from: Label, to: Label)
+        requires { stands_before from to (calls_of self.old t) ≡ true }
+        ensures { self.new ≡ effect self.old (Message.Cancel t from to) }
+    {
+        let Some((first, last)) = self.places(t, from, to) else {
+            return;
+        };
+        self.remove_overrides(t, first + 1, last, Some((from, to)));
+        for place in first..last {
+            self.edit_at(t, place, true, Edit::Kill);
+            self.edit_at(t, place + 1, false, Edit::Kill);
+        }
+    }
+
+    /// Lets a train make the calls `via` in place of those strictly between two of its calls. The new calls get the next labels, and
+    /// what was chosen for connections that name an event of the others goes. After an error nothing is changed.
+    pub fn reroute(
+        &mut self,
+        alloc: Global,
+        t: TrainNo,
+        from: Label,
+        to: Label,
+        via: &[NewCall],
+    ) -> Result<(), OutOfMemory>
+        requires stand { stands_before from to (calls_of self.old t) ≡ true }
+        requires spare { length via.now ≤ self.old.spare_calls }
+        ensures ok { OnOk result (self.new ≡ effect self.old (Message.Reroute t from to via.now)) }
+        ensures err { OnErr result (self.new ≡ self.old) }
+    {
+        let Some((first, last)) = self.places(t, from, to) else {
+            return Ok(());
+        };
+        let label = self.rows[t.get() as usize].next_label;
+        let new = via.len() as u32;
+        let calls = rerouted_calls(alloc, self.calls_of(t), first, last, label, via)?;
+        self.remove_overrides(t, first + 1, last, None);
+        self.replace_calls(t, Label::new(label.get() + new), calls, new);
+        Ok(())
+    }
+
+    /// The places of two calls of a train, where the one stands before the other.
+    fn places(&self, t: TrainNo, from: Label, to: Label) -> Option<(usize, usize)>
+        ensures { MatchOption result (stands_before from to (calls_of self.now t) ≡ false) (λ p. AreInOrder from to p.0 p.1 (calls_of self.now t)) }
+    {
+        let calls = self.calls_of(t);
+        let first = place_of(calls, from)?;
+        let last = place_of(calls, to)?;
+        if first < last {
+            Some((first, last))
+        } else {
+            None
+        }
+    }
+
+    /// Takes back what was chosen for connections that name an event of the calls from one place up to another, or one of the ends.
+    fn remove_overrides(
+        &mut self,
+        t: TrainNo,
+        first: usize,
+        last: usize,
+        ends: Option<(Label, Label)>,
+    )
+        requires there { t < length self.old.trains }
+        requires order { first ≤ last }
+        requires end { last ≤ length (calls_of self.old t) }
+        ensures { self.new ≡ without_removed t (take (last - first) (drop first (calls_of self.old t))) ends self.old }
+    {
+        let calls = calls_from(&self.rows[t.get() as usize], &self.calls, first, last);
+        self.overrides.remove_all(&RemovedEvents {
+            train: t,
+            calls,
+            ends,
+        });
+    }
+
+    /// Gives a train other calls, of which so many are new, and another next label.
+    fn replace_calls(&mut self, t: TrainNo, next: Label, calls: Vec<Call>, new: u32)
+        requires there { t < length self.old.trains }
+        requires spare { new ≤ self.old.spare_calls }
+        requires labels { AreLabelled (self.old.spare_calls - new) next calls.items }
+        ensures { self.new ≡ record self.old { trains = change_train t (with_own next calls.items) self.old.trains; spare_calls = self.old.spare_calls - new } }
+    {
+        let row = &mut self.rows[t.get() as usize];
+        row.reported = calls.len() as u32;
+        row.next_label = next;
+        row.own = OwnCalls::new(calls);
+        self.spare_calls -= new;
+    }
+
     fn edit(&mut self, n: Node, edit: Edit)
         requires { IsTrue (is_live self.old n) }
         ensures { self.new ≡ with_event n (edited edit) self.old }
     {
-        let (place, label) = (n.train.get() as usize, n.label.get());
-        let row = self.rows[place];
-        let slot = row.first as usize + label as usize;
-        let call = self.calls[slot];
-        let reported = reported_after(row.reported, label, &edit);
-        self.calls[slot] = edit_call(call, n.dep, edit);
-        self.rows[place].reported = reported;
+        if let Some(place) = place_of(self.calls_of(n.train), n.label) {
+            self.edit_at(n.train, place, n.dep, edit);
+        }
+    }
+
+    /// Changes an event of the call at a place among those of a train.
+    fn edit_at(&mut self, t: TrainNo, place: usize, dep: bool, edit: Edit)
+        requires { place < length (calls_of self.old t) }
+        ensures { (label : ℕ) → IsFirst (is_call label) place (calls_of self.old t) → self.new ≡ with_event (node_at t label dep) (edited edit) self.old }
+    {
+        let row = &mut self.rows[t.get() as usize];
+        edit_row(row, &mut self.calls, place, dep, edit);
     }
 
     /// The calls of a train; no calls where there is no such train.
     fn calls_of(&self, t: TrainNo) -> &[Call]
-        ensures { result.now ≡ calls_of self.now t }
+        ensures calls { result.now ≡ calls_of self.now t }
+        ensures labels { HasDistinctLabels result.now }
+        ensures some { t < length self.now.trains → 0 < length result.now }
     {
         if t.get() as usize >= self.rows.len() {
             return &self.calls[..0];
         }
-        let row = &self.rows[t.get() as usize];
-        let first = row.first as usize;
-        &self.calls[first..first + row.len as usize]
+        calls_in(&self.rows[t.get() as usize], &self.calls)
     }
 
     /// The call with this label.
     fn find_call(&self, t: TrainNo, l: Label) -> Option<&Call>
         ensures found { option_copied result ≡ call_named self.now t l }
-        ensures labels { AreNumbered 0 (calls_of self.now t) }
+        ensures labels { HasDistinctLabels (calls_of self.now t) }
     {
-        if t.get() as usize >= self.rows.len() {
-            return None;
-        }
-        if l.get() < self.rows[t.get() as usize].len {
-            Some(self.call(t, l))
-        } else {
-            None
+        let calls = self.calls_of(t);
+        match place_of(calls, l) {
+            Some(place) => Some(&calls[place]),
+            None => None,
         }
     }
 
@@ -407,8 +522,9 @@ impl Trains {
         requires { IsTrue (has_call self.now t l) }
         ensures { call_named self.now t l ≡ Some result.now }
     {
-        let row = &self.rows[t.get() as usize];
-        &self.calls[row.first as usize + l.get() as usize]
+        let calls = self.calls_of(t);
+        // The call is there, so that it has a place.
+        &calls[place_of(calls, l).unwrap_or(0)]
     }
 
     /// The event of this name, live or not.

@@ -15,12 +15,11 @@ use Rattle.mt_io.specs.Reader.{Reader, IsDone}
 use Rattle.mt_io.proofs.Gives.{consumes_none}
 use Rattle.mt_io.proofs.Runs.{ends}
 use Rattle.schedule_build.specs.Directory.{Names}
-use Rattle.timetable.specs.Running.{Running}
 use Rattle.traind.specs.declared.status.Fault.{Fault}
 use Rattle.traind.specs.declared.status.Fault.TheVariants.{Usage, FeedRefused, ReadFault, WriteFault, Memory, TooLong}
 use Rattle.traind.specs.Causes.{WhereLinesStop}
 use Rattle.traind.proofs.Tables.{some-same}
-use Rattle.traind.specs.Lines.{accepted_of}
+use Rattle.traind.specs.Lines.{accepted_of, names_after}
 use Rattle.traind.specs.Output.{replies, output}
 use Rattle.traind.specs.Standing.{Standing, Answered}
 
@@ -32,14 +31,14 @@ all_taken (Some xs) (Some ys) bytes all source end is =
     sym (append-nil all) ∙ ap (λ (r : List ℕ). all ++ r) (sym end) ∙ sym source ∙ some-same xs bytes is
 
 -- at the end of the input the replies and the table are the whole output
-pub whole_output : (names : Names) (first now : Running) (r : Reader) (left left_now written between written_now : Option (List ℕ)) (all bytes : List ℕ) (lines : List Line)
-    → IsDone r → Answered names first now r left left_now written between all lines → Appends between written_now (table now.network names now.state) → left ≡ Some bytes
-    → Appends written written_now (output first.network names first.state (lines_of true bytes))
-whole_output names first now r left left_now written between written_now all bytes lines done a wrote told =
+pub whole_output : (first now : Standing) (r : Reader) (left left_now written between written_now : Option (List ℕ)) (all bytes : List ℕ) (lines : List Line)
+    → IsDone r → Answered first now r left left_now written between all lines → Appends between written_now (table now.network now.names now.state) → left ≡ Some bytes
+    → Appends written written_now (output first.network first.names first.state (lines_of true bytes))
+whole_output first now r left left_now written between written_now all bytes lines done a wrote told =
     let these : lines_of true bytes ≡ lines = ap (lines_of true) (sym (all_taken left left_now bytes all a.source (a.end done.ended) told)) ∙ ends all lines r a.lines_so_far done in
-    subst (λ (ls : List Line). Appends written written_now (output first.network names first.state ls)) (sym these)
-    (Appends-trans written between written_now (replies first.network names first.state [] lines) (table first.network names (after first.state (accepted_of first.network names first.state lines))) a.output
-    (subst (λ (t : Standing). Appends between written_now (table t.network names t.state)) a.timetable wrote))
+    subst (λ (ls : List Line). Appends written written_now (output first.network first.names first.state ls)) (sym these)
+    (Appends-trans written between written_now (replies first.network first.names first.state [] lines) (table first.network (names_after first.network first.names first.state lines) (after first.state (accepted_of first.network first.names first.state lines))) a.output
+    (subst (λ (t : Standing). Appends between written_now (table t.network t.names t.state)) a.timetable wrote))
 
 -- before the first line nothing was taken, and nothing is written
 pub nothing_yet : (nw : Network) (names : Names) (st : State) (left written : Option (List ℕ))

@@ -7,17 +7,15 @@ use Rattle.std.specs.Io.KnownBytes.{Appends, Consumes, IsAtEnd}
 use Rattle.delay_model.specs.declared.network.Network.{Network}
 use Rattle.delay_model.specs.declared.state.State.{State}
 use Rattle.delay_model.specs.After.{after}
-use Rattle.delay_report.specs.Replies.{text_of_reply}
 use Rattle.delay_report.specs.Table.{table, header, rows_from, rows_of_train}
 use Rattle.mt_io.specs.Causes.{AppendsPart}
 use Rattle.mt_io.specs.Lines.{Line, lines_of}
 use Rattle.mt_io.specs.Reader.{Reader, IsDone, ahead}
 use Rattle.mt_io.proofs.Runs.{ends}
 use Rattle.schedule_build.specs.Directory.{Names}
-use Rattle.timetable.specs.Running.{Running}
 use Rattle.traind.specs.Fronts.{AppendsFront, Begun}
-use Rattle.traind.specs.Lines.{accepted_of}
-use Rattle.traind.specs.Output.{replies, reply_after, output}
+use Rattle.traind.specs.Lines.{accepted_of, names_after}
+use Rattle.traind.specs.Output.{text_after, replies, output}
 use Rattle.traind.specs.Standing.{Standing, Answered}
 use Rattle.traind.proofs.Ends.{all_taken}
 use Rattle.traind.proofs.Tables.{some-same}
@@ -70,7 +68,7 @@ replies-split : (nw : Network) (names : Names) (st : State) (before lines more :
 unfolding replies
 replies-split nw names st before [] more = ap (λ (b : List Line). replies nw names st b more) (sym (append-nil before))
 replies-split nw names st before (x ∷ xs) more =
-    let text = text_of_reply names (reply_after nw names st before x) in
+    let text = text_after nw names st before x in
     ap (λ (rest : List ℕ). text ++ rest) (replies-split nw names st (before ++ x ∷ []) xs more)
     ∙ ap (λ (b : List Line). text ++ (replies nw names st (before ++ x ∷ []) xs ++ replies nw names st b more)) (append_assoc before (x ∷ []) xs)
     ∙ sym (append_assoc text (replies nw names st (before ++ x ∷ []) xs) (replies nw names st (before ++ x ∷ xs) more))
@@ -84,35 +82,36 @@ first_lines r (Some xs) (Some ys) taken bytes lines source is end answered =
     (ahead r ys true, ap (lines_of true) (sym (some-same xs bytes is) ∙ source) ∙ answered.lines_ahead ys true (λ ended. (end ended, refl)))
 
 -- a front of the replies to the lines that were taken is a front of the whole output
-pub output_front : (names : Names) (first : Running) (r : Reader) (left left_now written written_now : Option (List ℕ)) (taken bytes : List ℕ) (lines : List Line)
-    → Begun names first r left left_now written written_now taken lines → left ≡ Some bytes
-    → AppendsFront written written_now (output first.network names first.state (lines_of true bytes))
-output_front names first r left left_now written written_now taken bytes lines b is =
+pub output_front : (first : Standing) (r : Reader) (left left_now written written_now : Option (List ℕ)) (taken bytes : List ℕ) (lines : List Line)
+    → Begun first r left left_now written written_now taken lines → left ≡ Some bytes
+    → AppendsFront written written_now (output first.network first.names first.state (lines_of true bytes))
+output_front first r left left_now written written_now taken bytes lines b is =
     let more = first_lines r left left_now taken bytes lines b.source is b.end b.lines_so_far in
-    let shown = replies first.network names first.state [] lines in
-    let later = replies first.network names first.state lines more.0 in
-    let last = table first.network names (after first.state (accepted_of first.network names first.state (lines ++ more.0))) in
-    subst (λ (ls : List Line). AppendsFront written written_now (output first.network names first.state ls)) (sym more.1)
-    (subst (AppendsFront written written_now) (sym (append_assoc shown later last) ∙ ap (λ (bs : List ℕ). bs ++ last) (sym (replies-split first.network names first.state [] lines more.0)))
+    let shown = replies first.network first.names first.state [] lines in
+    let later = replies first.network first.names first.state lines more.0 in
+    let all = lines ++ more.0 in
+    let last = table first.network (names_after first.network first.names first.state all) (after first.state (accepted_of first.network first.names first.state all)) in
+    subst (λ (ls : List Line). AppendsFront written written_now (output first.network first.names first.state ls)) (sym more.1)
+    (subst (AppendsFront written written_now) (sym (append_assoc shown later last) ∙ ap (λ (bs : List ℕ). bs ++ last) (sym (replies-split first.network first.names first.state [] lines more.0)))
     (front_longer written written_now shown (later ++ last) b.output))
 
 -- lines that were answered have begun
-pub begun_by : (names : Names) (first now : Running) (r : Reader) (left left_now written written_now : Option (List ℕ)) (bytes : List ℕ) (lines : List Line)
-    → Answered names first now r left left_now written written_now bytes lines → Begun names first r left left_now written written_now bytes lines
-begun_by names first now r left left_now written written_now bytes lines a =
+pub begun_by : (first now : Standing) (r : Reader) (left left_now written written_now : Option (List ℕ)) (bytes : List ℕ) (lines : List Line)
+    → Answered first now r left left_now written written_now bytes lines → Begun first r left left_now written written_now bytes lines
+begun_by first now r left left_now written written_now bytes lines a =
     record {
       source = a.source;
       lines_so_far = a.lines_so_far;
       end = a.end;
-      output = front_all written written_now (replies first.network names first.state [] lines) a.output;
+      output = front_all written written_now (replies first.network first.names first.state [] lines) a.output;
     }
 
 -- the replies to all lines, and a front of the table, are a front of the whole output
-pub whole_front : (names : Names) (first now : Running) (r : Reader) (left left_now written between written_now : Option (List ℕ)) (all bytes : List ℕ) (lines : List Line)
-    → IsDone r → Answered names first now r left left_now written between all lines → AppendsFront between written_now (table now.network names now.state) → left ≡ Some bytes
-    → AppendsFront written written_now (output first.network names first.state (lines_of true bytes))
-whole_front names first now r left left_now written between written_now all bytes lines done a f told =
+pub whole_front : (first now : Standing) (r : Reader) (left left_now written between written_now : Option (List ℕ)) (all bytes : List ℕ) (lines : List Line)
+    → IsDone r → Answered first now r left left_now written between all lines → AppendsFront between written_now (table now.network now.names now.state) → left ≡ Some bytes
+    → AppendsFront written written_now (output first.network first.names first.state (lines_of true bytes))
+whole_front first now r left left_now written between written_now all bytes lines done a f told =
     let these : lines_of true bytes ≡ lines = ap (lines_of true) (sym (all_taken left left_now bytes all a.source (a.end done.ended) told)) ∙ ends all lines r a.lines_so_far done in
-    subst (λ (ls : List Line). AppendsFront written written_now (output first.network names first.state ls)) (sym these)
-    (front_after written between written_now (replies first.network names first.state [] lines) (table first.network names (after first.state (accepted_of first.network names first.state lines))) a.output
-    (subst (λ (t : Standing). AppendsFront between written_now (table t.network names t.state)) a.timetable f))
+    subst (λ (ls : List Line). AppendsFront written written_now (output first.network first.names first.state ls)) (sym these)
+    (front_after written between written_now (replies first.network first.names first.state [] lines) (table first.network (names_after first.network first.names first.state lines) (after first.state (accepted_of first.network first.names first.state lines))) a.output
+    (subst (λ (t : Standing). AppendsFront between written_now (table t.network t.names t.state)) a.timetable f))

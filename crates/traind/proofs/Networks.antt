@@ -13,7 +13,7 @@ use Rattle.delay_model.specs.declared.messages.Refusal.{Refusal}
 use Rattle.delay_model.specs.declared.network.Network.{Network}
 use Rattle.delay_model.specs.declared.state.Event.{Event}
 use Rattle.delay_model.specs.declared.state.State.{State}
-use Rattle.delay_model.specs.After.{Reading, accepted, accepted_message, after}
+use Rattle.delay_model.specs.After.{Reading, accepted, accepted_message, after, known_after}
 use Rattle.delay_model.specs.Edges.{edge_by_change, edge_of_kind, transfer_kind, is_planned, may_connect, change_between, transfer, train_edges, edges, edges_along, override_of}
 use Rattle.delay_model.specs.Effect.{effect}
 use Rattle.delay_model.specs.Events.{events, event_named, train_events}
@@ -24,14 +24,15 @@ use Rattle.delay_report.specs.declared.replies.BadLine.{BadLine}
 use Rattle.delay_report.specs.declared.replies.Reply.TheVariants.{Accepted}
 use Rattle.delay_report.specs.Replies.{text_of_reply}
 use Rattle.delay_report.specs.Table.{header, rows_of_events, rows_from, table}
+use Rattle.message_reader.specs.declared.wire.Wire.{Wire}
 use Rattle.message_reader.specs.declared.wire.Line.{Line as Spoken}
 use Rattle.message_reader.specs.declared.wire.Line.TheVariants.{Message as Says, Flush}
 use Rattle.message_reader.specs.Resolved.{resolved}
 use Rattle.mt_io.specs.Lines.{Line}
 use Rattle.schedule_build.specs.Directory.{Names}
 use Rattle.traind.specs.Networks.{IsSame}
-use Rattle.traind.specs.Lines.{said_by, messages_of, by_names, accepted_of}
-use Rattle.traind.specs.Output.{reply_by_refusal, reply_to_message, reply_to, reply_after, replies, output}
+use Rattle.traind.specs.Lines.{said_by, messages_of, by_names, accepted_of, names_after}
+use Rattle.traind.specs.Output.{reply_by_refusal, reply_to_message, reply_to, text_after, replies, output}
 
 by-change-same : (a b : Network) → IsSame a b → (choice : Option Override) (u v : Event) (w : Option ℕ) → edge_by_change b choice u v w ≡ edge_by_change a choice u v w
 by-change-same a b h choice u v None = refl
@@ -117,34 +118,46 @@ accepted-same a b h reading st names (x ∷ xs) =
     λ i. option_map_or (λ (m : Message). m ∷ accepted-same a b h reading (effect st m) (reading.known names x) xs i)
     (answer-same a b h st (reading.message names x) i) (accepted-same a b h reading st names xs i)
 
-by-refusal-same : (a b : Network) → IsSame a b → (st : State) (count line : ℕ) (m : Message) (answer : Option Refusal) → reply_by_refusal b st count line m answer ≡ reply_by_refusal a st count line m answer
-by-refusal-same a b h st count line m None = ap (Accepted line (count + 1)) (changed-same a b h st m)
-by-refusal-same a b h st count line m (Some r) = refl
+-- and the same names are known after them
+known-same : {X N : Type 0} (a b : Network) → IsSame a b → (reading : Reading X N) (st : State) (names : N) (xs : List X) → known_after b reading st names xs ≡ known_after a reading st names xs
+known-same a b h reading st names [] = refl
+known-same a b h reading st names (x ∷ xs) =
+    λ i. option_map_or (λ (m : Message). known-same a b h reading (effect st m) (reading.known names x) xs i)
+    (answer-same a b h st (reading.message names x) i) (known-same a b h reading st names xs i)
 
-reply-to-message-same : (a b : Network) → IsSame a b → (st : State) (count line : ℕ) (read : Result Message Refusal) → reply_to_message b st count line read ≡ reply_to_message a st count line read
-reply-to-message-same a b h st count line (Err r) = refl
-reply-to-message-same a b h st count line (Ok m) =
-    ap (reply_by_refusal b st count line m) (refusal-same a b h st m) ∙ by-refusal-same a b h st count line m (refusal a st m)
+by-refusal-same : (a b : Network) → IsSame a b → (names : Names) (st : State) (count line : ℕ) (w : Wire) (m : Message) (answer : Option Refusal) → reply_by_refusal b names st count line w m answer ≡ reply_by_refusal a names st count line w m answer
+by-refusal-same a b h names st count line w m None = ap (Accepted line (count + 1)) (changed-same a b h st m)
+by-refusal-same a b h names st count line w m (Some r) = refl
+
+reply-to-message-same : (a b : Network) → IsSame a b → (names : Names) (st : State) (count line : ℕ) (w : Wire) (read : Result Message Refusal) → reply_to_message b names st count line w read ≡ reply_to_message a names st count line w read
+reply-to-message-same a b h names st count line w (Err r) = refl
+reply-to-message-same a b h names st count line w (Ok m) =
+    ap (reply_by_refusal b names st count line w m) (refusal-same a b h st m) ∙ by-refusal-same a b h names st count line w m (refusal a st m)
 
 reply-to-same : (a b : Network) → IsSame a b → (names : Names) (st : State) (count line : ℕ) (said : Result Spoken BadLine) → reply_to b names st count line said ≡ reply_to a names st count line said
 reply-to-same a b h names st count line (Err bad) = refl
 reply-to-same a b h names st count line (Ok Flush) = refl
-reply-to-same a b h names st count line (Ok (Says w)) = reply-to-message-same a b h st count line (resolved names w)
+reply-to-same a b h names st count line (Ok (Says w)) = reply-to-message-same a b h names st count line w (resolved names w)
 
 lines-same : (a b : Network) → IsSame a b → (names : Names) (st : State) (lines : List Line) → accepted_of b names st lines ≡ accepted_of a names st lines
 lines-same a b h names st lines = accepted-same a b h by_names st names (messages_of lines)
 
-reply-after-same : (a b : Network) → IsSame a b → (names : Names) (st : State) (before : List Line) (x : Line) → reply_after b names st before x ≡ reply_after a names st before x
-reply-after-same a b h names st before x =
-    ap (λ (ms : List Message). reply_to b names (after st ms) (length ms) (length before + 1) (said_by x)) (lines-same a b h names st before)
-    ∙ reply-to-same a b h names (after st (accepted_of a names st before)) (length (accepted_of a names st before)) (length before + 1) (said_by x)
+names-same : (a b : Network) → IsSame a b → (names : Names) (st : State) (lines : List Line) → names_after b names st lines ≡ names_after a names st lines
+names-same a b h names st lines = known-same a b h by_names st names (messages_of lines)
+
+text-same : (a b : Network) → IsSame a b → (names : Names) (st : State) (before : List Line) (x : Line) → text_after b names st before x ≡ text_after a names st before x
+text-same a b h names st before x =
+    let ms = accepted_of a names st before in
+    let known = names_after a names st before in
+    ap₂ (λ (all : List Message) (ns : Names). text_of_reply ns (reply_to b ns (after st all) (length all) (length before + 1) (said_by x))) (lines-same a b h names st before) (names-same a b h names st before)
+    ∙ ap (text_of_reply known) (reply-to-same a b h known (after st ms) (length ms) (length before + 1) (said_by x))
 
 -- the same replies
 pub replies-same : (a b : Network) → IsSame a b → (names : Names) (st : State) (before lines : List Line) → replies b names st before lines ≡ replies a names st before lines
 unfolding replies
 replies-same a b h names st before [] = refl
 replies-same a b h names st before (x ∷ xs) =
-    ap₂ (λ (r : List ℕ) (rs : List ℕ). r ++ rs) (ap (text_of_reply names) (reply-after-same a b h names st before x)) (replies-same a b h names st (before ++ x ∷ []) xs)
+    ap₂ (λ (r : List ℕ) (rs : List ℕ). r ++ rs) (text-same a b h names st before x) (replies-same a b h names st (before ++ x ∷ []) xs)
 
 rows-same : (a b : Network) → IsSame a b → (names : Names) (st : State) (train count : ℕ) → rows_from names b st train count ≡ rows_from names a st train count
 unfolding rows_from
@@ -152,11 +165,13 @@ rows-same a b h names st train zero = refl
 rows-same a b h names st train (suc count) =
     ap₂ (λ (r : List ℕ) (rs : List ℕ). r ++ rs) (λ i. rows_of_events names (λ k. times-same a b h st k i) (train_events st train)) (rows-same a b h names st (train + 1) count)
 
+table-same : (a b : Network) → IsSame a b → (names : Names) (st : State) → table b names st ≡ table a names st
+unfolding table
+table-same a b h names st = ap (λ (rows : List ℕ). header ++ rows) (rows-same a b h names st 0 (length st.trains))
+
 -- the same output
 pub output-same : (a b : Network) → IsSame a b → (names : Names) (st : State) (lines : List Line) → output b names st lines ≡ output a names st lines
-unfolding table
 output-same a b h names st lines =
-    let left = after st (accepted_of a names st lines) in
     ap₂ (λ (r : List ℕ) (t : List ℕ). r ++ t) (replies-same a b h names st [] lines)
-    (ap (λ (ms : List Message). table b names (after st ms)) (lines-same a b h names st lines)
-    ∙ ap (λ (rows : List ℕ). header ++ rows) (rows-same a b h names left 0 (length left.trains)))
+    (ap₂ (λ (ms : List Message) (ns : Names). table b ns (after st ms)) (lines-same a b h names st lines) (names-same a b h names st lines)
+    ∙ table-same a b h (names_after a names st lines) (after st (accepted_of a names st lines)))

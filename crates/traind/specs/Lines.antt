@@ -1,22 +1,24 @@
 -- What the lines of an input say, and which of their messages are accepted.
 use Rattle.std.specs.Prelude.{List, Some, None, Result, Ok, Err}
+use Rattle.std.specs.Option.{option_map_or}
 use Rattle.std.specs.declared.option.Option.{Option}
 use Rattle.std.specs.List.{filter_map}
 use Rattle.delay_model.specs.declared.network.Network.{Network}
 use Rattle.delay_model.specs.declared.messages.Message.{Message}
 use Rattle.delay_model.specs.declared.state.State.{State}
-use Rattle.delay_model.specs.After.{Reading, accepted}
+use Rattle.delay_model.specs.After.{Reading, accepted, known_after}
 use Rattle.delay_report.specs.declared.replies.BadLine.{BadLine}
 use Rattle.delay_report.specs.declared.replies.BadLine.TheVariants as words
 use Rattle.message_reader.specs.declared.bad.Bad.{Bad}
 use Rattle.message_reader.specs.declared.bad.Bad.TheVariants as faults
 use Rattle.message_reader.specs.declared.wire.Wire.{Wire}
+use Rattle.message_reader.specs.declared.wire.Wire.TheVariants.{Extra}
 use Rattle.message_reader.specs.declared.wire.Line.{Line as Spoken}
 use Rattle.message_reader.specs.declared.wire.Line.TheVariants.{Message as Says, Flush}
-use Rattle.message_reader.specs.Lines.{served_line_of}
+use Rattle.message_reader.specs.Lines.{line_of}
 use Rattle.message_reader.specs.Resolved.{resolved}
 use Rattle.mt_io.specs.Lines.{Line, short, long}
-use Rattle.schedule_build.specs.Directory.{Names}
+use Rattle.schedule_build.specs.Directory.{Names, day_named, with_extra}
 
 -- the word for a fault of a line. Reading by definition never wants memory, so the last case is never asked for
 abbrev pub word_of : Bad → BadLine
@@ -34,7 +36,7 @@ with_word (Err b) = Err (word_of b)
 -- what a line says, or why it is bad
 abbrev pub said_by : Line → Result Spoken BadLine
 said_by long = Err words.Long
-said_by (short bytes) = with_word (served_line_of bytes)
+said_by (short bytes) = with_word (line_of bytes)
 
 -- the message, if one is said
 abbrev pub message_in : Result Spoken BadLine → Option Wire
@@ -46,10 +48,20 @@ message_in (Err b) = None
 abbrev pub messages_of : List Line → List Wire
 messages_of lines = filter_map (λ x. message_in (said_by x)) lines
 
--- a message is read by the names of the timetable, to which no line adds any
+-- the names after an accepted message: an extra train is known by its trip and its service day from then on, and no other message
+-- adds a name. The day of an accepted message is loaded
+abbrev pub names_with : Names → Wire → Names
+names_with names (Extra trip date route calls) = option_map_or (λ day. with_extra trip day names) (day_named names date) names
+names_with names _ = names
+
+-- a message is read by the names that are known before it
 abbrev pub by_names : Reading Wire Names
-by_names = record { message = resolved; known = λ names w. names }
+by_names = record { message = resolved; known = names_with }
 
 -- the accepted messages of these lines, in a timetable that begins in the state `st`
 abbrev pub accepted_of : Network → Names → State → List Line → List Message
 accepted_of nw names st lines = accepted nw by_names st names (messages_of lines)
+
+-- the names that are known after these lines
+abbrev pub names_after : Network → Names → State → List Line → Names
+names_after nw names st lines = known_after nw by_names st names (messages_of lines)

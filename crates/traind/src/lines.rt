@@ -9,7 +9,7 @@ ghost use Rattle.mt_io.specs.Reader.{IsDone};
 ghost use Rattle.mt_io.specs.Runs.{fresh};
 ghost use Rattle.traind.specs.Causes.{HasFaultCause, WhereLinesStop, TookAll};
 ghost use Rattle.traind.specs.Fronts.{AppendsFront, Begun};
-ghost use Rattle.traind.specs.Standing.{Answered};
+ghost use Rattle.traind.specs.Standing.{Answered, standing_of};
 
 use crate::replies::reply_to_line;
 use crate::status::Fault;
@@ -40,7 +40,7 @@ fn write_reply<K: Sink>(
 pub(crate) fn answer_lines<S: Source, K: Sink>(
     alloc: Global,
     timetable: &mut Timetable,
-    directory: &Directory,
+    directory: &mut Directory,
     reader: &mut LineReader,
     input: &mut S,
     out: &mut K,
@@ -48,11 +48,11 @@ pub(crate) fn answer_lines<S: Source, K: Sink>(
     requires reader { reader.old ≡ fresh reader.old.budget }
     requires count { timetable.old.count ≡ 0 }
     ensures all { OnOk result ((bytes : List ℕ) × (lines : List Line) × IsDone reader.new
-        × Answered directory.now timetable.old timetable.new reader.new (S.left input.old) (S.left input.new) (K.written out.old) (K.written out.new) bytes lines) }
+        × Answered (standing_of timetable.old directory.old) (standing_of timetable.new directory.new) reader.new (S.left input.old) (S.left input.new) (K.written out.old) (K.written out.new) bytes lines) }
     ensures stopped { IfErr result (WhereLinesStop ((bytes : List ℕ) × (lines : List Line) × (lines_of false bytes ≡ lines)
-        × Answered directory.now timetable.old timetable.new reader.new (S.left input.old) (S.left input.new) (K.written out.old) (K.written out.new) bytes lines)) }
+        × Answered (standing_of timetable.old directory.old) (standing_of timetable.new directory.new) reader.new (S.left input.old) (S.left input.new) (K.written out.old) (K.written out.new) bytes lines)) }
     ensures begun { IfErr result (λ f. (bytes : List ℕ) × (lines : List Line)
-        × Begun directory.now timetable.old reader.new (S.left input.old) (S.left input.new) (K.written out.old) (K.written out.new) bytes lines) }
+        × Begun (standing_of timetable.old directory.old) reader.new (S.left input.old) (S.left input.new) (K.written out.old) (K.written out.new) bytes lines) }
     ensures fault { IfErr result (HasFaultCause ⊥ (λ why. ⊥) (Rose (S.faults input.old) (S.faults input.new)) (Rose (K.faults out.old) (K.faults out.new))
         (TookAll reader.old.budget (S.left input.old) (S.left input.new))) }
     ensures later { (S.faults input.old ≤ S.faults input.new) × (K.faults out.old ≤ K.faults out.new) }

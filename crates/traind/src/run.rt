@@ -32,19 +32,19 @@ use timetable::Timetable;
 fn run_lines<S: Source, K: Sink>(
     alloc: Global,
     timetable: &mut Timetable,
-    directory: &Directory,
+    directory: &mut Directory,
     input: &mut S,
     out: &mut K,
     budget: u64,
 ) -> Result<(), Fault>
     requires count { timetable.old.count ≡ 0 }
     ensures ok { OnOk result ((bytes : List ℕ) → S.left input.old ≡ Some bytes
-        → Appends (K.written out.old) (K.written out.new) (output timetable.old.network directory.now timetable.old.state (lines_of true bytes))) }
+        → Appends (K.written out.old) (K.written out.new) (output timetable.old.network directory.old timetable.old.state (lines_of true bytes))) }
     ensures ended { OnOk result (IsAtEnd (S.left input.new)) }
     ensures stopped { IfErr result (WhereLinesStop ((bytes : List ℕ) × Consumes (S.left input.old) (S.left input.new) bytes
-        × Appends (K.written out.old) (K.written out.new) (replies timetable.old.network directory.now timetable.old.state [] (lines_of false bytes)))) }
+        × Appends (K.written out.old) (K.written out.new) (replies timetable.old.network directory.old timetable.old.state [] (lines_of false bytes)))) }
     ensures front { IfErr result (λ f. (bytes : List ℕ) → S.left input.old ≡ Some bytes
-        → AppendsFront (K.written out.old) (K.written out.new) (output timetable.old.network directory.now timetable.old.state (lines_of true bytes))) }
+        → AppendsFront (K.written out.old) (K.written out.new) (output timetable.old.network directory.old timetable.old.state (lines_of true bytes))) }
     ensures fault { IfErr result (HasFaultCause ⊥ (λ why. ⊥) (Rose (S.faults input.old) (S.faults input.new)) (Rose (K.faults out.old) (K.faults out.new))
         (TookAll budget (S.left input.old) (S.left input.new))) }
 {
@@ -79,8 +79,8 @@ fn run_words<F: Feed, S: Source, K: Sink>(
     ensures front { WritesFront (map string_bytes words.now) (F.tables feed.old) (S.left input.old) (K.written out.old) (K.written out.new) }
 {
     let asked = read_words(alloc, words)?;
-    let (mut timetable, directory) = load(alloc, &asked, feed)?;
-    run_lines(alloc, &mut timetable, &directory, input, out, budget)
+    let (mut timetable, mut directory) = load(alloc, &asked, feed)?;
+    run_lines(alloc, &mut timetable, &mut directory, input, out, budget)
 }
 
 /// Writes why a feed is refused.

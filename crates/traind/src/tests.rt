@@ -80,6 +80,43 @@ const KEEP: &str =
 /// T1 does not run.
 const CANCEL: &str = r#"{"v":1,"type":"cancel","trip":"T1","date":"20260105","from":0,"to":2}"#;
 
+/// X1 runs from A to D, and has left A at 09:25:00.
+const EXTRA: &str =
+    r#"{"v":1,"type":"extra","trip":"X1","date":"20260105","route":"R1","calls":[{"stop":"A","arr":"09:20:00","dep":"09:20:00"},{"stop":"D","arr":"10:00:00","dep":"10:00:00"}]}
+{"v":1,"type":"report","trip":"X1","date":"20260105","call":0,"event":"dep","time":"09:25:00"}"#;
+
+/// X1 is to arrive at A before it leaves D.
+const BACKWARDS: &str =
+    r#"{"v":1,"type":"extra","trip":"X1","date":"20260105","route":"R1","calls":[{"stop":"D","arr":"09:20:00","dep":"09:20:00"},{"stop":"A","arr":"09:10:00","dep":"09:10:00"}]}"#;
+
+/// The replies to the extra train and its report.
+const EXTRA_REPLIES: &str = "{\"accepted\":1,\"changed\":2,\"line\":1}
+{\"accepted\":2,\"changed\":2,\"line\":2}
+";
+
+/// The reply to the extra train that is to arrive before it leaves.
+const BACKWARDS_REPLY: &str =
+    "{\"from\":{\"call\":0,\"date\":\"20260105\",\"event\":\"dep\",\"trip\":\"X1\"},\"line\":1,\"refused\":\"AgainstRank\",\"to\":{\"call\":1,\"date\":\"20260105\",\"event\":\"arr\",\"trip\":\"X1\"}}
+";
+
+/// All times where X1 has left A at 09:25:00.
+const WITH_EXTRA: &str = "trip,date,call,stop,event,scheduled,time
+T1,20260105,0,A,dep,08:00:00,08:00:00
+T1,20260105,1,B1,arr,08:30:00,08:30:00
+T1,20260105,1,B1,dep,08:32:00,08:32:00
+T1,20260105,2,C,arr,09:00:00,09:00:00
+T2,20260105,0,B2,dep,08:36:00,08:36:00
+T2,20260105,1,D,arr,09:10:00,09:10:00
+X1,20260105,0,A,dep,09:20:00,09:25:00
+X1,20260105,1,D,arr,10:00:00,10:02:12
+";
+
+/// All times where T1 does not run.
+const WITHOUT_T1: &str = "trip,date,call,stop,event,scheduled,time
+T2,20260105,0,B2,dep,08:36:00,08:36:00
+T2,20260105,1,D,arr,09:10:00,09:10:00
+";
+
 /// All times where T1 has left A at 08:10:00 and T2 waits for it.
 const HELD: &str = "trip,date,call,stop,event,scheduled,time
 T1,20260105,0,A,dep,08:00:00,08:10:00
@@ -184,12 +221,13 @@ fn scheduled_times_without_input(rt: HostRuntime) -> Result<(), Fail> {
 fn lines_are_answered(rt: HostRuntime) -> Result<(), Fail> {
     let alloc = rt.alloc();
     let unknown = "{\"line\":1,\"refused\":\"Unknown\"}\n";
-    let shape = "{\"bad\":\"shape\",\"line\":1}\n";
     for (line, reply, table) in [
         (FORECAST, ACCEPTED, LATE),
         (NO_TRAIN, unknown, SCHEDULED),
         (REPORT, ACCEPTED, LATE),
-        (CANCEL, shape, SCHEDULED),
+        (CANCEL, ACCEPTED, WITHOUT_T1),
+        (EXTRA, EXTRA_REPLIES, WITH_EXTRA),
+        (BACKWARDS, BACKWARDS_REPLY, SCHEDULED),
     ] {
         let text = format!(in alloc; "{line}\n")?;
         let want = format!(in alloc; "{reply}{table}")?;

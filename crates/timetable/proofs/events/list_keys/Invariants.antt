@@ -1,8 +1,9 @@
-use Rattle.std.proofs.Common.{◌≡◌, ◌++◌, drop}
-use Rattle.delay_model.specs.Events.{events}
+use Rattle.std.proofs.Common.{drop}
+use Rattle.delay_model.specs.Events.{events, events_from}
 use Rattle.timetable.specs.LiveTimes.{live_keys}
+use Rattle.timetable.proofs.Listing.{IsListed}
 use Rattle.timetable.proofs.events.list_keys.Given as goal
 
--- the keys of the live events so far are listed
-abbrev pub invariant-loop-n : goal.invariant-loop-n
-invariant-loop-n l = l.keys.items ++ live_keys (drop l.n-index (events l.trains)) ≡ live_keys (events l.trains)
+-- the keys of the live events of the trains so far are listed
+abbrev pub invariant-loop-number : goal.invariant-loop-number
+invariant-loop-number l = IsListed l.initial.keys (live_keys (events l.trains)) l.keys (live_keys (events_from l.number (drop l.number l.trains.trains)))

@@ -27,8 +27,8 @@ push_reserved-requires g c =
 pub loop-k-preserved : goal.loop-k-preserved
 loop-k-preserved g c =
     let part = IsPart c.args.graph.now c.args.order.now c.args.times.now c.args.changed.now (c.loop-k.k-index + 1) c.settle_one.new.times in
-    let more = more-changed c.requires.valid c.requires.order c.requires.held c.loop-k.invariant c.loop-k-test.true c.k-item.is c.node.ensures c.settle_one.new.times c.settle_one.result c.settle_one.ensures.rule c.settle_one.ensures.others c.settle_one.ensures.changed in
-    let same = more-same c.requires.valid c.requires.order c.requires.held c.loop-k.invariant c.loop-k-test.true c.k-item.is c.node.ensures c.settle_one.new.times c.settle_one.result c.settle_one.ensures.rule c.settle_one.ensures.others c.settle_one.ensures.changed in
+    let more = more-changed c.requires.valid c.requires.order c.requires.held c.loop-k.invariant c.loop-k-test.true c.k-item.is c.node.ensures c.settle_one.new.times c.settle_one.result c.settle_one.ensures.rule c.settle_one.ensures.others c.settle_one.ensures.changed c.settle_one.ensures.sized in
+    let same = more-same c.requires.valid c.requires.order c.requires.held c.loop-k.invariant c.loop-k-test.true c.k-item.is c.node.ensures c.settle_one.new.times c.settle_one.result c.settle_one.ensures.rule c.settle_one.ensures.others c.settle_one.ensures.changed c.settle_one.ensures.sized in
     elim c.if-settle_one.branch [
       | then-settle_one w ↦
           subst part (sym w.changed-is)

@@ -1,59 +1,49 @@
-use Rattle.std.proofs.Common.{◌≡◌, List, sym, ◌∙◌, ap, subst, arith, length, vec_capacity}
-use Rattle.std.specs.List.{All}
+use Rattle.std.proofs.Common.{◌++◌, List, map, sym, ◌∙◌, ap, subst, length, vec_capacity}
+use Rattle.std.specs.List.{All, filter}
+use Rattle.mt_base.specs.declared.keys.Key.{Key}
 use Rattle.mt_base.specs.declared.keys.Node.{Node}
+use Rattle.mt_base.specs.Order.{node_of}
 use Rattle.delay_model.specs.Effect.{effect}
 use Rattle.delay_model.specs.Events.{events}
 use Rattle.delay_model.specs.Touched.{changed_count}
-use Rattle.timetable.specs.Running.{Running, stepped}
-use Rattle.timetable.specs.Settled.{IsOrderOf, HasItsTime}
-use Rattle.timetable.proofs.Changed.{after-valid, after-order, after-listed, changed-length}
+use Rattle.delay_model.specs.Valid.{IsValid}
+use Rattle.train_nodes.specs.Kept.{AreSized}
+use Rattle.edge_rules.specs.Timetabled.{Timetabled}
+use Rattle.timetable.specs.Running.{Running}
+use Rattle.timetable.specs.Settled.{IsOrderOf, IsRoomy, HasItsTime, has_another, next_labels}
+use Rattle.timetable.proofs.Changed.{changed-length}
 use Rattle.timetable.proofs.timetable.Timetable.step.Goals as goal
 
 pub settle-requires-clause-valid : goal.settle-requires-clause-valid
 settle-requires-clause-valid g c =
-    after-valid c.self.inside.graph c.apply.new.g c.args.m.now c.apply.ensures.effect c.self.invariant.valid c.apply.ensures.well_formed c.in_ok-check.ensures
+    subst (λ (x : Timetabled). IsValid x.network x.state) (sym c.in_ok-prepare.ensures.effect) c.in_ok-prepare.ensures.prepared.valid
 
-pub settle-requires-clause-order : goal.settle-requires-clause-order
-settle-requires-clause-order g c =
-    subst (IsOrderOf (events c.apply.new.g.state)) (sym c.deref.ensures.value)
-    (after-order c.self.inside.graph c.apply.new.g c.args.m.now c.apply.ensures.effect c.requires.kind c.self.inside.order.items c.self.invariant.order)
-
-pub invariant_of-self : goal.invariant_of-self
-invariant_of-self g c =
-    let a = c.self.inside in
-    let new = c.apply.new.g in
-    let same : vec_capacity c.settle.new.changed ≡ vec_capacity a.changed = c.settle.ensures.capacity ∙ c.clear.ensures.capacity in
+pub invariant_of-self-2 : goal.invariant_of-self-2
+invariant_of-self-2 g c =
+    let p = c.in_ok-prepare.ensures.prepared in
+    let is = c.in_ok-prepare.ensures.effect in
+    let new = c.prepare.new.graph in
     record {
-      valid = after-valid a.graph new c.args.m.now c.apply.ensures.effect c.self.invariant.valid c.apply.ensures.well_formed c.in_ok-check.ensures;
-      order = after-order a.graph new c.args.m.now c.apply.ensures.effect c.requires.kind a.order.items c.self.invariant.order;
-      times = subst (All (HasItsTime new.network new.state c.settle.new.times)) c.deref.ensures.value c.settle.ensures.times;
-      room = omega (arith, c.self.invariant.room);
+      settled = record {
+        valid = subst (λ (x : Timetabled). IsValid x.network x.state) (sym is) p.valid;
+        order = subst (λ (x : Timetabled). IsOrderOf (events x.state) c.prepare.new.order.items) (sym is) p.order;
+        times = subst (All (HasItsTime new.network new.state c.settle.new.times)) c.deref.ensures.value c.settle.ensures.times;
+        sized = subst (λ (x : Timetabled). AreSized (next_labels x.state) c.settle.new.times) (sym is) (c.settle.ensures.sized _ p.sized);
+      };
+      roomy = subst (λ r. IsRoomy (length c.prepare.new.order.items) new.state.spare_calls (vec_capacity c.prepare.new.order) r) (sym c.settle.ensures.capacity)
+          (subst (λ (x : Timetabled). IsRoomy (length c.prepare.new.order.items) x.state.spare_calls (vec_capacity c.prepare.new.order) (vec_capacity c.prepare.new.changed)) (sym is) p.roomy);
     }
-
-pub returns-clause-effect : goal.returns-clause-effect
-returns-clause-effect g c =
-    let a = c.self.inside in
-    let new = c.apply.new.g in
-    let m = c.args.m.now in
-    let valid = after-valid a.graph new m c.apply.ensures.effect c.self.invariant.valid c.apply.ensures.well_formed c.in_ok-check.ensures in
-    let listed = after-listed a.graph new m c.apply.ensures.effect c.requires.kind a.order.items c.self.invariant.order a.times c.clear.new.self.items c.settle.new.changed.items c.deref.result.now valid c.self.invariant.times c.clear.ensures.items c.deref.ensures.value c.settle.ensures.changed in
-    (λ i. record {
-      network = (c.apply.ensures.effect i).network;
-      state = (c.apply.ensures.effect i).state;
-      count = c.saturating_add-self-inside.ensures i;
-      changed = listed i;
-    })
-    ∙ ap (λ (r : Running). stepped r m) c.self.view_is
 
 pub returns-clause-changed : goal.returns-clause-changed
 returns-clause-changed g c =
-    let a = c.self.inside in
-    let new = c.apply.new.g in
-    let m = c.args.m.now in
-    let valid = after-valid a.graph new m c.apply.ensures.effect c.self.invariant.valid c.apply.ensures.well_formed c.in_ok-check.ensures in
-    let listed = after-listed a.graph new m c.apply.ensures.effect c.requires.kind a.order.items c.self.invariant.order a.times c.clear.new.self.items c.settle.new.changed.items c.deref.result.now valid c.self.invariant.times c.clear.ensures.items c.deref.ensures.value c.settle.ensures.changed in
+    let a = c.self.inside.graph in
+    let new = c.prepare.new in
     c.len.ensures
     ∙ c.settle.new.changed.ok.0
-    ∙ ap (λ (ns : List Node). length ns) listed
-    ∙ changed-length a.graph.network a.graph.state (effect a.graph.state m)
-    ∙ ap (λ (r : Running). changed_count r.network r.state m) c.self.view_is
+    ∙ ap (λ (ns : List Node). length ns)
+    (c.settle.ensures.changed
+    ∙ ap (λ (ks : List Key). new.changed.items ++ map node_of (filter (has_another new.graph.network new.graph.state new.times) ks)) c.deref.ensures.value
+    ∙ ap (λ (x : Timetabled). new.changed.items ++ map node_of (filter (has_another x.network x.state new.times) new.order.items)) c.in_ok-prepare.ensures.effect
+    ∙ c.in_ok-prepare.ensures.prepared.listed)
+    ∙ changed-length a.network a.state (effect a.state c.args.m.now)
+    ∙ ap (λ (r : Running). changed_count r.network r.state c.args.m.now) c.self.view_is

@@ -12,14 +12,14 @@ read-requires g c =
     let a = c.self.inside in
     let n = c.args.n.now in
     let live = ap (λ (s : State). is_live s n) (sym c.trains.ensures.trains) ∙ sym c.live.ensures ∙ c.if-live.true in
-    ap is_some (time-kept a.graph.network a.graph.state a.times a.order.items n c.self.invariant.order c.self.invariant.times live).1
+    ap is_some (time-kept a.graph.network a.graph.state a.times a.order.items n c.self.invariant.settled.order c.self.invariant.settled.times live).1
 
 pub returns-then-live : goal.returns-then-live
 returns-then-live g c =
     let a = c.self.inside in
     let n = c.args.n.now in
     let live = ap (λ (s : State). is_live s n) (sym c.trains.ensures.trains) ∙ sym c.live.ensures ∙ c.if-live.true in
-    let t = time-kept a.graph.network a.graph.state a.times a.order.items n c.self.invariant.order c.self.invariant.times live in
+    let t = time-kept a.graph.network a.graph.state a.times a.order.items n c.self.invariant.settled.order c.self.invariant.settled.times live in
     sym c.read.ensures.time ∙ t.1 ∙ sym t.2 ∙ ap (λ (r : Running). live_time r.network r.state n) c.self.view_is
 
 pub returns-else-live : goal.returns-else-live

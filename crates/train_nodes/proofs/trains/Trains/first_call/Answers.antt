@@ -1,12 +1,11 @@
-use Rattle.std.proofs.Common.{◌∙◌, ap, sym, Some}
-use Rattle.delay_model.specs.Events.{calls_of}
-use Rattle.train_nodes.proofs.StoredLemmas.{stored-numbered, stored-some}
-use Rattle.train_nodes.proofs.EventLemmas.{first_label-is}
+use Rattle.std.proofs.Common.{sym, ◌∙◌, ap}
+use Rattle.std.specs.Option.{option_map}
+use Rattle.std.proofs.lemmas.Option.{slice_get-get_or}
+use Rattle.delay_model.specs.declared.state.Call.{Call}
+use Rattle.train_nodes.specs.Calls.{first_label}
 use Rattle.train_nodes.proofs.trains.Trains.first_call.Goals as goal
 
 pub returns : goal.returns
 returns c =
-    let a = c.self.inside in
-    let st = c.args.self.now in
-    first_label-is (calls_of st c.args.t) (stored-numbered a st c.args.t c.self.invariant c.self.view_is) (stored-some a st c.args.t c.self.invariant c.self.view_is c.requires)
-    ∙ ap Some (sym c.new.ensures)
+    ap first_label (sym c.calls_of.ensures.calls)
+    ∙ ap (option_map (λ (call : Call). call.label)) (slice_get-get_or c.calls_of.result.now 0 c.index-calls_of-0.result (c.calls_of.ensures.some c.requires))

@@ -1,45 +1,27 @@
-use Rattle.std.proofs.Common.{◌≡◌, ◌+◌, ◌∙◌, ap, sym, arith, Some, get_or}
-use Rattle.delay_model.specs.Events.{calls_of}
-use Rattle.train_nodes.specs.Calls.{has_call}
-use Rattle.train_nodes.proofs.StoredLemmas.{stored-numbered, calls-length, has-train, has-label, row-within}
-use Rattle.train_nodes.proofs.EventLemmas.{label_after-is, label_after-none}
+use Rattle.std.proofs.Common.{suc, sym, ◌∙◌, ap, arith, Some, get_or, add-one}
+use Rattle.std.specs.Option.{option_map}
+use Rattle.std.proofs.lemmas.Option.{slice_get-get_or, slice_get_past}
+use Rattle.delay_model.specs.declared.state.Call.{Call}
+use Rattle.train_nodes.specs.Calls.{label_after}
+use Rattle.train_nodes.proofs.EventLemmas.{label_after-at}
 use Rattle.train_nodes.proofs.trains.Trains.next_call.Goals as goal
 
-pub index-row-requires : goal.index-row-requires
-index-row-requires c =
-    let there = has-train c.self.inside c.args.t c.args.l (ap (λ s. has_call s c.args.t c.args.l) c.self.view_is ∙ c.requires) in
-    omega arith
+pub returns-then-next-calls : goal.returns-then-next-calls
+returns-then-next-calls c =
+    let cs = c.calls_of-calls.result.now in
+    let place = c.in_ok-next.field-0 in
+    let x = c.index-calls-next.result in
+    let l = c.if-next-calls.true in
+    ap (λ k. Some (get_or cs k x).label) (add-one place)
+    ∙ sym (ap (λ ds. label_after ds c.args.l) (sym c.calls_of-calls.ensures.calls)
+    ∙ label_after-at cs c.args.l place c.in_ok-next.ensures.first
+    ∙ ap (option_map (λ (call : Call). call.label)) (slice_get-get_or cs (suc place) x (omega arith)))
 
-pub overflow_add-next : goal.overflow_add-next
-overflow_add-next c =
-    let a = c.self.inside in
-    let r = c.index-row.result.now in
-    let has = ap (λ s. has_call s c.args.t c.args.l) c.self.view_is ∙ c.requires in
-    let there = has-train a c.args.t c.args.l has in
-    let at = c.index-row.ensures ∙ ap (λ i. get_or a.rows.items i r) c.get.ensures in
-    let below = has-label a c.args.t c.args.l r c.self.invariant there at has in
-    let within = row-within a c.args.t r c.self.invariant there at in
-    let small = c.self.invariant.calls_small in
-    omega arith
-
-pub returns-then-next-row : goal.returns-then-next-row
-returns-then-next-row c =
-    let a = c.self.inside in
-    let st = c.args.self.now in
-    let r = c.index-row.result.now in
-    let there = has-train a c.args.t c.args.l (ap (λ s. has_call s c.args.t c.args.l) c.self.view_is ∙ c.requires) in
-    let at = c.index-row.ensures ∙ ap (λ i. get_or a.rows.items i r) c.get.ensures in
-    let len = calls-length a st c.args.t r c.self.invariant c.self.view_is there at in
-    let same : c.new.result ≡ c.args.l + 1 = omega arith in
-    ap Some same
-    ∙ sym (label_after-is (calls_of st c.args.t) c.args.l (stored-numbered a st c.args.t c.self.invariant c.self.view_is) (omega arith))
-
-pub returns-else-next-row : goal.returns-else-next-row
-returns-else-next-row c =
-    let a = c.self.inside in
-    let st = c.args.self.now in
-    let r = c.index-row.result.now in
-    let there = has-train a c.args.t c.args.l (ap (λ s. has_call s c.args.t c.args.l) c.self.view_is ∙ c.requires) in
-    let at = c.index-row.ensures ∙ ap (λ i. get_or a.rows.items i r) c.get.ensures in
-    let len = calls-length a st c.args.t r c.self.invariant c.self.view_is there at in
-    sym (label_after-none (calls_of st c.args.t) c.args.l (stored-numbered a st c.args.t c.self.invariant c.self.view_is) (omega arith))
+pub returns-else-next-calls : goal.returns-else-next-calls
+returns-else-next-calls c =
+    let cs = c.calls_of-calls.result.now in
+    let place = c.in_ok-next.field-0 in
+    let l = c.if-next-calls.false in
+    sym (ap (λ ds. label_after ds c.args.l) (sym c.calls_of-calls.ensures.calls)
+    ∙ label_after-at cs c.args.l place c.in_ok-next.ensures.first
+    ∙ ap (option_map (λ (call : Call). call.label)) (slice_get_past cs (suc place) (omega arith)))

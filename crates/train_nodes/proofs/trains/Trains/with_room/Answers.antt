@@ -1,7 +1,7 @@
-use Rattle.std.proofs.Common.{◌≡◌, [], length, ap, subst, sym, arith, All, map, vec_capacity}
+use Rattle.std.proofs.Common.{◌≡◌, [], length, ap, subst, sym, arith, All, vec_capacity}
 use Rattle.std.proofs.lemmas.List.Elements.{All-nil}
 use Rattle.train_nodes.specs.Stretches.{IsLaidOut}
-use Rattle.train_nodes.specs.Stored.{train_of, first_of, len_of, IsLoaded, HaveReportsWithin}
+use Rattle.train_nodes.specs.Stored.{first_of, len_of, IsRowStored}
 use Rattle.train_nodes.proofs.trains.Trains.with_room.Goals as goal
 
 pub invariant_of-result : goal.invariant_of-result
@@ -17,8 +17,7 @@ invariant_of-result c =
     let e : vec_capacity calls ≡ c.args.calls = c.in_ok-with_capacity-2.ensures.exact in
     record {
       laid = subst (λ rs. IsLaidOut first_of len_of 0 rs (length calls.items)) (sym no_rows) (sym b);
-      loaded = subst (λ rs. All IsLoaded (map (train_of calls.items) rs)) (sym no_rows) (All-nil IsLoaded);
-      reports = subst (λ rs. HaveReportsWithin rs (map (train_of calls.items) rs)) (sym no_rows) tt;
+      trains = subst (All (IsRowStored c.args.calls calls.items)) (sym no_rows) (All-nil (IsRowStored c.args.calls calls.items));
       rows_room = omega arith;
       calls_room = omega arith;
       rows_small = omega arith;

@@ -1,0 +1,4 @@
+pub mod ExtraLemmas
+pub mod RankLemmas
+pub mod RerouteLemmas
+pub mod Walks

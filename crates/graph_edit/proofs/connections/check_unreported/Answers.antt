@@ -1,5 +1,0 @@
-use Rattle.edge_rules.proofs.Neighbours.{live-there}
-use Rattle.graph_edit.proofs.connections.check_unreported.Goals as goal
-
-pub event-event-requires : goal.event-event-requires
-event-event-requires c = rw c.trains.ensures.trains (live-there c.args.g.now.state c.args.n.now c.requires)

@@ -1,0 +1,312 @@
+-- What a message leaves of the events that changes the calls of a train, or which of its events take place.
+use Rattle.std.proofs.Common.{◌≡◌, ℕ, zero, suc, ◌+◌, ◌*◌, ◌<◌, ◌≤◌, true, cond, nat_eq, nat_le, nat_lt, List, [], ◌∷◌, ◌++◌, Option, Some, None, map, length, length-append, slice_get, filter, drop, not, Vec, Global, vec_len, vec_capacity, refl, sym, ◌∙◌, ap, subst, arith, inl, inr, ◌⊎◌}
+use Rattle.std.proofs.Math.Logic.{◌≢◌}
+use Rattle.std.specs.Option.{option_map_or}
+use Rattle.std.specs.List.{All, Contains}
+use Rattle.std.proofs.lemmas.Bool.{cond_both, and_parts, not-false, ltb-false, leb-true}
+use Rattle.std.proofs.lemmas.List.{map-append, append-nil}
+use Rattle.std.proofs.lemmas.List.Elements.{All-weaker, All-contains, Contains-append_left, Contains-append_right, Contains-append_cases, filter-append}
+use Rattle.std.proofs.lemmas.List.Sums.{length-filter, count_by-le-length}
+use Rattle.std.proofs.lemmas.Option.{slice_get_within}
+use Rattle.mt_base.specs.declared.keys.Key.{Key}
+use Rattle.mt_base.specs.declared.keys.Node.{Node}
+use Rattle.mt_base.specs.declared.plans.NewCall.{NewCall}
+use Rattle.mt_base.specs.Order.{node_of}
+use Rattle.delay_model.specs.declared.network.Network.{Network}
+use Rattle.delay_model.specs.declared.messages.Message.{Message}
+use Rattle.delay_model.specs.declared.messages.Message.TheVariants.{Report, Forecast, Cancel, Reroute, Extra, Keep, Drop, Rule}
+use Rattle.delay_model.specs.declared.messages.Refusal.TheVariants.{Full}
+use Rattle.delay_model.specs.declared.messages.Short.TheVariants.{Trains, Calls}
+use Rattle.delay_model.specs.declared.state.Call.{Call}
+use Rattle.delay_model.specs.declared.state.Train.{Train}
+use Rattle.delay_model.specs.declared.state.State.{State}
+use Rattle.delay_model.specs.declared.state.Event.{Event}
+use Rattle.delay_model.specs.Effect.{effect, change_train, change_calls, kill_in, stretch, new_calls, new_train, rerouted, begin_run, end_run}
+use Rattle.delay_model.specs.Events.{events, events_at, events_of, events_from, calls_of, live_events, is_live}
+use Rattle.delay_model.specs.Messages.{IsWellFormed, IsSmallCall}
+use Rattle.delay_model.specs.Refusals.{refusal, refused_if, stands_before, are_at_stops}
+use Rattle.delay_model.specs.Valid.{IsTrain, IsValid}
+use Rattle.delay_model.proofs.Apart.{events_at-train}
+use Rattle.delay_model.proofs.Ends.{IsLiveAt}
+use Rattle.state_laws.proofs.Accepted.{accepted-by, or-none, refused-none}
+use Rattle.state_laws.proofs.Added.{events-push}
+use Rattle.state_laws.proofs.Cancelled.{cancel-mapping}
+use Rattle.state_laws.proofs.Cancels.{kill_at}
+use Rattle.state_laws.proofs.Changed.{contains-change}
+use Rattle.state_laws.proofs.Extras.{IsFreshCall, made, new-fresh}
+use Rattle.state_laws.proofs.Mappings.{contains-unmap, mapping-events}
+use Rattle.state_laws.proofs.Parts.{events-from_each, trains-each}
+use Rattle.state_laws.proofs.Stretches.{events_at-each}
+use Rattle.state_laws.proofs.Swapped.{swap-of}
+use Rattle.train_nodes.specs.Kept.{Kept, time_of, has_time, change_at, no_time, AreSized, blank_times, with_train_times, with_labels, without_labels}
+use Rattle.train_nodes.specs.Kinds.{IsShape}
+use Rattle.timetable.specs.Settled.{next_labels}
+use Rattle.timetable.specs.Shapes.{HasItsTrain, changed_train, with_made, without_made}
+use Rattle.train_nodes.proofs.TimeLemmas.{pushed-old, pushed-new, added-old, added-new, kept-again, popped-again}
+use Rattle.timetable.proofs.Sized.{next_of, sized-trains, sized-at, sized-push, sized-more, labels-kept}
+
+-- an event that a message makes: there was none of its name, and a time that no event has is kept for it
+pub record IsMade (es : List Event) (times : Kept) (w : Event) : Type 0 where
+  pub unknown : (v : Event) → Contains es v → node_of v.key ≢ node_of w.key
+  pub blank : time_of times (node_of w.key) ≡ Some no_time
+
+-- after a message that changes or adds the train n
+pub record IsReshaped (old new : State) (n : ℕ) (times after : Kept) : Type 0 where
+  pub known : (w : Event) → Contains (events new) w → w.live ≡ true → IsLiveAt (events old) w.key ⊎ IsMade (events old) after w
+  pub others : (v : Event) → Contains (events old) v → v.key.train ≢ n → Contains (events new) v
+  pub fewer : length (live_events (events new)) + 2 * new.spare_calls ≤ length (live_events (events old)) + 2 * old.spare_calls
+  pub sized : AreSized (next_labels new) after
+  pub kept : (m : Node) → has_time times m ≡ true → time_of after m ≡ time_of times m
+
+pub live-count : (es fs : List Event) → length (live_events (es ++ fs)) ≡ length (live_events es) + length (live_events fs)
+live-count es fs = ap length (filter-append (λ (v : Event). v.live) es fs) ∙ length-append (live_events es) (live_events fs)
+
+live-le : (es : List Event) → length (live_events es) ≤ length es
+live-le es = let e = length-filter (λ (v : Event). v.live) es in let l = count_by-le-length (λ (v : Event). v.live) es in omega arith
+
+events-count : (n route : ℕ) (cs : List Call) → length (events_at n route cs) ≡ 2 * length cs
+events-count n route [] = refl
+events-count n route (c ∷ cs) = let e = events-count n route cs in omega arith
+
+-- where none becomes live, there are no more live events
+fewer-live : (h : Event → Event) → ((v : Event) → (h v).live ≡ true → v.live ≡ true) → (es : List Event) → length (live_events (map h es)) ≤ length (live_events es)
+fewer-live h lives [] = omega arith
+fewer-live h lives (v ∷ vs) =
+    let le = fewer-live h lives vs in
+    let here = live-count (h v ∷ []) (map h vs) in
+    let there = live-count (v ∷ []) vs in
+    let one : length (live_events (h v ∷ [])) ≤ length (live_events (v ∷ [])) =
+    cond_both (h v).live (h v ∷ []) [] (λ es. length es ≤ length (live_events (v ∷ []))) (λ l. subst (λ b. 1 ≤ length (cond b (v ∷ []) [])) (sym (lives v l)) (omega arith)) (λ _. omega arith)
+    in
+    omega arith
+
+-- the events of other trains stay
+others-stay : (st : State) (n : ℕ) (f : Train → Train) (v : Event) → Contains (events st) v → v.key.train ≢ n → Contains (events_from 0 (change_train n f st.trains)) v
+unfolding events
+others-stay st n f v h ne =
+    contains-change f 0 n st.trains v v h (λ _. refl) (λ at t e got own.
+    let here : v.key.train ≡ at = All-contains (λ v. v.key.train ≡ at) (events_of at t) v (events_at-train at t.route t.calls) own in
+    absurd (ne (omega arith)))
+
+cancel-reshaped : (st : State) (n from to : ℕ) (times : Kept) → AreSized (next_labels st) times → IsReshaped st (effect st (Cancel n from to)) n times times
+unfolding effect events
+cancel-reshaped st n from to times sized =
+    let es = stretch st n from to in
+    let new = effect st (Cancel n from to) in
+    let h = kill_at es in
+    let m = cancel-mapping st n from to in
+    let is_new = mapping-events st new n (kill_in es n) h m in
+    record {
+      known = λ w hw live.
+          let r = contains-unmap h (events st) w (subst (λ vs. Contains vs w) is_new hw) in
+          inl (r.0, r.1, sym (m.mapped.keys r.0) ∙ ap (λ (v : Event). v.key) r.2, m.mapped.lives r.0 (ap (λ (v : Event). v.live) r.2 ∙ live));
+      others = others-stay st n (change_calls (map (kill_in es n)));
+      fewer = let le = fewer-live h m.mapped.lives (events st) in let e = ap (λ vs. length (live_events vs)) is_new in omega arith;
+      sized = sized ∙ ap (map (λ l. 2 * l)) (sym (labels-kept n (change_calls (map (kill_in es n))) st.trains (λ t. refl)));
+      kept = λ m h. refl;
+    }
+
+-- an event of the train n under a label in a range
+record IsWithin (n low high : ℕ) (v : Event) : Type 0 where
+  pub train : v.key.train ≡ n
+  pub from : low ≤ v.key.label
+  pub below : v.key.label < high
+
+within-each : (n low high route : ℕ) (cs : List Call) → All (IsFreshCall low high) cs → All (IsWithin n low high) (events_at n route cs)
+within-each n low high route cs h =
+    events_at-each (IsWithin n low high) (IsFreshCall low high) n route (λ c f. (record { train = refl; from = f.from; below = f.below }, record { train = refl; from = f.from; below = f.below })) cs h
+
+-- the labels of a train's events are used
+used-below : (st : State) (n : ℕ) (t : Train) → All IsTrain st.trains → slice_get st.trains n ≡ Some t → All (λ v. v.key.train ≡ n → v.key.label < t.next_label) (events st)
+unfolding events
+used-below st n t trains got =
+    let P : Event → Type 0 = λ v. v.key.train ≡ n → v.key.label < t.next_label in
+    events-from_each P 0 st.trains (λ i at u e own.
+    let here : (c : Call) → c.label < u.next_label → at ≡ n → c.label < t.next_label =
+    λ c l same. let alike : u ≡ t = let j : i ≡ n = omega arith in let both = ap (slice_get st.trains) j in cc in subst (λ (x : Train). c.label < x.next_label) alike l
+    in
+    events_at-each P (λ c. c.label < u.next_label) at u.route (λ c l. (here c l, here c l)) u.calls (trains-each IsTrain st.trains trains i i u (omega arith) own).used)
+
+train-of : (o : Option Train) (from to : ℕ) → stands_before from to (option_map_or (λ (t : Train). t.calls) o []) ≡ true → (t : Train) × (o ≡ Some t)
+train-of None from to h = absurd (cc)
+train-of (Some t) from to h = (t, refl)
+
+length-new : (label : ℕ) (cs : List NewCall) → length (new_calls label cs) ≡ length cs
+length-new label [] = refl
+length-new label (c ∷ cs) = ap suc (length-new (label + 1) cs)
+
+spare-of : (spare n : ℕ) → refused_if (nat_lt spare n) (Full Calls) ≡ None → n ≤ spare
+spare-of spare n h = ltb-false spare n (refused-none (nat_lt spare n) (Full Calls) h)
+
+reroute-reshaped : (nw : Network) (st : State) (n from to : ℕ) (via : List NewCall) (times : Kept) → IsValid nw st → All IsSmallCall via → refusal nw st (Reroute n from to via) ≡ None → AreSized (next_labels st) times → IsReshaped st (effect st (Reroute n from to via)) n times (with_labels n (length via) times)
+unfolding effect events
+reroute-reshaped nw st n from to via times valid small h sized =
+    let s = swap-of nw st n from to via valid small h in
+    let t = s.train in
+    let low = t.next_label in
+    let high = low + length via in
+    let back = s.next ∷ s.rest in
+    let is_made : s.made ≡ events_at n t.route (new_calls low via) = sym s.is_made ∙ ap (λ o. option_map_or (λ (t : Train). events_at n t.route (new_calls t.next_label via)) o []) s.got in
+    let old_live : (w : Event) → w.live ≡ true → Contains (s.front ++ (s.mid ++ back)) w → IsLiveAt (events st) w.key = λ w live c. (w, subst (λ vs. Contains vs w) (sym s.old) c, refl, live) in
+    let enough : length via ≤ st.spare_calls = spare-of st.spare_calls (length via) (accepted-by nw st (Reroute n from to via) h).room in
+    record {
+      known = λ w hw live.
+          elim (Contains-append_cases s.front (s.made ++ back) w (subst (λ vs. Contains vs w) s.new hw)) [
+            | inl front ↦ inl (old_live w live (Contains-append_left s.front (s.mid ++ back) w front))
+            | inr later ↦ elim (Contains-append_cases s.made back w later) [
+              | inl fresh ↦
+                  let f = All-contains (IsWithin n low high) (events_at n t.route (new_calls low via)) w (within-each n low high t.route (new_calls low via) (new-fresh low high via (omega arith) small)) (subst (λ vs. Contains vs w) is_made fresh) in
+                  inr (record {
+                    unknown = λ v hv same.
+                        let train : v.key.train ≡ n = ap (λ (m : Node). m.train) same ∙ f.train in
+                        let less = All-contains (λ v. v.key.train ≡ n → v.key.label < low) (events st) v (used-below st n t valid.trains s.got) hv train in
+                        let label : v.key.label ≡ w.key.label = ap (λ (m : Node). m.label) same in
+                        let more = f.from in
+                        absurd (omega arith);
+                    blank = added-new n (length via) times (node_of w.key) low f.train (sized-at st times n t sized s.got) f.from f.below;
+                  })
+              | inr behind ↦ inl (old_live w live (Contains-append_right s.front (s.mid ++ back) w (Contains-append_right s.mid back w behind)))
+            ]
+          ];
+      others = others-stay st n (rerouted from to via);
+      fewer =
+          let a = live-count s.front (s.mid ++ back) in
+          let b = live-count s.mid back in
+          let c = live-count s.front (s.made ++ back) in
+          let d = live-count s.made back in
+          let e = live-le s.made in
+          let f = ap (λ vs. length vs) is_made ∙ events-count n t.route (new_calls low via) in
+          let g = length-new low via in
+          let i = ap (λ vs. length (live_events vs)) s.old in
+          let j = ap (λ vs. length (live_events vs)) s.new in
+          omega arith;
+      sized = sized-more st.trains times n (length via) (rerouted from to via) (λ t. refl) sized;
+      kept = λ m. added-old n (length via) times m;
+    }
+
+length-begin : (cs : List Call) → length (begin_run cs) ≡ length cs
+length-begin [] = refl
+length-begin (c ∷ cs) = refl
+
+length-end : (cs : List Call) → length (end_run cs) ≡ length cs
+length-end [] = refl
+length-end (c ∷ []) = refl
+length-end (c ∷ d ∷ ds) = ap suc (length-end (d ∷ ds))
+
+-- the number of an extra train is the next one
+next-number : (nw : Network) (st : State) (n day route : ℕ) (cs : List NewCall) → refusal nw st (Extra n day route cs) ≡ None → n ≡ length st.trains
+next-number nw st n day route cs h =
+    let a = accepted-by nw st (Extra n day route cs) h in
+    let low = leb-true n (length st.trains) (and_parts (nat_le n (length st.trains)) (are_at_stops nw cs) (not-false _ a.known)).0 in
+    let high = ltb-false n (length st.trains) a.new in
+    omega arith
+
+-- each event is of one of the trains
+numbers-below : (st : State) → All (λ v. v.key.train < length st.trains) (events st)
+unfolding events
+numbers-below st =
+    events-from_each (λ v. v.key.train < length st.trains) 0 st.trains (λ i at t e got.
+    let less = slice_get_within st.trains i t got in
+    All-weaker (λ v. v.key.train ≡ at) (λ v. v.key.train < length st.trains) (λ v own. omega arith) (events_of at t) (events_at-train at t.route t.calls))
+
+extra-reshaped : (nw : Network) (st : State) (n day route : ℕ) (cs : List NewCall) (times : Kept) → All IsSmallCall cs → refusal nw st (Extra n day route cs) ≡ None → AreSized (next_labels st) times → IsReshaped st (effect st (Extra n day route cs)) n times (with_train_times (length cs) times)
+unfolding effect events
+extra-reshaped nw st n day route cs times small h sized =
+    let t = new_train day route cs in
+    let at = next-number nw st n day route cs h in
+    let es = events st in
+    let es_new = events_of n t in
+    let is_new : events_from 0 (st.trains ++ t ∷ []) ≡ es ++ (es_new ++ []) = events-push 0 n st.trains t (omega arith) in
+    let enough : length cs ≤ st.spare_calls = spare-of st.spare_calls (length cs) (or-none (refused_if (nat_eq st.spare_trains 0) (Full Trains)) _ (accepted-by nw st (Extra n day route cs) h).room).1 in
+    let long = sized-trains st times sized in
+    record {
+      known = λ w hw live.
+          elim (Contains-append_cases es (es_new ++ []) w (subst (λ vs. Contains vs w) is_new hw)) [
+            | inl old ↦ inl (w, old, refl, live)
+            | inr fresh ↦
+                let f = All-contains (IsWithin n 0 (length cs)) es_new w (within-each n 0 (length cs) route t.calls (made cs small).fresh) (subst (λ vs. Contains vs w) (append-nil es_new) fresh) in
+                let own = f.train in
+                inr (record {
+                  unknown = λ v hv same.
+                      let less = All-contains (λ v. v.key.train < length st.trains) es v (numbers-below st) hv in
+                      let train : v.key.train ≡ w.key.train = ap (λ (m : Node). m.train) same in
+                      absurd (omega arith);
+                  blank = pushed-new (length cs) times (node_of w.key) (omega arith) f.below;
+                })
+          ];
+      others = λ v hv _. subst (λ vs. Contains vs v) (sym is_new) (Contains-append_left es (es_new ++ []) v hv);
+      fewer =
+          let a = live-count es (es_new ++ []) in
+          let b = ap (λ vs. length (live_events vs)) (append-nil es_new) in
+          let c = live-le es_new in
+          let d = events-count n route t.calls in
+          let e = length-begin (end_run (new_calls 0 cs)) ∙ length-end (new_calls 0 cs) ∙ length-new 0 cs in
+          let i = ap (λ vs. length (live_events vs)) is_new in
+          omega arith;
+      sized = sized-push (next_labels st) times (length cs) sized ∙ ap (map (λ l. 2 * l)) (sym (map-append next_of st.trains (t ∷ [])));
+      kept = λ m. pushed-old (length cs) times m;
+    }
+
+pub reshaped : (nw : Network) (st : State) (m : Message) (times : Kept) → IsShape m → IsValid nw st → IsWellFormed m → refusal nw st m ≡ None → AreSized (next_labels st) times → IsReshaped st (effect st m) (changed_train m) times (with_made m times)
+reshaped nw st (Cancel n from to) times shape valid well h sized = cancel-reshaped st n from to times sized
+reshaped nw st (Reroute n from to via) times shape valid well h sized = reroute-reshaped nw st n from to via times valid well h sized
+reshaped nw st (Extra n day route cs) times shape valid well h sized = extra-reshaped nw st n day route cs times well.1 h sized
+reshaped nw st (Report n t) times shape valid well h sized = absurd shape
+reshaped nw st (Forecast n t) times shape valid well h sized = absurd shape
+reshaped nw st (Keep feeder train) times shape valid well h sized = absurd shape
+reshaped nw st (Drop feeder train) times shape valid well h sized = absurd shape
+reshaped nw st (Rule feeder train) times shape valid well h sized = absurd shape
+
+-- the train whose calls a rerouting replaces is there
+rerouted-there : (nw : Network) (st : State) (n from to : ℕ) (via : List NewCall) → refusal nw st (Reroute n from to via) ≡ None → (t : Train) × (slice_get st.trains n ≡ Some t)
+rerouted-there nw st n from to via h =
+    train-of (slice_get st.trains n) from to (and_parts (stands_before from to (calls_of st n)) _ (not-false _ (accepted-by nw st (Reroute n from to via) h).known)).0
+
+length-changed : {X : Type 0} (n : ℕ) (f : X → X) (xs : List X) → length (change_at n f xs) ≡ length xs
+length-changed n f [] = refl
+length-changed zero f (x ∷ xs) = refl
+length-changed (suc n) f (x ∷ xs) = ap suc (length-changed n f xs)
+
+-- the train that an accepted message names is there, and first times for the events that it makes can be kept and taken away again
+pub record IsFitting (st : State) (m : Message) (times : Kept) : Type 0 where
+  pub there : HasItsTrain (length st.trains) m
+  pub within : changed_train m < length (with_made m times).trains
+  pub undone : without_made st m (with_made m times) ≡ times
+
+pub fitting : (nw : Network) (st : State) (m : Message) (times : Kept) → IsShape m → refusal nw st m ≡ None → AreSized (next_labels st) times → IsFitting st m times
+fitting nw st (Cancel n from to) times shape h sized =
+    let r = train-of (slice_get st.trains n) from to (not-false _ (accepted-by nw st (Cancel n from to) h).known) in
+    let less = slice_get_within st.trains n r.0 r.1 in
+    let long = sized-trains st times sized in
+    record { there = tt; within = omega arith; undone = refl }
+fitting nw st (Reroute n from to via) times shape h sized =
+    let r = rerouted-there nw st n from to via h in
+    let less = slice_get_within st.trains n r.0 r.1 in
+    let long = length-changed n (λ ts. ts ++ blank_times (length via)) times.trains in
+    let same = sized-trains st times sized in
+    record {
+      there = less;
+      within = omega arith;
+      undone = ap (λ o. without_labels n (option_map_or next_of o 0) (with_labels n (length via) times)) r.1
+          ∙ kept-again n (length via) r.0.next_label times (sized-at st times n r.0 sized r.1);
+    }
+fitting nw st (Extra n day route cs) times shape h sized =
+    let at = next-number nw st n day route cs h in
+    let long = length-append times.trains (blank_times (length cs) ∷ []) in
+    let same = sized-trains st times sized in
+    record {
+      there = tt;
+      within = omega arith;
+      undone = popped-again (length cs) times;
+    }
+fitting nw st (Report n t) times shape h sized = absurd shape
+fitting nw st (Forecast n t) times shape h sized = absurd shape
+fitting nw st (Keep feeder train) times shape h sized = absurd shape
+fitting nw st (Drop feeder train) times shape h sized = absurd shape
+fitting nw st (Rule feeder train) times shape h sized = absurd shape
+
+-- part of a listing of events that are not live
+pub record IsDeadListed (st : State) (before : Vec Node Global) (keys : List Key) (i : ℕ) (list : Vec Node Global) : Type 0 where
+  pub whole : list.items ++ map node_of (filter (λ k. not (is_live st (node_of k))) (drop i keys)) ≡ before.items ++ map node_of (filter (λ k. not (is_live st (node_of k))) keys)
+  pub room : vec_len list + length (drop i keys) ≤ vec_capacity list
+  pub capacity : vec_capacity list ≡ vec_capacity before

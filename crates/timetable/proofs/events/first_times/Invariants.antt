@@ -1,0 +1,6 @@
+use Rattle.timetable.proofs.Listing.{IsFilled}
+use Rattle.timetable.proofs.events.first_times.Given as goal
+
+-- there are times for the trains so far
+abbrev pub invariant-loop-number : goal.invariant-loop-number
+invariant-loop-number l = IsFilled l.trains l.times l.number
