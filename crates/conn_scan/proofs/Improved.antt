@@ -1,0 +1,72 @@
+-- One more way to a place, in a list by the numbers of the places.
+use Rattle.std.proofs.Common.{◌≡◌, ◌⊎◌, inl, inr, ℕ, ◌≤◌, ◌<◌, nat_lt, true, false, List, Option, Some, None, length, set, refl, sym, ◌∙◌, ap, subst, arith}
+use Rattle.std.specs.Option.{MatchOption, option_map_or}
+use Rattle.std.proofs.lemmas.Bool.{both_ways, cases_eq, cond_both, ltb-true, ltb-false}
+use Rattle.std.proofs.lemmas.List.{get_or-set_other, get_or-set_same}
+use Rattle.std.proofs.lemmas.Option.{same_Some, none-some}
+use Rattle.mt_base.specs.declared.plans.PlanRide.{PlanRide}
+use Rattle.mt_base.specs.declared.plans.Query.{Query}
+use Rattle.delay_model.specs.declared.network.Network.{Network}
+use Rattle.delay_model.specs.declared.state.State.{State}
+use Rattle.conn_scan.specs.Reached.{Access, access_in, improved, IsReached, IsFromOrigin, IsBehind, IsPossible, AreExplained}
+use Rattle.conn_scan.specs.Scan.{IsAfterRide}
+
+is-before : (a : Access) (o : Option Access) (e : Access) → option_map_or (λ (o : Access). nat_lt a.time o.time) o true ≡ true → o ≡ Some e → a.time ≤ e.time
+is-before a None e earlier at = absurd (none-some e at)
+is-before a (Some o) e earlier at = let same : o.time ≡ e.time = ap (λ (x : Access). x.time) (same_Some o e at) in omega (arith, ltb-true a.time o.time earlier)
+
+is-kept : (a : Access) (access : ℕ → Option Access) (b : ℕ) (o : Option Access) → access b ≡ o → option_map_or (λ (o : Access). nat_lt a.time o.time) o true ≡ false → IsReached access b a.time
+is-kept a access b None at later = absurd (both_ways true later refl)
+is-kept a access b (Some o) at later = (o, at, ltb-false a.time o.time later)
+
+module _ (b : ℕ) (a : Access) (list : List (Option Access)) (within : b < length list) where
+  at-place : access_in (set list b (Some a)) b ≡ Some a
+  at-place = get_or-set_same list b (Some a) None within
+
+  at-other : (x : ℕ) → (x ≡ b → ⊥) → access_in (set list b (Some a)) x ≡ access_in list x
+  at-other x other = get_or-set_other list b x (Some a) None other
+
+  -- no place is reached later
+  pub improved-kept : (x t : ℕ) → IsReached (access_in list) x t → IsReached (access_in (improved b a list)) x t
+  improved-kept x t h = cond_both _ (set list b (Some a)) list (λ l. IsReached (access_in l) x t) (λ earlier. elim (cases_eq x b) [
+    | inl same ↦ let le = is-before a (access_in list b) h.0 earlier (ap (access_in list) (sym same) ∙ h.1) in let until = h.2 in (a, ap (access_in (set list b (Some a))) same ∙ at-place, omega arith)
+    | inr other ↦ (h.0, at-other x other ∙ h.1, h.2)
+  ]) (λ _. h)
+
+  -- the place is reached by then
+  pub improved-reached : IsReached (access_in (improved b a list)) b a.time
+  improved-reached = cond_both _ (set list b (Some a)) list (λ l. IsReached (access_in l) b a.time) (λ _. (a, at-place, omega arith)) (λ later. is-kept a (access_in list) b (access_in list b) refl later)
+
+  -- what is new is that way alone
+  pub improved-from : (x : ℕ) (e : Access) → access_in (improved b a list) x ≡ Some e → (access_in list x ≡ Some e) ⊎ ((x ≡ b) × (a ≡ e))
+  improved-from x e = cond_both _ (set list b (Some a)) list (λ l. access_in l x ≡ Some e → (access_in list x ≡ Some e) ⊎ ((x ≡ b) × (a ≡ e))) (λ _ at. elim (cases_eq x b) [
+    | inl same ↦ inr (same, same_Some a e (sym (ap (access_in (set list b (Some a))) same ∙ at-place) ∙ at))
+    | inr other ↦ inl (sym (at-other x other) ∙ at)
+  ]) (λ _ at. inl at)
+
+-- before anything is written nothing is new
+pub after-nothing : (nw : Network) (r : PlanRide) (old : ℕ → Option Access) → IsAfterRide nw r old old
+after-nothing nw r old = record { no_later = λ b t h. h; behind = λ b a at. inl at }
+
+-- one more stop behind the ride
+pub after-improved : (nw : Network) (r : PlanRide) (old : ℕ → Option Access) (b : ℕ) (a : Access) (list : List (Option Access)) → b < length list → a.ride ≡ Some r → IsBehind nw r b a.time → IsAfterRide nw r old (access_in list) → IsAfterRide nw r old (access_in (improved b a list))
+after-improved nw r old b a list within by behind after =
+    record {
+      no_later = λ x t h. improved-kept b a list within x t (after.no_later x t h);
+      behind = λ x e at. elim (improved-from b a list within x e at) [
+        | inl before ↦ after.behind x e before
+        | inr new ↦ inr (subst (λ (e : Access). (e.ride ≡ Some r) × IsBehind nw r x e.time) new.1 (by, subst (λ y. IsBehind nw r y a.time) (sym new.0) behind))
+      ];
+    }
+
+-- one more stop that is reached straight from the origin
+pub explained-improved : (nw : Network) (st : State) (q : Query) (b : ℕ) (a : Access) (list : List (Option Access)) → b < length list → a.ride ≡ None → IsFromOrigin nw q b a.time → AreExplained nw st q (access_in list) → AreExplained nw st q (access_in (improved b a list))
+explained-improved nw st q b a list within by origin explained = λ x e at. elim (improved-from b a list within x e at) [
+  | inl before ↦ still e.ride x e.time (explained x e before)
+  | inr new ↦ subst (λ (e : Access). MatchOption e.ride (IsFromOrigin nw q x e.time) (λ r. IsPossible nw st (access_in (improved b a list)) r × IsBehind nw r x e.time)) new.1
+      (subst (λ o. MatchOption o (IsFromOrigin nw q x a.time) (λ r. IsPossible nw st (access_in (improved b a list)) r × IsBehind nw r x a.time)) (sym by) (subst (λ y. IsFromOrigin nw q y a.time) (sym new.0) origin))
+]
+  where
+    still : (o : Option PlanRide) (x t : ℕ) → MatchOption o (IsFromOrigin nw q x t) (λ r. IsPossible nw st (access_in list) r × IsBehind nw r x t) → MatchOption o (IsFromOrigin nw q x t) (λ r. IsPossible nw st (access_in (improved b a list)) r × IsBehind nw r x t)
+    still None x t h = h
+    still (Some r) x t h = ((h.0.0, improved-kept b a list within r.board_stop r.board_time h.0.1), h.1)

@@ -1,0 +1,9 @@
+mod Forward
+mod Answer
+mod Taking
+mod RideLemmas
+mod Departures
+mod Scanning
+mod Onward
+mod Improved
+mod DepartureList

@@ -1,0 +1,173 @@
+-- The rides that are listed for a departure are those that begin with it.
+use Rattle.std.proofs.Common.{◌≡◌, ◌≢◌, inl, inr, ℕ, true, cond, ◌&&◌, nat_eq, List, [], ◌∷◌, ◌++◌, Option, Some, None, slice_get, find, refl, sym, ◌∙◌, ap, subst, arith}
+use Rattle.std.specs.List.{All, Contains}
+use Rattle.std.specs.Option.{option_map_or}
+use Rattle.std.proofs.lemmas.Bool.{cases_Bool, cond_both, cond-true, cond-false, and_parts, and_from, eqb-true, eq-eqb, ne_eqb}
+use Rattle.std.proofs.lemmas.List.{append_assoc}
+use Rattle.std.proofs.lemmas.Option.{same_Some, none-some, slice_get_within, get_or_from_slice_get}
+use Rattle.std.proofs.lemmas.List.Elements.{All-append, All-cons, All-nil, All-head, All-tail, All-push, All-contains, All-get_or, Contains-append_right}
+use Rattle.mt_base.specs.declared.keys.Node.{Node}
+use Rattle.mt_base.specs.declared.plans.PlanRide.{PlanRide}
+use Rattle.delay_model.specs.declared.network.Network.{Network}
+use Rattle.delay_model.specs.declared.state.Call.{Call}
+use Rattle.delay_model.specs.declared.state.State.{State}
+use Rattle.delay_model.specs.declared.state.Train.{Train}
+use Rattle.delay_model.specs.Cuts.{after}
+use Rattle.delay_model.specs.Effect.{is_call}
+use Rattle.delay_model.specs.Journeys.{IsRide, StopsAndGoesOn}
+use Rattle.delay_model.specs.Valid.{HasDistinctLabels, IsTrain, IsValid}
+use Rattle.conn_scan.specs.Rides.{departure_of_ride, BeginsWith, ride_between, rides_along, rides_at, rides_from}
+
+-- a call is found by its label where no two have one label, and what stands after it too
+find-labelled : (before : List Call) (c : Call) (cs : List Call) → HasDistinctLabels (before ++ c ∷ cs) → find (is_call c.label) (before ++ c ∷ cs) ≡ Some c
+find-labelled [] c cs distinct = cond-true (nat_eq c.label c.label) (Some c) (find (is_call c.label) cs) (eq-eqb c.label c.label refl)
+find-labelled (b ∷ before) c cs distinct =
+    let other : b.label ≢ c.label = All-contains (λ (d : Call). b.label ≢ d.label) (before ++ c ∷ cs) c distinct.0 (Contains-append_right before (c ∷ cs) c (0, omega arith, refl)) in
+    cond-false (nat_eq b.label c.label) (Some b) (find (is_call c.label) (before ++ c ∷ cs)) (ne_eqb b.label c.label other) ∙ find-labelled before c cs distinct.1
+
+after-labelled : (before : List Call) (c : Call) (cs : List Call) → HasDistinctLabels (before ++ c ∷ cs) → after (is_call c.label) (before ++ c ∷ cs) ≡ cs
+after-labelled [] c cs distinct = cond-true (nat_eq c.label c.label) cs (after (is_call c.label) cs) (eq-eqb c.label c.label refl)
+after-labelled (b ∷ before) c cs distinct =
+    let other : b.label ≢ c.label = All-contains (λ (d : Call). b.label ≢ d.label) (before ++ c ∷ cs) c distinct.0 (Contains-append_right before (c ∷ cs) c (0, omega arith, refl)) in
+    cond-false (nat_eq b.label c.label) (before ++ c ∷ cs) (after (is_call c.label) (before ++ c ∷ cs)) (ne_eqb b.label c.label other) ∙ after-labelled before c cs distinct.1
+
+-- what is found by a label stands before what is after it
+record IsAt (label : ℕ) (cs : List Call) (c : Call) : Type 0 where
+  earlier : List Call
+  split : cs ≡ earlier ++ c ∷ after (is_call label) cs
+  named : c.label ≡ label
+
+is-at : (label : ℕ) (cs : List Call) (c : Call) → find (is_call label) cs ≡ Some c → IsAt label cs c
+is-at label [] c found = absurd (none-some c found)
+is-at label (d ∷ ds) c found =
+    let rest = after (is_call label) ds in
+    elim (cases_Bool (is_call label d)) [
+      | inl here ↦
+          let same = same_Some d c (sym (cond-true (is_call label d) (Some d) (find (is_call label) ds) here) ∙ found) in
+          record {
+            earlier = [];
+            split = ap (λ e. e ∷ ds) same ∙ ap (λ es. c ∷ es) (sym (cond-true (is_call label d) ds rest here));
+            named = sym (ap (λ (x : Call). x.label) same) ∙ eqb-true d.label label here;
+          }
+      | inr apart ↦
+          let at = is-at label ds c (sym (cond-false (is_call label d) (Some d) (find (is_call label) ds) apart) ∙ found) in
+          record {
+            earlier = d ∷ at.earlier;
+            split = ap (λ es. d ∷ es) (at.split ∙ ap (λ es. at.earlier ++ c ∷ es) (sym (cond-false (is_call label d) ds rest apart)));
+            named = at.named;
+          }
+    ]
+
+module _ (nw : Network) (st : State) (train : ℕ) (t : Train) (there : slice_get st.trains train ≡ Some t) (c : Call) (n : Node) (own : record { train = train; label = c.label; dep = true } ≡ n) (departs : c.departure.live ≡ true) (boards : c.board ≡ true) where
+  -- each ride that is listed is one
+  along-rides : (before between cs : List Call) → t.calls ≡ before ++ c ∷ (between ++ cs) → All StopsAndGoesOn between → All (BeginsWith nw st n) (rides_along nw st train t.route c cs)
+  along-rides before between [] split passes = All-nil (BeginsWith nw st n)
+  along-rides before between (d ∷ ds) split passes =
+      let on = rides_along nw st train t.route c ds in
+      cond_both d.arrival.live (cond d.alight (ride_between nw st train t.route c d ∷ []) [] ++ cond d.departure.live on []) [] (All (BeginsWith nw st n)) (λ arrives.
+      All-append (BeginsWith nw st n) (cond d.alight (ride_between nw st train t.route c d ∷ []) []) (cond d.departure.live on [])
+      (cond_both d.alight (ride_between nw st train t.route c d ∷ []) [] (All (BeginsWith nw st n)) (λ alights.
+      All-cons (BeginsWith nw st n) (ride_between nw st train t.route c d) [] (record {
+        ride = record {
+          by_train = t;
+          calls_before = before;
+          boarded = c;
+          calls_between = between;
+          alighted = d;
+          calls_after = ds;
+          is_train = there;
+          are_calls = split;
+          board_label = refl;
+          board_stop = refl;
+          board_time = refl;
+          alight_label = refl;
+          alight_stop = refl;
+          alight_time = refl;
+          departs = departs;
+          passes = passes;
+          arrives = arrives;
+          may_board = boards;
+          may_alight = alights;
+        };
+        departure = own;
+      }) (All-nil (BeginsWith nw st n))) (λ _. All-nil (BeginsWith nw st n)))
+      (cond_both d.departure.live on [] (All (BeginsWith nw st n)) (λ goes_on.
+      along-rides before (between ++ d ∷ []) ds (split ∙ ap (λ ds. before ++ c ∷ ds) (sym (append_assoc between (d ∷ []) ds))) (All-push StopsAndGoesOn between d passes (arrives, goes_on))) (λ _. All-nil (BeginsWith nw st n)))) (λ _.
+      All-nil (BeginsWith nw st n))
+
+-- each ride along these calls is listed
+along-lists : (nw : Network) (st : State) (train route : ℕ) (c : Call) (between : List Call) (d : Call) (ds : List Call) → All StopsAndGoesOn between → d.arrival.live ≡ true → d.alight ≡ true → Contains (rides_along nw st train route c (between ++ d ∷ ds)) (ride_between nw st train route c d)
+along-lists nw st train route c [] d ds passes arrives alights =
+    let r = ride_between nw st train route c d in
+    let on = cond d.departure.live (rides_along nw st train route c ds) [] in
+    let P : List PlanRide → Type 0 = λ rs. Contains rs r in
+    subst P (sym (cond-true d.arrival.live (cond d.alight (r ∷ []) [] ++ on) [] arrives))
+    (subst (λ rs. Contains (rs ++ on) r) (sym (cond-true d.alight (r ∷ []) [] alights)) (0, omega arith, refl))
+along-lists nw st train route c (e ∷ between) d ds passes arrives alights =
+    let r = ride_between nw st train route c d in
+    let rest = rides_along nw st train route c (between ++ d ∷ ds) in
+    let here = cond e.alight (ride_between nw st train route c e ∷ []) [] in
+    let P : List PlanRide → Type 0 = λ rs. Contains rs r in
+    let lives = All-head StopsAndGoesOn e between passes in
+    let later = along-lists nw st train route c between d ds (All-tail StopsAndGoesOn e between passes) arrives alights in
+    subst P (sym (cond-true e.arrival.live (here ++ cond e.departure.live rest []) [] lives.0))
+    (Contains-append_right here (cond e.departure.live rest []) r (subst P (sym (cond-true e.departure.live rest [] lives.1)) later))
+
+at-lists : (nw : Network) (st : State) (train route : ℕ) (before : List Call) (c : Call) (between : List Call) (d : Call) (ds : List Call) → HasDistinctLabels (before ++ c ∷ (between ++ d ∷ ds)) → c.departure.live ≡ true → c.board ≡ true → All StopsAndGoesOn between → d.arrival.live ≡ true → d.alight ≡ true → Contains (rides_at nw st train route c.label (before ++ c ∷ (between ++ d ∷ ds))) (ride_between nw st train route c d)
+at-lists nw st train route before c between d ds distinct departs boards passes arrives alights =
+    let r = ride_between nw st train route c d in
+    let rest = between ++ d ∷ ds in
+    let cs = before ++ c ∷ rest in
+    let begin : List Call → Call → List PlanRide = λ es b. cond (b.departure.live && b.board) (rides_along nw st train route b es) [] in
+    let found = find-labelled before c rest distinct in
+    let there = subst (λ rs. Contains rs r) (sym (cond-true (c.departure.live && c.board) (rides_along nw st train route c rest) [] (and_from _ _ departs boards))) (along-lists nw st train route c between d ds passes arrives alights) in
+    subst (λ o. Contains (option_map_or (begin (after (is_call c.label) cs)) o []) r) (sym found)
+    (subst (λ es. Contains (begin es c) r) (sym (after-labelled before c rest distinct)) there)
+
+module _ (nw : Network) (st : State) where
+  at-rides : (n : Node) (t : Train) → n.dep ≡ true → slice_get st.trains n.train ≡ Some t → (o : Option Call) → find (is_call n.label) t.calls ≡ o → All (BeginsWith nw st n) (option_map_or (λ (c : Call). cond (c.departure.live && c.board) (rides_along nw st n.train t.route c (after (is_call n.label) t.calls)) []) o [])
+  at-rides n t departure there None found = All-nil (BeginsWith nw st n)
+  at-rides n t departure there (Some c) found =
+      let at = is-at n.label t.calls c found in
+      let own : record { train = n.train; label = c.label; dep = true } ≡ n = λ i. record { train = n.train; label = at.named i; dep = sym departure i } in
+      cond_both (c.departure.live && c.board) (rides_along nw st n.train t.route c (after (is_call n.label) t.calls)) [] (All (BeginsWith nw st n)) (λ both.
+      let parts = and_parts c.departure.live c.board both in
+      along-rides nw st n.train t there c n own parts.0 parts.1 at.earlier [] (after (is_call n.label) t.calls) at.split (All-nil StopsAndGoesOn)) (λ _. All-nil (BeginsWith nw st n))
+
+  train-rides : (n : Node) → n.dep ≡ true → (o : Option Train) → slice_get st.trains n.train ≡ o → All (BeginsWith nw st n) (option_map_or (λ (t : Train). rides_at nw st n.train t.route n.label t.calls) o [])
+  train-rides n departure None there = All-nil (BeginsWith nw st n)
+  train-rides n departure (Some t) there = at-rides n t departure there (find (is_call n.label) t.calls) refl
+
+  -- what is listed for a departure is a ride that begins with it
+  pub rides-begin : (n : Node) → n.dep ≡ true → All (BeginsWith nw st n) (rides_from nw st n)
+  unfolding rides_from
+  rides-begin n departure = train-rides n departure (slice_get st.trains n.train) refl
+
+  -- and each ride is listed for the departure with which it begins
+  pub ride-listed : IsValid nw st → (r : PlanRide) → IsRide nw st r → Contains (rides_from nw st (departure_of_ride r)) r
+  unfolding rides_from
+  ride-listed valid r ride =
+      let t = ride.by_train in
+      let c = ride.boarded in
+      let rest = ride.calls_between ++ ride.alighted ∷ ride.calls_after in
+      let good : IsTrain t =
+      subst IsTrain (get_or_from_slice_get st.trains r.train t t ride.is_train) (All-get_or IsTrain st.trains r.train t (slice_get_within st.trains r.train t ride.is_train) valid.trains)
+      in
+      let distinct = subst HasDistinctLabels ride.are_calls good.labels in
+      let there = at-lists nw st r.train t.route ride.calls_before c ride.calls_between ride.alighted ride.calls_after distinct ride.departs ride.may_board ride.passes ride.arrives ride.may_alight in
+      let made = ride_between nw st r.train t.route c ride.alighted in
+      let same : made ≡ r =
+      λ i. record {
+        train = r.train;
+        board = sym ride.board_label i;
+        board_stop = sym ride.board_stop i;
+        board_time = sym ride.board_time i;
+        alight = sym ride.alight_label i;
+        alight_stop = sym ride.alight_stop i;
+        alight_time = sym ride.alight_time i;
+      }
+      in
+      let by_label = subst (λ l. Contains (rides_at nw st r.train t.route l (ride.calls_before ++ c ∷ rest)) made) (sym ride.board_label) there in
+      let by_calls = subst (λ cs. Contains (rides_at nw st r.train t.route r.board cs) made) (sym ride.are_calls) by_label in
+      subst (Contains (rides_from nw st (departure_of_ride r))) same
+      (subst (λ o. Contains (option_map_or (λ (t : Train). rides_at nw st r.train t.route r.board t.calls) o []) made) (sym ride.is_train) by_calls)

@@ -1,0 +1,50 @@
+//! Why a scan of the departures finds the earliest arrival.
+
+ghost use Rattle.std.specs.Prelude.{◌≡◌, ◌≤◌, ◌<◌, ℕ, List, [], ◌∷◌, Option, Some, None, true, false, reverse, All, Contains};
+ghost use Rattle.mt_base.specs.declared.keys.Node.{Node as ANode};
+ghost use Rattle.mt_base.specs.declared.plans.PlanRide.{PlanRide as APlanRide};
+ghost use Rattle.mt_base.specs.declared.plans.Query.{Query as AQuery};
+ghost use Rattle.delay_model.specs.Journeys.{is_one_station, IsRide, IsEarliest, HasNoJourney};
+ghost use Rattle.delay_model.specs.Valid.{IsValid};
+ghost use Rattle.conn_scan.specs.Reached.{Access, AreExplained, CanBoard, ride_before, AreAtStops};
+ghost use Rattle.conn_scan.specs.Rides.{BeginsWith, departure_of_ride, rides_from};
+ghost use Rattle.conn_scan.specs.Scan.{IsAtEnd, IsWayBack};
+
+use delay_model::network::Network;
+use delay_model::state::State;
+
+/// A train arrives at a stop not before it left the one where the passenger boarded.
+pub fn rides_run_forward(nw: &Network, st: &State)
+    requires { IsValid nw.now st.now }
+    ensures { (r : APlanRide) → IsRide nw.now st.now r → r.board_time ≤ r.alight_time }
+{}
+
+/// The rides that are listed for a departure are the rides that begin with it: all of them and no others.
+pub fn rides_are_listed_by_departure(nw: &Network, st: &State)
+    requires { IsValid nw.now st.now }
+    ensures begin { (n : ANode) → n.dep ≡ true → All (BeginsWith nw.now st.now n) (rides_from nw.now st.now n) }
+    ensures all { (r : APlanRide) → IsRide nw.now st.now r → Contains (rides_from nw.now st.now (departure_of_ride r)) r }
+{}
+
+/// The way back from a ride along the rides behind which its stops were reached leads to ever earlier departures, so it has an end.
+pub fn the_way_back_ends(nw: &Network, st: &State)
+    requires { IsValid nw.now st.now }
+    ensures { (q : AQuery) (access : ℕ → Option Access) → AreExplained nw.now st.now q access →
+        (r before : APlanRide) → CanBoard access r → ride_before access r ≡ Some before →
+        IsRide nw.now st.now before × CanBoard access before × (before.board_time < r.board_time) }
+{}
+
+/// What is known at the end of a scan is the answer to the query. If origin and destination are of one station, that is no ride
+/// at all. Else it is the best ride that was found, with the rides on the way back from it; and where none was found there is no
+/// journey.
+pub fn a_scan_finds_the_earliest(nw: &Network, st: &State)
+    requires valid { IsValid nw.now st.now }
+    requires at_stops { AreAtStops nw.now st.now }
+    ensures at_once { (q : AQuery) → is_one_station nw.now q.from_stop q.to_stop ≡ true → IsEarliest nw.now st.now q [] q.time }
+    ensures found { (q : AQuery) (access : ℕ → Option Access) (r : APlanRide) (rides : List APlanRide) →
+        is_one_station nw.now q.from_stop q.to_stop ≡ false → IsAtEnd nw.now st.now q access (Some r) → IsWayBack access r rides →
+        IsEarliest nw.now st.now q (reverse (r ∷ rides)) r.alight_time }
+    ensures none { (q : AQuery) (access : ℕ → Option Access) →
+        is_one_station nw.now q.from_stop q.to_stop ≡ false → IsAtEnd nw.now st.now q access None →
+        HasNoJourney nw.now st.now q }
+{}

@@ -1,0 +1,4 @@
+//! The earliest arrival, by a scan of the departures in the order of their times.
+#![tactic(auto)]
+
+pub mod laws;
