@@ -7,3 +7,9 @@ mod Scanning
 mod Onward
 mod Improved
 mod DepartureList
+mod LabelLemmas
+mod LoweredLemmas
+mod CallLemmas
+mod WalkLemmas
+mod WayBack
+mod ScanEnds

@@ -39,7 +39,7 @@ filter_map-each : {X Y : Type 0} (P : Y → Type 0) (f : X → Option Y) (xs : L
 filter_map-each P f [] h = All-nil P
 filter_map-each P f (x ∷ xs) h = cons-each P (f x) (filter_map f xs) (h x) (filter_map-each P f xs h)
 
-stop-within : (stops : List StopRow) (b : ℕ) → is_stop stops b ≡ true → b < length stops
+pub stop-within : (stops : List StopRow) (b : ℕ) → is_stop stops b ≡ true → b < length stops
 stop-within [] b h = absurd (cc)
 stop-within (s ∷ stops) zero h = omega arith
 stop-within (s ∷ stops) (suc b) h = let l = stop-within stops b h in omega arith

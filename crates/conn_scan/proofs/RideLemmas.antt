@@ -19,25 +19,25 @@ use Rattle.delay_model.specs.Valid.{HasDistinctLabels, IsTrain, IsValid}
 use Rattle.conn_scan.specs.Rides.{departure_of_ride, BeginsWith, ride_between, rides_along, rides_at, rides_from}
 
 -- a call is found by its label where no two have one label, and what stands after it too
-find-labelled : (before : List Call) (c : Call) (cs : List Call) → HasDistinctLabels (before ++ c ∷ cs) → find (is_call c.label) (before ++ c ∷ cs) ≡ Some c
+pub find-labelled : (before : List Call) (c : Call) (cs : List Call) → HasDistinctLabels (before ++ c ∷ cs) → find (is_call c.label) (before ++ c ∷ cs) ≡ Some c
 find-labelled [] c cs distinct = cond-true (nat_eq c.label c.label) (Some c) (find (is_call c.label) cs) (eq-eqb c.label c.label refl)
 find-labelled (b ∷ before) c cs distinct =
     let other : b.label ≢ c.label = All-contains (λ (d : Call). b.label ≢ d.label) (before ++ c ∷ cs) c distinct.0 (Contains-append_right before (c ∷ cs) c (0, omega arith, refl)) in
     cond-false (nat_eq b.label c.label) (Some b) (find (is_call c.label) (before ++ c ∷ cs)) (ne_eqb b.label c.label other) ∙ find-labelled before c cs distinct.1
 
-after-labelled : (before : List Call) (c : Call) (cs : List Call) → HasDistinctLabels (before ++ c ∷ cs) → after (is_call c.label) (before ++ c ∷ cs) ≡ cs
+pub after-labelled : (before : List Call) (c : Call) (cs : List Call) → HasDistinctLabels (before ++ c ∷ cs) → after (is_call c.label) (before ++ c ∷ cs) ≡ cs
 after-labelled [] c cs distinct = cond-true (nat_eq c.label c.label) cs (after (is_call c.label) cs) (eq-eqb c.label c.label refl)
 after-labelled (b ∷ before) c cs distinct =
     let other : b.label ≢ c.label = All-contains (λ (d : Call). b.label ≢ d.label) (before ++ c ∷ cs) c distinct.0 (Contains-append_right before (c ∷ cs) c (0, omega arith, refl)) in
     cond-false (nat_eq b.label c.label) (before ++ c ∷ cs) (after (is_call c.label) (before ++ c ∷ cs)) (ne_eqb b.label c.label other) ∙ after-labelled before c cs distinct.1
 
 -- what is found by a label stands before what is after it
-record IsAt (label : ℕ) (cs : List Call) (c : Call) : Type 0 where
-  earlier : List Call
-  split : cs ≡ earlier ++ c ∷ after (is_call label) cs
-  named : c.label ≡ label
+pub record IsAt (label : ℕ) (cs : List Call) (c : Call) : Type 0 where
+  pub earlier : List Call
+  pub split : cs ≡ earlier ++ c ∷ after (is_call label) cs
+  pub named : c.label ≡ label
 
-is-at : (label : ℕ) (cs : List Call) (c : Call) → find (is_call label) cs ≡ Some c → IsAt label cs c
+pub is-at : (label : ℕ) (cs : List Call) (c : Call) → find (is_call label) cs ≡ Some c → IsAt label cs c
 is-at label [] c found = absurd (none-some c found)
 is-at label (d ∷ ds) c found =
     let rest = after (is_call label) ds in

@@ -1,24 +1,12 @@
 -- By when, and how, a passenger reaches the stops. `access` says it for each stop of which a scan knows.
-use Rattle.std.specs.Prelude.{◌≡◌, ℕ, ◌≤◌, nat_lt, List, true, if◌then◌else◌, Option, Some, None, get_or, set, All, MatchBool}
+use Rattle.std.specs.Prelude.{◌≡◌, ℕ, ◌≤◌, nat_lt, List, true, if◌then◌else◌, Option, Some, None, get_or, set, MatchBool}
 use Rattle.std.specs.Option.{MatchOption, option_and_then, option_map_or}
 use Rattle.mt_base.specs.declared.plans.Query.{Query}
 use Rattle.mt_base.specs.declared.plans.PlanRide.{PlanRide}
 use Rattle.delay_model.specs.declared.network.Network.{Network}
-use Rattle.delay_model.specs.declared.state.Call.{Call}
-use Rattle.delay_model.specs.declared.state.Train.{Train}
 use Rattle.delay_model.specs.declared.state.State.{State}
-use Rattle.delay_model.specs.Changes.{is_stop}
+pub use Rattle.conn_scan.specs.declared.labels.Access.{Access}
 use Rattle.delay_model.specs.Journeys.{IsRide, IsInTime, is_one_station}
-
--- every call of every train is at a stop or platform
-abbrev pub AreAtStops : Network → State → Type 0
-AreAtStops nw st = All (λ (t : Train). All (λ (c : Call). is_stop nw.stops c.stop ≡ true) t.calls) st.trains
-
--- how a passenger gets to a stop: from what time on he can board there, and the ride behind which that is; no ride if it is
--- straight from the origin
-pub record Access : Type 0 where
-  pub time : ℕ
-  pub ride : Option PlanRide
 
 -- how a passenger gets to place b, from a list by the numbers of the places
 abbrev pub access_in : List (Option Access) → ℕ → Option Access

@@ -1,5 +1,5 @@
 -- What a scan of the departures knows, and what taking one more ride makes of it.
-use Rattle.std.specs.Prelude.{◌≡◌, ℕ, ◌≤◌, ◌⊎◌, List, [], ◌∷◌, Bool, true, ◌&&◌, nat_lt, if◌then◌else◌, Option, Some, None, IfSome}
+use Rattle.std.specs.Prelude.{◌≡◌, ℕ, ◌≤◌, ◌⊎◌, List, [], ◌∷◌, reverse, Bool, true, ◌&&◌, nat_lt, if◌then◌else◌, Option, Some, None, IfSome}
 use Rattle.std.specs.Option.{option_map_or}
 use Rattle.mt_base.specs.declared.plans.Query.{Query}
 use Rattle.mt_base.specs.declared.plans.PlanRide.{PlanRide}
@@ -52,3 +52,7 @@ pub record IsAfterRide (nw : Network) (r : PlanRide) (old new : ℕ → Option A
 abbrev pub better : Network → Query → PlanRide → Option PlanRide → Option PlanRide
 better nw q r best =
     if ends_there nw q r && option_map_or (λ (s : PlanRide). nat_lt r.alight_time s.alight_time) best true then Some r else best
+
+-- the rides that lead to this one, and this one: the way back from it, turned round
+abbrev pub LeadsTo : (ℕ → Option Access) → PlanRide → List PlanRide → Type 0
+LeadsTo access r rides = (way : List PlanRide) × IsWayBack access r way × (rides ≡ reverse (r ∷ way))

@@ -1,1 +1,2 @@
 pub mod LoadedDays
+pub mod AtStops

@@ -15,7 +15,8 @@ ghost use Rattle.edge_rules.specs.Held.{network_of};
 ghost use Rattle.mt_base.specs.declared.tables.Tables.{Tables as ATables};
 ghost use Rattle.gtfs_tables.specs.Feeds.{at_most, contents_of, tables_of as tables_in};
 ghost use Rattle.gtfs_tables.specs.Refusals.{Yields};
-ghost use Rattle.feed_load.specs.Loaded.{days_loaded, loaded, schedule_error, tables_loaded};
+ghost use Rattle.schedule_build.specs.Schedule.{schedule};
+ghost use Rattle.feed_load.specs.Loaded.{days_loaded, loaded, schedule_error, tables_loaded, AreAtStops};
 
 use change_times::{BuildFault, Changes};
 use feed_tables::FeedTables;
@@ -68,6 +69,14 @@ fn load_changes(alloc: Global, t: &FeedTables, default: u32) -> Result<Changes, 
     }
 }
 
+/// The trains of so many service days from the date `first` on call at stops and platforms alone.
+fn schedules_call_at_stops(t: &FeedTables, first: u32, days: u32, opts: &Opts)
+    ensures { AreAtStops t.now.stops (schedule t.now first days opts.now) }
+{
+    // The tables are read, so that the check knows that they are lawful.
+    let _ = t.tables();
+}
+
 /// The trains and the names of so many days from the date `first` on, from the tables of a feed.
 fn load_days(
     alloc: Global,
@@ -83,9 +92,11 @@ fn load_days(
     ensures found { Yields (λ r. r) result (days_loaded t.now first days opts.now) }
     ensures failed { IsErrOf result FeedError.ReadFault → ⊥ }
     ensures valid { IfOk result (λ r. (nw : ANetwork) → nw.opts ≡ opts.now → IsValid nw r.0) }
+    ensures stops { IfOk result (λ r. AreAtStops t.now.stops r.0) }
     ensures nodes { IfOk result (λ r. length (events r.0) + 2 * r.0.spare_calls ≤ 2097152) }
 {
     schedules_are_valid(t, first, days, opts);
+    schedules_call_at_stops(t, first, days, opts);
     match expand(alloc, t, first, days, opts) {
         Ok(made) => Ok(made),
         Err(fault) => Err(schedule_error(fault)),
@@ -109,6 +120,7 @@ fn load_tables(
     ensures default { IfOk result (λ r. r.changes.default ≡ opts.now.change) }
     ensures parents { IfOk result (λ r. r.waits.parents ≡ map parent_station r.changes.stops) }
     ensures valid { IfOk result (λ r. IsValid (network_of r.changes r.waits opts.now) r.trains) }
+    ensures stops { IfOk result (λ r. AreAtStops r.changes.stops r.trains) }
     ensures nodes { IfOk result (λ r. length (events r.trains) + 2 * r.trains.spare_calls ≤ 2097152) }
     ensures failed { IsErrOf result FeedError.ReadFault → ⊥ }
 {
@@ -146,6 +158,7 @@ pub fn load_feed<F: Feed>(
     ensures default { IfOk result (λ r. r.changes.default ≡ opts.now.change) }
     ensures parents { IfOk result (λ r. r.waits.parents ≡ map parent_station r.changes.stops) }
     ensures valid { IfOk result (λ r. IsValid (network_of r.changes r.waits opts.now) r.trains) }
+    ensures stops { IfOk result (λ r. AreAtStops r.changes.stops r.trains) }
     ensures nodes { IfOk result (λ r. length (events r.trains) + 2 * r.trains.spare_calls ≤ 2097152) }
     ensures failed { IsErrOf result FeedError.ReadFault → Rose (F.faults feed.old) (F.faults feed.new) }
     ensures later { F.faults feed.old ≤ F.faults feed.new }

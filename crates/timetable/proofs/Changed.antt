@@ -9,7 +9,7 @@ use Rattle.std.proofs.lemmas.List.Sorted.{sum_by-IsPermutation, Contains-permuta
 use Rattle.std.proofs.lemmas.List.Sums.{length-filter}
 use Rattle.mt_base.specs.declared.keys.Key.{Key}
 use Rattle.mt_base.specs.declared.keys.Node.{Node}
-use Rattle.mt_base.specs.Order.{is_same, node_of}
+use Rattle.mt_base.specs.Order.{is_before, is_same, node_of}
 use Rattle.mt_base.proofs.KeyLemmas.{same-itself}
 use Rattle.delay_model.specs.declared.network.Network.{Network}
 use Rattle.delay_model.specs.declared.messages.Message.{Message}
@@ -31,7 +31,8 @@ use Rattle.state_laws.proofs.Values.{IsSetting, set_at, set-shape, put_report, p
 use Rattle.edge_rules.proofs.InLine.{filter-none}
 use Rattle.train_nodes.specs.Kept.{Kept}
 use Rattle.train_nodes.specs.Kinds.{IsShape}
-use Rattle.timetable.specs.Changed.{in_order, is_changed, changed_nodes}
+use Rattle.timetable.specs.Changed.{is_changed, changed_nodes}
+use Rattle.timetable.specs.Sorted.{in_order}
 use Rattle.timetable.specs.LiveTimes.{live_keys}
 use Rattle.timetable.specs.Settled.{IsOrderOf, HasItsTime, has_another, next_labels}
 use Rattle.timetable.proofs.Named.{any-from}
@@ -121,7 +122,7 @@ lists-changed nw st m times order leaves trains is h =
     let live = live-key (events st) k (key-live (events st) order is k (All-contains_itself order i d l)) in
     ap (λ o. not (nat_eq (unwrap_or o 0) (event_time nw new k))) (h i d l) ∙ sym (ap (λ b. not b || not (nat_eq (event_time nw st k) (event_time nw new k))) live)))
     ∙ ap (λ ks. map node_of (filter p ks)) (sym (order-is new order trains (order-stays (events st) (events new) order same is)))
-    ∙ ap (λ vs. names_of vs ++ map node_of (filter p (in_order (live_keys (events new))))) (sym (none-only (events st) (events new) (sym same)))
+    ∙ ap (λ vs. names_of vs ++ map node_of (filter p (in_order is_before (live_keys (events new))))) (sym (none-only (events st) (events new) (sym same)))
 
 -- what is not a or is b, in two parts
 either-length : {X : Type 0} (a b : X → Bool) (xs : List X) → length (filter (λ x. not (a x) || b x) xs) ≡ length (filter (λ x. not (a x)) xs) + length (filter (λ x. a x && b x) xs)
@@ -143,16 +144,16 @@ changed-length nw old new =
     let keys = live_keys fs in
     let gone = live_only es fs in
     let parts = either-length (λ (v : Event). is_live_key es v.key) (λ (v : Event). not (nat_eq (event_time nw old v.key) (event_time nw new v.key))) (live_events fs) in
-    let others = length-map (filter p (in_order keys)) node_of
-    ∙ length-filter p (in_order keys)
-    ∙ sum_by-IsPermutation (λ k. cond (p k) 1 0) keys (in_order keys) (in_order-moves keys)
+    let others = length-map (filter p (in_order is_before keys)) node_of
+    ∙ length-filter p (in_order is_before keys)
+    ∙ sum_by-IsPermutation (λ k. cond (p k) 1 0) keys (in_order is_before keys) (in_order-moves is_before keys)
     ∙ sym (length-filter p keys)
     ∙ sym (ap length (filter-map (λ (v : Event). v.key) p (live_events fs)))
     ∙ length-map (filter (λ (v : Event). p v.key) (live_events fs)) (λ (v : Event). v.key)
     ∙ parts
     ∙ sym (length-append (live_only fs es) (retimed (event_time nw old) (event_time nw new) es fs)) in
-    length-append (names_of gone) (map node_of (filter p (in_order keys)))
-    ∙ ap (λ n. n + length (map node_of (filter p (in_order keys)))) (length-map gone (λ (v : Event). node_of v.key))
+    length-append (names_of gone) (map node_of (filter p (in_order is_before keys)))
+    ∙ ap (λ n. n + length (map node_of (filter p (in_order is_before keys)))) (length-map gone (λ (v : Event). node_of v.key))
     ∙ ap (λ n. length gone + n) others
     ∙ sym (length-append gone (live_only fs es ++ retimed (event_time nw old) (event_time nw new) es fs))
 
@@ -165,9 +166,9 @@ listed-key : (nw : Network) (old new : State) (v : Event) → Contains (live_eve
 unfolding changed_nodes
 listed-key nw old new v there p =
     let keys = live_keys (events new) in
-    let there-key = Contains-permutation keys (in_order keys) v.key (in_order-moves keys) (Contains-map (λ (v : Event). v.key) (live_events (events new)) v there) in
+    let there-key = Contains-permutation keys (in_order is_before keys) v.key (in_order-moves is_before keys) (Contains-map (λ (v : Event). v.key) (live_events (events new)) v there) in
     Contains-append_right (names_of (live_only (events old) (events new))) _ (node_of v.key)
-    (Contains-map node_of (filter (is_changed nw old new) (in_order keys)) v.key (Contains-filter (is_changed nw old new) (in_order keys) v.key there-key p))
+    (Contains-map node_of (filter (is_changed nw old new) (in_order is_before keys)) v.key (Contains-filter (is_changed nw old new) (in_order is_before keys) v.key there-key p))
 
 -- each changed event is listed
 pub changed-each : (nw : Network) (old new : State) (v : Event) → Contains (changed nw old new) v → Contains (changed_nodes nw old new) (node_of v.key)

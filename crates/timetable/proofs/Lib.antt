@@ -5,6 +5,8 @@ pub mod Ordered
 pub mod Settling
 pub mod Sorted
 pub mod Listing
+pub mod Departing
 pub mod Changed
 pub mod Shapes
 pub mod Prepared
+pub mod Stops

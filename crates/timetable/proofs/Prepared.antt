@@ -195,6 +195,7 @@ module _ (nw : Network) (st new : State) (n : ℕ) (times after : Kept) (valid :
         let s = length-order es old_order was.order in
         let t = length-order fs order is in
         let fewer = shape.fewer in
+        let u = length-map (live_events es) (λ (v : Event). v.key) in
         let a = roomy.order in
         let b = roomy.changed in
         record {
@@ -205,6 +206,7 @@ module _ (nw : Network) (st new : State) (n : ℕ) (times after : Kept) (valid :
           listed = ap (λ ns. ns ++ map node_of (filter (has_another nw new after) order)) dead
               ∙ ap (λ ks. names_of (live_only es fs) ++ map node_of ks) (filter-same (has_another nw new after) (is_changed nw st new) order (λ i d l. another-is (get_or order i d) (key-live fs order is (get_or order i d) (All-contains_itself order i d l))))
               ∙ ap (λ ks. names_of (live_only es fs) ++ map node_of (filter (is_changed nw st new) ks)) (sym (order-is new order now.trains is));
+          fewer = omega arith;
           fits = omega arith;
           roomy = record { order = omega arith; changed = omega arith };
         }
@@ -216,12 +218,22 @@ prepared-same nw st m times order list order_room listed_room leaves now was non
     let same = left-alike st m leaves in
     let a = ap length none in
     let b = roomy.changed in
+    let long = length_permutation (live_keys (events st)) order was.order.moved in
+    let spare = same.spare in
     record {
       valid = now;
       order = order-stays (events st) (events new) order same.keys was.order;
       held = λ i d l. ap is_some (was.times i d l);
       sized = was.sized ∙ ap (map (λ l. 2 * l)) (sym same.labels);
       listed = ap (λ ns. ns ++ map node_of (filter (has_another nw new times) order)) none ∙ lists-changed nw st m times order leaves now.trains was.order was.times;
+      fewer = omega arith;
       fits = omega arith;
       roomy = subst (λ s. IsRoomy (length order) s order_room listed_room) (sym same.spare) roomy;
     }
+
+-- so where there was room for as many departures as there may be events, there is still
+pub departures-fit : {nw : Network} {old new : State} {times : Kept} {keys : List Key} {list : List Node} {order_room list_room : ℕ} → IsPrepared nw old new times keys list order_room list_room → {order : List Key} → IsOrderOf (events old) order → {room : ℕ} → length order + 2 * old.spare_calls ≤ room → length keys + 2 * new.spare_calls ≤ room
+departures-fit {old = old} p {order} is roomy =
+    let fewer = p.fewer in
+    let long = length_permutation (live_keys (events old)) order is.moved in
+    omega arith

@@ -1,144 +1,175 @@
--- Sorted keys of events are in the order in which the events are settled.
-use Rattle.std.proofs.Common.{◌≡◌, ◌≢◌, true, false, List, [], ◌∷◌, map, get_or, refl, sym, ◌∙◌, ap, subst, arith, inl, inr}
+-- Lists in ascending order are unique, by any total order in which elements that tie are one; and so is the order of the keys of events.
+use Rattle.std.proofs.Common.{◌≡◌, ◌≢◌, Bool, true, false, List, [], ◌∷◌, map, get_or, refl, sym, ◌∙◌, ap, subst, arith, inl, inr}
 use Rattle.std.specs.Bool.{Decides}
+use Rattle.std.specs.Cmp.{IsTotalOrder}
 use Rattle.std.specs.List.{All, AllPairs, Contains}
 use Rattle.std.specs.List.Sorted.{IsPermutation, IsSorted}
-use Rattle.std.specs.Ordering.{is_lt, ordering_reverse}
+use Rattle.std.specs.Ordering.{is_lt, is_eq, ordering_reverse}
 use Rattle.std.specs.declared.cmp.Ordering.{Ordering}
 use Rattle.std.specs.declared.cmp.Ordering.TheVariants.{Less, Equal, Greater}
-use Rattle.std.proofs.lemmas.Bool.{cases_Bool, cond_both, false_from_ne_true}
+use Rattle.std.proofs.lemmas.Bool.{cond_both}
+use Rattle.std.proofs.lemmas.Cmp.{tied_itself}
 use Rattle.std.proofs.lemmas.List.Elements.{All-map, All-nil, All-cons, All-head, All-tail, All-weaker, All-contains, All-contains_itself}
 use Rattle.std.proofs.lemmas.List.Kept.{AllPairs-filter}
 use Rattle.std.proofs.lemmas.List.Sorted.{sorted_far, ranks_by, All-permutation, IsPermutation-refl, IsPermutation-sym, IsPermutation-trans, IsPermutation-cons, IsPermutation-middle}
 use Rattle.std.proofs.lemmas.Map.Keys.{IsDistinct-IsPermutation}
 use Rattle.std.proofs.lemmas.Map.Made.{AllPairs-from_IsDistinct, IsDistinct-from_AllPairs}
 use Rattle.mt_base.specs.declared.keys.Key.{Key}
-use Rattle.mt_base.specs.Order.{key_cmp, is_before, is_same, node_of}
-use Rattle.mt_base.proofs.KeyLemmas.{keys_total, exact_keys, same-is, same-itself, before-trans, before-itself, before-asymmetric}
+use Rattle.mt_base.specs.Order.{key_cmp, is_before, node_of}
+use Rattle.mt_base.proofs.KeyLemmas.{keys_total, exact_keys}
 use Rattle.delay_model.specs.declared.state.State.{State}
 use Rattle.delay_model.specs.declared.state.Event.{Event}
 use Rattle.delay_model.specs.Events.{events, live_events}
 use Rattle.delay_model.specs.Valid.{IsTrain}
 use Rattle.delay_model.proofs.Lists.{AllPairs-nil, AllPairs-cons, AllPairs-tail, AllPairs-after, Contains-cases}
 use Rattle.delay_model.proofs.Apart.{AreApart, events-apart}
-use Rattle.timetable.specs.Changed.{placed, in_order}
 use Rattle.timetable.specs.LiveTimes.{live_keys}
 use Rattle.timetable.specs.Settled.{IsOrderOf}
+use Rattle.timetable.specs.Sorted.{placed, in_order}
 
 -- what relates the values of each two elements relates each two values
-AllPairs-map : {X Y : Type 0} (R : Y → Y → Type 0) (f : X → Y) (xs : List X) → AllPairs (λ a b. R (f a) (f b)) xs → AllPairs R (map f xs)
+pub AllPairs-map : {X Y : Type 0} (R : Y → Y → Type 0) (f : X → Y) (xs : List X) → AllPairs (λ a b. R (f a) (f b)) xs → AllPairs R (map f xs)
 AllPairs-map R f [] h = AllPairs-nil R
 AllPairs-map {X} R f (x ∷ xs) h =
     let S : X → X → Type 0 = λ a b. R (f a) (f b) in
     AllPairs-cons R (f x) (map f xs) (All-map (R (f x)) f xs (AllPairs-after S [] x xs h)) (AllPairs-map R f xs (AllPairs-tail S x xs h))
 
-same-decides : (a b : Key) → Decides (is_same a b) (a ≡ b)
-same-decides a b = (same-is a b, λ e. ap (is_same a) (sym e) ∙ same-itself a)
+placed-moves : {X : Type 0} (lt : X → X → Bool) (x : X) (xs : List X) → IsPermutation (x ∷ xs) (placed lt x xs)
+placed-moves lt x [] = IsPermutation-refl (x ∷ [])
+placed-moves lt x (y ∷ ys) =
+    cond_both (lt x y) (x ∷ y ∷ ys) (y ∷ placed lt x ys) (IsPermutation (x ∷ y ∷ ys)) (λ _. IsPermutation-refl (x ∷ y ∷ ys))
+    (λ _. IsPermutation-trans _ _ _ (IsPermutation-middle (x ∷ []) y ys) (IsPermutation-cons y _ _ (placed-moves lt x ys)))
 
-same-flips : (a b : Key) → is_same a b ≡ is_same b a
-same-flips a b =
-    elim (cases_Bool (is_same a b)) [
-      | inl alike ↦ alike ∙ sym ((same-decides b a).1 (sym (same-is a b alike)))
-      | inr differ ↦ differ ∙ sym (false_from_ne_true (is_same b a) (λ h. let alike = (same-decides a b).1 (sym (same-is b a h)) in absurd (cc)))
-    ]
+pub in_order-moves : {X : Type 0} (lt : X → X → Bool) (xs : List X) → IsPermutation xs (in_order lt xs)
+in_order-moves lt [] = IsPermutation-refl []
+in_order-moves lt (x ∷ xs) = IsPermutation-trans _ _ _ (IsPermutation-cons x _ _ (in_order-moves lt xs)) (placed-moves lt x (in_order lt xs))
 
--- no two live events of a state have one key
-keys-differ : (st : State) → All IsTrain st.trains → AllPairs (λ a b. a ≢ b) (live_keys (events st))
-keys-differ st trains =
-    AllPairs-map (λ a b. a ≢ b) (λ (v : Event). v.key) (live_events (events st))
-    (λ i j d l m e. AllPairs-filter AreApart (λ (v : Event). v.live) (events st) (events-apart st trains) i j d l m (ap node_of e))
+lt-Less : (o : Ordering) → is_lt o ≡ true → o ≡ Less
+lt-Less Less h = refl
+lt-Less Equal h = cc
+lt-Less Greater h = cc
+
+eq-Equal : (o : Ordering) → is_eq o ≡ true → o ≡ Equal
+eq-Equal Less h = cc
+eq-Equal Equal h = refl
+eq-Equal Greater h = cc
+
+eq-reverse : (o : Ordering) → is_eq (ordering_reverse o) ≡ is_eq o
+eq-reverse Less = refl
+eq-reverse Equal = refl
+eq-reverse Greater = refl
 
 strict : (o p : Ordering) → p ≡ ordering_reverse o → is_lt p ≡ false → (o ≡ Equal → ⊥) → is_lt o ≡ true
 strict Less p e h n = refl
 strict Equal p e h n = absurd (n refl)
 strict Greater p e h n = let less : is_lt p ≡ true = ap is_lt e in absurd (cc)
 
--- of two keys the one is before the other, where the other is not before it
-before-other : (a b : Key) → is_before b a ≡ false → a ≢ b → is_before a b ≡ true
-unfolding is_before
-before-other a b h n = strict (key_cmp a b) (key_cmp b a) (keys_total.antisymm b a) h (λ e. n (exact_keys a b e))
+module _ {X : Type 0} {cmp : X → X → Ordering} (total : IsTotalOrder cmp) (exact : (a b : X) → cmp a b ≡ Equal → a ≡ b) where
+  abbrev less : X → X → Bool
+  less a b = is_lt (cmp a b)
+
+  abbrev IsLess : X → X → Type 0
+  IsLess a b = less a b ≡ true
+
+  less-trans : (a b c : X) → IsLess a b → IsLess b c → IsLess a c
+  less-trans a b c h k = ap is_lt (total.trans a b c (lt-Less (cmp a b) h) (lt-Less (cmp b c) k))
+
+  pub less-itself : (a : X) → less a a ≡ false
+  less-itself a = ap is_lt (tied_itself total a)
+
+  less-asymmetric : (a b : X) → IsLess a b → less b a ≡ false
+  less-asymmetric a b h = ap is_lt (total.antisymm b a ∙ ap ordering_reverse (lt-Less (cmp a b) h))
+
+  -- of two elements the one is less than the other, where the other is not less than it
+  less-other : (a b : X) → less b a ≡ false → a ≢ b → IsLess a b
+  less-other a b h n = strict (cmp a b) (cmp b a) (total.antisymm b a) h (λ e. n (exact a b e))
+
+  same-decides : (a b : X) → Decides (is_eq (cmp a b)) (a ≡ b)
+  same-decides a b = (λ e. exact a b (eq-Equal (cmp a b) e), λ e. ap (λ x. is_eq (cmp a x)) (sym e) ∙ ap is_eq (tied_itself total a))
+
+  same-flips : (a b : X) → is_eq (cmp a b) ≡ is_eq (cmp b a)
+  same-flips a b = ap is_eq (total.antisymm a b) ∙ eq-reverse (cmp b a)
+
+  -- elements that differ, once they are sorted
+  pub sorted-ascends : (xs ys : List X) → AllPairs (λ a b. a ≢ b) xs → IsPermutation xs ys → IsSorted cmp ys → AllPairs IsLess ys
+  sorted-ascends xs ys differ moved sorted =
+      let apart = AllPairs-from_IsDistinct same-decides ys (IsDistinct-IsPermutation (λ a b. is_eq (cmp a b)) same-flips xs ys moved (IsDistinct-from_AllPairs same-decides xs differ)) in
+      λ i j d l m. less-other (get_or ys i d) (get_or ys j d) (sorted_far less (ranks_by total (λ x. x)) ys sorted i j d (omega arith) m) (apart i j d l m)
+
+  placed-ascends : (x : X) (xs : List X) → All (λ y. x ≢ y) xs → AllPairs IsLess xs → AllPairs IsLess (placed less x xs)
+  placed-ascends x [] apart up = AllPairs-cons IsLess x [] (All-nil (IsLess x)) (AllPairs-nil IsLess)
+  placed-ascends x (y ∷ ys) apart up =
+      let after = AllPairs-after IsLess [] y ys up in
+      cond_both (less x y) (x ∷ y ∷ ys) (y ∷ placed less x ys) (AllPairs IsLess)
+      (λ sooner. AllPairs-cons IsLess x (y ∷ ys) (All-cons (IsLess x) y ys sooner (All-weaker (IsLess y) (IsLess x) (λ z. less-trans x y z sooner) ys after)) up)
+      (λ later.
+      let lower = less-other y x later (λ e. All-head (λ y. x ≢ y) y ys apart (sym e)) in
+      AllPairs-cons IsLess y (placed less x ys) (All-permutation (IsLess y) (x ∷ ys) (placed less x ys) (placed-moves less x ys) (All-cons (IsLess y) x ys lower after))
+      (placed-ascends x ys (All-tail (λ y. x ≢ y) y ys apart) (AllPairs-tail IsLess y ys up)))
+
+  pub in_order-ascends : (xs : List X) → AllPairs (λ a b. a ≢ b) xs → AllPairs IsLess (in_order less xs)
+  in_order-ascends [] apart = AllPairs-nil IsLess
+  in_order-ascends (x ∷ xs) apart =
+      placed-ascends x (in_order less xs) (All-permutation (λ y. x ≢ y) xs (in_order less xs) (in_order-moves less xs) (AllPairs-after (λ a b. a ≢ b) [] x xs apart))
+      (in_order-ascends xs (AllPairs-tail (λ a b. a ≢ b) x xs apart))
+
+  -- what comes after the first of a list in order is in another that begins with it, but not at its beginning
+  later-in : (x : X) (xs ys : List X) → AllPairs IsLess (x ∷ xs) → All (Contains (x ∷ ys)) (x ∷ xs) → All (Contains ys) xs
+  later-in x xs ys up h = λ i d l.
+      elim (Contains-cases x ys (get_or xs i d) (All-tail (Contains (x ∷ ys)) x xs h i d l)) [
+        | inl same ↦
+            let own : less x x ≡ true = ap (less x) same ∙ AllPairs-after IsLess [] x xs up i d l in
+            let none = less-itself x in
+            absurd (cc)
+        | inr there ↦ there
+      ]
+
+  -- two lists in order with the same elements are one
+  one-order : (xs ys : List X) → AllPairs IsLess xs → AllPairs IsLess ys → All (Contains ys) xs → All (Contains xs) ys → xs ≡ ys
+  one-order [] [] up high h i = refl
+  one-order [] (y ∷ ys) up high h i = let l = (All-head (Contains []) y ys i).1 in absurd (omega arith)
+  one-order (x ∷ xs) [] up high h i = let l = (All-head (Contains []) x xs h).1 in absurd (omega arith)
+  one-order (x ∷ xs) (y ∷ ys) up high h i =
+      let first : x ≡ y = elim (Contains-cases y ys x (All-head (Contains (y ∷ ys)) x xs h)) [
+        | inl same ↦ sym same
+        | inr there ↦ elim (Contains-cases x xs y (All-head (Contains (x ∷ xs)) y ys i)) [
+          | inl same ↦ same
+          | inr later ↦
+              let lower = All-contains (IsLess x) xs y (AllPairs-after IsLess [] x xs up) later in
+              let higher = All-contains (IsLess y) ys x (AllPairs-after IsLess [] y ys high) there in
+              let none = less-asymmetric x y lower in
+              absurd (cc)
+        ]
+      ] in
+      ap (λ z. z ∷ xs) first
+      ∙ ap (λ zs. y ∷ zs) (one-order xs ys (AllPairs-tail IsLess x xs up) (AllPairs-tail IsLess y ys high)
+      (later-in x xs ys up (subst (λ z. All (Contains (z ∷ ys)) (x ∷ xs)) (sym first) h))
+      (later-in x ys xs (subst (λ z. AllPairs IsLess (z ∷ ys)) (sym first) high) (subst (λ z. All (Contains (x ∷ xs)) (z ∷ ys)) (sym first) i)))
+
+  -- elements that differ, put into order, are any list in order with the same elements
+  pub order-of : (xs ys : List X) → AllPairs (λ a b. a ≢ b) xs → AllPairs IsLess ys → All (Contains ys) xs → All (Contains xs) ys → in_order less xs ≡ ys
+  order-of xs ys differ up h i =
+      let moved = in_order-moves less xs in
+      one-order (in_order less xs) ys (in_order-ascends xs differ) up (All-permutation (Contains ys) xs (in_order less xs) moved h)
+      (All-weaker (Contains xs) (Contains (in_order less xs)) (λ x. All-contains (Contains (in_order less xs)) xs x (All-permutation (Contains (in_order less xs)) (in_order less xs) xs (IsPermutation-sym _ _ moved) (All-contains_itself (in_order less xs)))) ys i)
+
+-- no two live events of a state have one key
+pub keys-differ : (st : State) → All IsTrain st.trains → AllPairs (λ a b. a ≢ b) (live_keys (events st))
+keys-differ st trains =
+    AllPairs-map (λ a b. a ≢ b) (λ (v : Event). v.key) (live_events (events st))
+    (λ i j d l m e. AllPairs-filter AreApart (λ (v : Event). v.live) (events st) (events-apart st trains) i j d l m (ap node_of e))
 
 -- the keys of the live events, once they are sorted
 pub sorted-order : (st : State) (order : List Key) → All IsTrain st.trains → IsPermutation (live_keys (events st)) order → IsSorted key_cmp order → IsOrderOf (events st) order
 unfolding is_before
 sorted-order st order trains moved sorted =
-    let keys = live_keys (events st) in
-    let apart = AllPairs-from_IsDistinct same-decides order (IsDistinct-IsPermutation is_same same-flips keys order moved (IsDistinct-from_AllPairs same-decides keys (keys-differ st trains))) in
-    record {
-      moved = moved;
-      ascends = λ i j d l m.
-          before-other (get_or order i d) (get_or order j d)
-          (sorted_far (λ a b. is_lt (key_cmp a b)) (ranks_by keys_total (λ k. k)) order sorted i j d (omega arith) m) (apart i j d l m);
-    }
-
-placed-moves : (k : Key) (ks : List Key) → IsPermutation (k ∷ ks) (placed k ks)
-placed-moves k [] = IsPermutation-refl (k ∷ [])
-placed-moves k (q ∷ qs) =
-    cond_both (is_before k q) (k ∷ q ∷ qs) (q ∷ placed k qs) (IsPermutation (k ∷ q ∷ qs)) (λ _. IsPermutation-refl (k ∷ q ∷ qs))
-    (λ _. IsPermutation-trans _ _ _ (IsPermutation-middle (k ∷ []) q qs) (IsPermutation-cons q _ _ (placed-moves k qs)))
-
-pub in_order-moves : (ks : List Key) → IsPermutation ks (in_order ks)
-in_order-moves [] = IsPermutation-refl []
-in_order-moves (k ∷ ks) = IsPermutation-trans _ _ _ (IsPermutation-cons k _ _ (in_order-moves ks)) (placed-moves k (in_order ks))
-
-abbrev IsBefore : Key → Key → Type 0
-IsBefore a b = is_before a b ≡ true
-
-placed-ascends : (k : Key) (ks : List Key) → All (λ q. k ≢ q) ks → AllPairs IsBefore ks → AllPairs IsBefore (placed k ks)
-placed-ascends k [] apart up = AllPairs-cons IsBefore k [] (All-nil (IsBefore k)) (AllPairs-nil IsBefore)
-placed-ascends k (q ∷ qs) apart up =
-    let after = AllPairs-after IsBefore [] q qs up in
-    cond_both (is_before k q) (k ∷ q ∷ qs) (q ∷ placed k qs) (AllPairs IsBefore)
-    (λ sooner. AllPairs-cons IsBefore k (q ∷ qs) (All-cons (IsBefore k) q qs sooner (All-weaker (IsBefore q) (IsBefore k) (λ z. before-trans k q z sooner) qs after)) up)
-    (λ later.
-    let less = before-other q k later (λ e. All-head (λ q. k ≢ q) q qs apart (sym e)) in
-    AllPairs-cons IsBefore q (placed k qs) (All-permutation (IsBefore q) (k ∷ qs) (placed k qs) (placed-moves k qs) (All-cons (IsBefore q) k qs less after))
-    (placed-ascends k qs (All-tail (λ q. k ≢ q) q qs apart) (AllPairs-tail IsBefore q qs up)))
-
-in_order-ascends : (ks : List Key) → AllPairs (λ a b. a ≢ b) ks → AllPairs IsBefore (in_order ks)
-in_order-ascends [] apart = AllPairs-nil IsBefore
-in_order-ascends (k ∷ ks) apart =
-    placed-ascends k (in_order ks) (All-permutation (λ q. k ≢ q) ks (in_order ks) (in_order-moves ks) (AllPairs-after (λ a b. a ≢ b) [] k ks apart))
-    (in_order-ascends ks (AllPairs-tail (λ a b. a ≢ b) k ks apart))
-
--- what comes after the first of a list in order is in another that begins with it, but not at its beginning
-later-in : (k : Key) (ks qs : List Key) → AllPairs IsBefore (k ∷ ks) → All (Contains (k ∷ qs)) (k ∷ ks) → All (Contains qs) ks
-later-in k ks qs up h = λ i d l.
-    elim (Contains-cases k qs (get_or ks i d) (All-tail (Contains (k ∷ qs)) k ks h i d l)) [
-      | inl same ↦
-          let own : is_before k k ≡ true = ap (is_before k) same ∙ AllPairs-after IsBefore [] k ks up i d l in
-          let none = before-itself k in
-          absurd (cc)
-      | inr there ↦ there
-    ]
-
--- two lists in order with the same keys are one
-one-order : (ks qs : List Key) → AllPairs IsBefore ks → AllPairs IsBefore qs → All (Contains qs) ks → All (Contains ks) qs → ks ≡ qs
-one-order [] [] up high h i = refl
-one-order [] (q ∷ qs) up high h i = let l = (All-head (Contains []) q qs i).1 in absurd (omega arith)
-one-order (k ∷ ks) [] up high h i = let l = (All-head (Contains []) k ks h).1 in absurd (omega arith)
-one-order (k ∷ ks) (q ∷ qs) up high h i =
-    let first : k ≡ q = elim (Contains-cases q qs k (All-head (Contains (q ∷ qs)) k ks h)) [
-      | inl same ↦ sym same
-      | inr there ↦ elim (Contains-cases k ks q (All-head (Contains (k ∷ ks)) q qs i)) [
-        | inl same ↦ same
-        | inr later ↦
-            let less = All-contains (IsBefore k) ks q (AllPairs-after IsBefore [] k ks up) later in
-            let more = All-contains (IsBefore q) qs k (AllPairs-after IsBefore [] q qs high) there in
-            let none = before-asymmetric k q less in
-            absurd (cc)
-      ]
-    ] in
-    ap (λ j. j ∷ ks) first
-    ∙ ap (λ js. q ∷ js) (one-order ks qs (AllPairs-tail IsBefore k ks up) (AllPairs-tail IsBefore q qs high)
-    (later-in k ks qs up (subst (λ j. All (Contains (j ∷ qs)) (k ∷ ks)) (sym first) h))
-    (later-in k qs ks (subst (λ j. AllPairs IsBefore (j ∷ qs)) (sym first) high) (subst (λ j. All (Contains (k ∷ ks)) (j ∷ qs)) (sym first) i)))
+    record { moved = moved; ascends = sorted-ascends keys_total exact_keys (live_keys (events st)) order (keys-differ st trains) moved sorted }
 
 -- the order in which the events are settled is the one in which they are listed
-pub order-is : (st : State) (order : List Key) → All IsTrain st.trains → IsOrderOf (events st) order → in_order (live_keys (events st)) ≡ order
+pub order-is : (st : State) (order : List Key) → All IsTrain st.trains → IsOrderOf (events st) order → in_order is_before (live_keys (events st)) ≡ order
+unfolding is_before
 order-is st order trains is =
     let keys = live_keys (events st) in
-    let moved = IsPermutation-trans _ _ _ (IsPermutation-sym _ _ (in_order-moves keys)) is.moved in
-    one-order (in_order keys) order (in_order-ascends keys (keys-differ st trains)) is.ascends
-    (All-permutation (Contains order) order (in_order keys) (IsPermutation-sym _ _ moved) (All-contains_itself order))
-    (All-permutation (Contains (in_order keys)) (in_order keys) order moved (All-contains_itself (in_order keys)))
+    order-of keys_total exact_keys keys order (keys-differ st trains) is.ascends
+    (All-permutation (Contains order) order keys (IsPermutation-sym _ _ is.moved) (All-contains_itself order))
+    (All-permutation (Contains keys) keys order is.moved (All-contains_itself keys))

@@ -1,5 +1,5 @@
 -- The events that a message changes, by name, in the order in which they are listed.
-use Rattle.std.specs.Prelude.{List, [], ◌∷◌, ◌++◌, Bool, not, ◌||◌, nat_eq, if◌then◌else◌, map, filter}
+use Rattle.std.specs.Prelude.{List, ◌++◌, Bool, not, ◌||◌, nat_eq, map, filter}
 use Rattle.mt_base.specs.declared.keys.Key.{Key}
 use Rattle.mt_base.specs.declared.keys.Node.{Node}
 use Rattle.mt_base.specs.Order.{is_before, node_of}
@@ -9,16 +9,7 @@ use Rattle.delay_model.specs.Events.{events}
 use Rattle.delay_model.specs.Timing.{event_time}
 use Rattle.delay_model.specs.Touched.{is_live_key, live_only, names_of}
 use Rattle.timetable.specs.LiveTimes.{live_keys}
-
--- a key put into a list of keys, before the first later one
-abbrev pub placed : Key → List Key → List Key
-placed k [] = k ∷ []
-placed k (q ∷ qs) = if is_before k q then k ∷ q ∷ qs else q ∷ placed k qs
-
--- these keys in ascending order
-abbrev pub in_order : List Key → List Key
-in_order [] = []
-in_order (k ∷ ks) = placed k (in_order ks)
+use Rattle.timetable.specs.Sorted.{in_order}
 
 -- an event that is live in the new state was not live in the old one, or has another time
 abbrev pub is_changed : Network → State → State → Key → Bool
@@ -28,4 +19,4 @@ is_changed nw old new k = not (is_live_key (events old) k) || not (nat_eq (event
 -- live, and then, in the order of their keys, those that are live only now or have another time
 unfoldable pub changed_nodes : Network → State → State → List Node
 changed_nodes nw old new =
-    names_of (live_only (events old) (events new)) ++ map node_of (filter (is_changed nw old new) (in_order (live_keys (events new))))
+    names_of (live_only (events old) (events new)) ++ map node_of (filter (is_changed nw old new) (in_order is_before (live_keys (events new))))

@@ -1,6 +1,9 @@
 pub mod Running
 pub mod LiveTimes
+pub mod Sorted
 pub mod Changed
+pub mod Departures
+pub mod AtStops
 pub mod Settled
 pub mod Inside
 pub mod Faults

@@ -1,6 +1,6 @@
 -- The kinds of messages, and what those mean for events and their kept times that change the calls of a train, or which of its events
 -- take place.
-use Rattle.std.specs.Prelude.{◌≡◌, ℕ, ◌+◌, ◌<◌, ◌≤◌, List, ◌++◌, All, IsTrue, length, map, filter, slice_get}
+use Rattle.std.specs.Prelude.{◌≡◌, ℕ, ◌+◌, ◌*◌, ◌<◌, ◌≤◌, List, ◌++◌, All, IsTrue, length, map, filter, slice_get}
 use Rattle.std.specs.Option.{option_map_or}
 use Rattle.mt_base.specs.declared.keys.Key.{Key}
 use Rattle.mt_base.specs.declared.keys.Node.{Node}
@@ -17,6 +17,7 @@ use Rattle.train_nodes.specs.Kept.{Kept, has_time, with_train_times, with_labels
 use Rattle.timetable.specs.declared.messages.Kind.{Kind}
 use Rattle.timetable.specs.declared.messages.Kind.TheVariants.{Value, Choice, Shape}
 use Rattle.timetable.specs.Changed.{changed_nodes}
+use Rattle.timetable.specs.LiveTimes.{live_keys}
 use Rattle.timetable.specs.Settled.{IsOrderOf, IsRoomy, has_another, next_labels}
 
 -- the message is of this kind
@@ -52,12 +53,13 @@ without_made st _ times = times
 
 -- an accepted message was applied, and the events are to be settled: the state is valid, the order of its live events is known, there is
 -- a time for each, the events that are no longer live are listed, with those for which another time is kept these are all that the
--- message changes, and there is room
+-- message changes, there are no more events but those that spare calls were used for, and there is room
 pub record IsPrepared (nw : Network) (old new : State) (times : Kept) (keys : List Key) (list : List Node) (order_room list_room : ℕ) : Type 0 where
   pub valid : IsValid nw new
   pub order : IsOrderOf (events new) keys
   pub held : All (λ k. IsTrue (has_time times (node_of k))) keys
   pub sized : AreSized (next_labels new) times
   pub listed : list ++ map node_of (filter (has_another nw new times) keys) ≡ changed_nodes nw old new
+  pub fewer : length keys + 2 * new.spare_calls ≤ length (live_keys (events old)) + 2 * old.spare_calls
   pub fits : length list + length keys ≤ list_room
   pub roomy : IsRoomy (length keys) new.spare_calls order_room list_room

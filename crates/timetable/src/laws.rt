@@ -1,10 +1,14 @@
 //! Laws of timetables.
 
-ghost use Rattle.std.specs.Prelude.{◌≡◌, Contains, IfOk, length};
+ghost use Rattle.std.specs.Prelude.{◌≡◌, ◌≤◌, true, All, Contains, IfOk, length};
+ghost use Rattle.std.specs.List.{AllPairs};
 ghost use Rattle.mt_base.specs.Order.{node_of};
 ghost use Rattle.delay_model.specs.declared.state.Event.{Event as AnEvent};
+ghost use Rattle.delay_model.specs.Events.{events};
+ghost use Rattle.delay_model.specs.Timing.{event_time};
 ghost use Rattle.delay_model.specs.Touched.{changed};
 ghost use Rattle.timetable.specs.Changed.{changed_nodes};
+ghost use Rattle.timetable.specs.Departures.{departing, departures_from, leaves_before, IsDeparture};
 ghost use Rattle.timetable.specs.LiveTimes.{live_time};
 ghost use Rattle.timetable.specs.Running.{state_after};
 
@@ -41,3 +45,14 @@ pub fn changed_events_are_listed(nw: &Network, old: &State, new: &State)
     ensures each { (v : AnEvent) → Contains (changed nw.now old.now new.now) v → Contains (changed_nodes nw.now old.now new.now) (node_of v.key) }
     ensures count { length (changed_nodes nw.now old.now new.now) ≡ length (changed nw.now old.now new.now) }
 {}
+
+/// The departures from a time on are the live departures not before it, each at its event's time, and each is before those after it.
+pub fn departures_are_listed(timetable: &Timetable, from: Time)
+    ensures each { (v : AnEvent) → Contains (events timetable.now.state) v → v.live ≡ true → v.key.dep ≡ true → from ≤ event_time timetable.now.network timetable.now.state v.key
+        → Contains (departures_from timetable.now.network timetable.now.state from) (departing timetable.now.network timetable.now.state v.key) }
+    ensures only { All (IsDeparture timetable.now.network timetable.now.state) (departures_from timetable.now.network timetable.now.state from) }
+    ensures later { All (λ d. from ≤ d.time) (departures_from timetable.now.network timetable.now.state from) }
+    ensures ascends { AllPairs (λ a b. leaves_before a b ≡ true) (departures_from timetable.now.network timetable.now.state from) }
+{
+    timetable.state_is_valid();
+}

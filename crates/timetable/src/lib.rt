@@ -3,6 +3,7 @@
 //! After each accepted message the rule is evaluated at every live event.
 #![tactic(auto)]
 
+mod departure_list;
 mod events;
 pub mod faults;
 pub mod laws;
@@ -11,5 +12,6 @@ mod prepare;
 mod settle;
 pub mod timetable;
 
+pub use departure_list::{Departure, Departures};
 pub use faults::StepFault;
 pub use timetable::Timetable;

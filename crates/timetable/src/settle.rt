@@ -7,8 +7,10 @@ ghost use Rattle.delay_model.specs.Events.{events, is_live};
 ghost use Rattle.delay_model.specs.Valid.{IsValid};
 ghost use Rattle.train_nodes.specs.Kept.{time_of, has_time, AreSized};
 ghost use Rattle.edge_rules.specs.AtEvent.{edges_to, kept_time, local_at};
-ghost use Rattle.timetable.specs.Settled.{IsOrderOf, HasItsTime, has_another};
+ghost use Rattle.timetable.specs.Departures.{live_departures};
+ghost use Rattle.timetable.specs.Settled.{IsOrderOf, IsSettled, HasItsTime, has_another, next_labels};
 
+use crate::departure_list::{Departure, renew_departures};
 use edge_rules::Graph;
 use mt_base::keys::{Key, Node};
 use std::sync::ledger::{Blank, Ledger};
@@ -64,12 +66,13 @@ pub(crate) fn settle<L: Ledger>(
     }
 }
 
-/// Keeps the time of each of these events, and counts no step.
+/// Keeps the time of each of these events, lists the departures among them, and counts no step.
 pub(crate) fn settle_all<L: Ledger>(
     graph: &Graph,
     order: &[Key],
     times: &mut NodeTimes,
     changed: &mut Vec<Node>,
+    departures: &mut Vec<Departure>,
     blank: Blank,
 )
     requires name { blank.name ≡ L.name }
@@ -78,11 +81,15 @@ pub(crate) fn settle_all<L: Ledger>(
     requires valid { IsValid graph.now.network graph.now.state }
     requires order { IsOrderOf (events graph.now.state) order.now }
     requires held { All (λ k. IsTrue (has_time times.old (node_of k))) order.now }
+    requires labels { AreSized (next_labels graph.now.state) times.old }
     requires room { vec_len changed.old + length order.now ≤ vec_capacity changed.old }
-    ensures times { All (HasItsTime graph.now.network graph.now.state times.new) order.now }
+    requires departures_room { length order.now ≤ vec_capacity departures.old }
+    ensures settled { IsSettled graph.now.network graph.now.state times.new order.now }
     ensures capacity { vec_capacity changed.new ≡ vec_capacity changed.old }
-    ensures sized { (labels : List ℕ) → AreSized labels times.old → AreSized labels times.new }
+    ensures departures { departures.new.items ≡ live_departures graph.now.network graph.now.state }
+    ensures departures_capacity { vec_capacity departures.old ≤ vec_capacity departures.new }
 {
     let mut steps = Steps::<L>::open(blank);
     settle(graph, order, times, changed, &mut steps);
+    renew_departures(departures, order, times, &mut steps);
 }

@@ -8,12 +8,15 @@ ghost use Rattle.delay_model.specs.Valid.{IsValid};
 ghost use Rattle.waiting_rules.specs.WaitTable.{parent_station};
 ghost use Rattle.edge_rules.specs.Held.{network_of};
 ghost use Rattle.graph_edit.specs.Values.{Answers};
+ghost use Rattle.timetable.specs.AtStops.{AreAtStops};
+ghost use Rattle.timetable.specs.Departures.{departures_from};
 ghost use Rattle.timetable.specs.Faults.{IsRefusal};
 ghost use Rattle.timetable.specs.LiveTimes.{live_time};
 ghost use Rattle.timetable.specs.Running.{stepped};
 ghost use Rattle.timetable.specs.declared.faults.StepFault.TheVariants.{OutOfMemory};
 ghost use Rattle.train_nodes.specs.Kinds.{IsShape};
 
+use crate::departure_list::{Departure, Departures, departures_from, renew_departures};
 use crate::events::{first_times, key_order};
 use crate::faults::StepFault;
 use crate::messages::check;
@@ -32,7 +35,8 @@ use std::sync::ledger::{Blank, Ledger};
 use train_nodes::{Msg, NodeTimes, Steps, Trains};
 use waiting_rules::Waits;
 
-/// The trains with the time of each live event, how many messages were accepted, and which events the last of them changed.
+/// The trains with the time of each live event, how many messages were accepted, which events the last of them changed, and the live
+/// departures in their order.
 #[derive(Drop)]
 pub struct Timetable {
     graph: Graph,
@@ -42,6 +46,8 @@ pub struct Timetable {
     count: u64,
     /// The events that the last accepted message changed. It has room for twice as many as the order.
     changed: Vec<Node>,
+    /// The live departures. It has room for as many as the order.
+    departures: Vec<Departure>,
 }
 
 impl Model for Timetable {
@@ -80,15 +86,24 @@ impl Timetable {
         requires valid { IsValid (network_of changes waits opts) trains }
         requires default { changes.default ≡ opts.change }
         requires parents { waits.parents ≡ map parent_station changes.stops }
+        requires at_stops { AreAtStops (network_of changes waits opts) trains }
         requires nodes { length (events trains) + 2 * trains.spare_calls ≤ 2097152 }
         ensures { IfOk result (λ t. t ≡ record { network = network_of changes waits opts; state = trains; count = 0; changed = [] }) }
     {
         let mut times = first_times(alloc, &trains)?;
         let order = key_order(alloc, &trains)?;
-        let room = 2 * (order.len() + 2 * trains.spare_calls() as usize);
-        let mut changed = Vec::with_capacity(alloc, room)?;
+        let room = order.len() + 2 * trains.spare_calls() as usize;
+        let mut changed = Vec::with_capacity(alloc, 2 * room)?;
+        let mut departures = Vec::with_capacity(alloc, room)?;
         let graph = Graph::build(trains, changes, waits, opts);
-        settle_all::<Brand>(&graph, &order, &mut times, &mut changed, Blank::new(1));
+        settle_all::<Brand>(
+            &graph,
+            &order,
+            &mut times,
+            &mut changed,
+            &mut departures,
+            Blank::new(1),
+        );
         changed.clear();
         Ok(Timetable {
             graph,
@@ -96,6 +111,7 @@ impl Timetable {
             order,
             count: 0,
             changed,
+            departures,
         })
     }
 
@@ -109,6 +125,7 @@ impl Timetable {
             order: copy_with_room(alloc, &self.order, self.order.capacity())?,
             count: self.count,
             changed: copy_with_room(alloc, &self.changed, self.changed.capacity())?,
+            departures: copy_with_room(alloc, &self.departures, self.departures.capacity())?,
         })
     }
 
@@ -151,6 +168,7 @@ impl Timetable {
             &mut self.changed,
             steps,
         );
+        renew_departures(&mut self.departures, &self.order, &self.times, steps);
         self.count = self.count.saturating_add(1);
         Ok(self.changed.len() as u64)
     }
@@ -161,6 +179,14 @@ impl Timetable {
         ensures { result.now ≡ self.now.changed }
     {
         &self.changed
+    }
+
+    /// The live departures at a time or later, over the state as the last step left it, each with its time: in the order of the times, and
+    /// at one time in that of the keys.
+    pub fn departures(&self, from: Time) -> Departures<'_>
+        ensures { result ≡ departures_from self.now.network self.now.state from }
+    {
+        departures_from(&self.departures, from)
     }
 
     /// How many messages were accepted. Past 2^64 - 1 it stays there.
@@ -194,5 +220,21 @@ impl Timetable {
         ensures state { result.now.state ≡ self.now.state }
     {
         &self.graph
+    }
+
+    /// The state is valid.
+    pub fn state_is_valid(&self)
+        ensures { IsValid self.now.network self.now.state }
+    {
+        // A field is read, so that the check knows what the type keeps.
+        let _ = &self.graph;
+    }
+
+    /// Every call of every train is at a stop or platform.
+    pub fn calls_are_at_stops(&self)
+        ensures { AreAtStops self.now.network self.now.state }
+    {
+        // A field is read, so that the check knows what the type keeps.
+        let _ = &self.graph;
     }
 }

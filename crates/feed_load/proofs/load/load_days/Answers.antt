@@ -2,6 +2,7 @@ use Rattle.std.proofs.Common.{◌+◌, ◌*◌, ◌≤◌, length, sym, subst}
 use Rattle.delay_model.specs.declared.state.State.{State}
 use Rattle.delay_model.specs.Events.{events}
 use Rattle.delay_model.specs.Valid.{IsValid}
+use Rattle.feed_load.specs.Loaded.{AreAtStops}
 use Rattle.feed_load.proofs.LoadedDays.{few-nodes}
 use Rattle.feed_load.proofs.load.load_days.Goals as goal
 
@@ -12,3 +13,7 @@ returns-in-Ok-clause-valid c = λ nw same.
 pub returns-in-Ok-clause-nodes : goal.returns-in-Ok-clause-nodes
 returns-in-Ok-clause-nodes c =
     subst (λ (st : State). length (events st) + 2 * st.spare_calls ≤ 2097152) (sym c.in-Ok.ensures.schedule) (few-nodes _ _ c.args.opts.now c.requires.options c.in-Ok.ensures.fits)
+
+pub returns-in-Ok-clause-stops : goal.returns-in-Ok-clause-stops
+returns-in-Ok-clause-stops c =
+    subst (AreAtStops c.args.t.now.stops) (sym c.in-Ok.ensures.schedule) c.schedules_call_at_stops.ensures

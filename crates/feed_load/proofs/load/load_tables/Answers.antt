@@ -3,6 +3,7 @@ use Rattle.std.proofs.lemmas.Result.{err_from_is_err_and}
 use Rattle.gtfs_tables.proofs.FeedLemmas.{stops-at}
 use Rattle.waiting_rules.specs.WaitTable.{WaitTable, parent_station}
 use Rattle.feed_load.specs.Loaded.{few_pairs}
+use Rattle.feed_load.proofs.AtStops.{same-kinds}
 use Rattle.feed_load.proofs.LoadedDays.{parents-without-ids}
 use Rattle.feed_load.proofs.load.load_tables.Goals as goal
 
@@ -30,3 +31,7 @@ returns-clause-parents c =
 
 pub returns-clause-valid : goal.returns-clause-valid
 returns-clause-valid c = c.in_ok-trains.ensures.valid _ refl
+
+pub returns-clause-stops : goal.returns-clause-stops
+returns-clause-stops c =
+    same-kinds c.args.t.now.stops _ _ c.in_ok-changes.ensures.same.kind c.in_ok-trains.ensures.stops

@@ -1,0 +1,208 @@
+-- The rides from a departure, one call after the other.
+use Rattle.std.proofs.Common.{◌≡◌, ℕ, suc, Bool, true, false, cond, ◌&&◌, List, [], ◌∷◌, ◌++◌, Option, Some, None, is_some, slice_get, find, length, refl, sym, ◌∙◌, ap, subst, inl, inr, arith}
+use Rattle.std.specs.Option.{option_map, option_map_or}
+use Rattle.std.proofs.lemmas.Bool.{cases_Bool, cond-true, cond-false}
+use Rattle.std.proofs.lemmas.Option.{same_Some, none-some}
+use Rattle.mt_base.specs.declared.plans.PlanRide.{PlanRide}
+use Rattle.mt_base.specs.declared.plans.Query.{Query}
+use Rattle.delay_model.specs.declared.network.Network.{Network}
+use Rattle.delay_model.specs.declared.state.Call.{Call}
+use Rattle.delay_model.specs.declared.state.State.{State}
+use Rattle.delay_model.specs.declared.state.Train.{Train}
+use Rattle.delay_model.specs.Cuts.{after}
+use Rattle.delay_model.specs.Effect.{is_call}
+use Rattle.delay_model.specs.Events.{calls_of, departure_of}
+use Rattle.delay_model.specs.Timing.{event_time}
+use Rattle.delay_model.specs.Valid.{IsValid}
+use Rattle.train_nodes.specs.Calls.{call_named, has_call}
+use Rattle.timetable.specs.LiveTimes.{live_time}
+use Rattle.conn_scan.specs.Calls.{arrival_at, calls_after, first_arrival}
+use Rattle.conn_scan.specs.Rides.{rides_along, rides_at, rides_from}
+use Rattle.conn_scan.specs.Scanned.{boarding_at, ride_to, rides_on, took, took_all, LeavesRides}
+use Rattle.conn_scan.specs.declared.known.Known.{Known}
+use Rattle.conn_scan.specs.declared.walk.Arrival.{Arrival}
+use Rattle.conn_scan.specs.declared.walk.Boarding.{Boarding}
+use Rattle.conn_scan.proofs.RideLemmas.{is-at}
+use Rattle.conn_scan.proofs.CallLemmas.{calls-distinct, next-call, time-of_call}
+
+-- the call of an arrival, and what stands after it
+record IsArrival (nw : Network) (st : State) (train label : ℕ) (a : Arrival) : Type 0 where
+  call : Call
+  rest : List Call
+  split : calls_after st train label ≡ call ∷ rest
+  live : call.arrival.live ≡ true
+  is : arrival_at nw st train call ≡ a
+  found : call_named st train a.label ≡ Some call
+  onward : calls_after st train a.label ≡ rest
+
+pub named-of : (o : Option Call) → is_some o ≡ true → (c : Call) × (o ≡ Some c)
+named-of None there = absurd (cc)
+named-of (Some c) there = (c, refl)
+
+module _ (nw : Network) (st : State) (valid : IsValid nw st) (train label : ℕ) (there : has_call st train label ≡ true) where
+  first-of : (a : Arrival) (cs : List Call) → calls_after st train label ≡ cs → first_arrival nw st train cs ≡ Some a → IsArrival nw st train label a
+  first-of a [] split first = absurd (none-some a first)
+  first-of a (d ∷ ds) split first =
+      let made = arrival_at nw st train d in
+      elim (cases_Bool d.arrival.live) [
+        | inr dead ↦ absurd (none-some a (sym (cond-false d.arrival.live (Some made) None dead) ∙ first))
+        | inl live ↦
+            let is = same_Some made a (sym (cond-true d.arrival.live (Some made) None live) ∙ first) in
+            let c = named-of (call_named st train label) there in
+            let by = next-call (calls_of st train) (calls-distinct st valid.trains train) label c.0 c.1 d ds split in
+            let same : d.label ≡ a.label = ap (λ (a : Arrival). a.label) is in
+            record {
+              call = d;
+              rest = ds;
+              split = split;
+              live = live;
+              is = is;
+              found = subst (λ l. call_named st train l ≡ Some d) same by.0;
+              onward = subst (λ l. calls_after st train l ≡ ds) same by.1;
+            }
+      ]
+
+  arrives-of : (a : Arrival) → first_arrival nw st train (calls_after st train label) ≡ Some a → IsArrival nw st train label a
+  arrives-of a first = first-of a (calls_after st train label) refl first
+
+  -- where there is no departure at which one may board
+  pub board-dead : live_time nw st (record { train = train; label = label; dep = true }) ≡ None → None ≡ boarding_at nw st train label
+  board-dead dead =
+      let by = named-of (call_named st train label) there in
+      let c = by.0 in
+      let time = event_time nw st (departure_of train 0 c).key in
+      let b : Boarding = record { train = train; label = label; stop = c.stop; time = time } in
+      let its = time-of_call nw st valid (record { train = train; label = label; dep = true }) c by.1 in
+      let P : Option Boarding → Type 0 = λ o. None ≡ o in
+      subst P (sym (ap (λ o. option_map_or (λ (c : Call). cond (c.departure.live && c.board) (Some (record { train = train; label = label; stop = c.stop; time = event_time nw st (departure_of train 0 c).key })) None) o None) by.1)) (elim (cases_Bool c.departure.live) [
+        | inl live ↦ absurd (none-some time (sym dead ∙ its ∙ cond-true c.departure.live (Some time) None live))
+        | inr other ↦ sym (cond-false (c.departure.live && c.board) (Some b) None (ap (λ x. x && c.board) other))
+      ])
+
+  pub board-live : (time stop : ℕ) → live_time nw st (record { train = train; label = label; dep = true }) ≡ Some time → option_map (λ (c : Call). c.stop) (call_named st train label) ≡ Some stop → option_map (λ (c : Call). c.board) (call_named st train label) ≡ Some true → Some (record { train = train; label = label; stop = stop; time = time }) ≡ boarding_at nw st train label
+  board-live time stop live at may =
+      let by = named-of (call_named st train label) there in
+      let c = by.0 in
+      let own = event_time nw st (departure_of train 0 c).key in
+      let b : Boarding = record { train = train; label = label; stop = c.stop; time = own } in
+      let its = time-of_call nw st valid (record { train = train; label = label; dep = true }) c by.1 in
+      let stops : stop ≡ c.stop = sym (same_Some c.stop stop (sym (ap (option_map (λ (c : Call). c.stop)) by.1) ∙ at)) in
+      let boards : c.board ≡ true = same_Some c.board true (sym (ap (option_map (λ (c : Call). c.board)) by.1) ∙ may) in
+      let P : Option Boarding → Type 0 = λ o. Some (record { train = train; label = label; stop = stop; time = time }) ≡ o in
+      subst P (sym (ap (λ o. option_map_or (λ (c : Call). cond (c.departure.live && c.board) (Some (record { train = train; label = label; stop = c.stop; time = event_time nw st (departure_of train 0 c).key })) None) o None) by.1)) (elim (cases_Bool c.departure.live) [
+        | inr other ↦ absurd (none-some time (sym (its ∙ cond-false c.departure.live (Some own) None other) ∙ live))
+        | inl lives ↦
+            let times : time ≡ own = sym (same_Some own time (sym (its ∙ cond-true c.departure.live (Some own) None lives) ∙ live)) in
+            (λ i. Some (record { train = train; label = label; stop = stops i; time = times i })) ∙ sym (cond-true (c.departure.live && c.board) (Some b) None (ap (λ x. x && c.board) lives ∙ boards))
+      ])
+
+took-here : (nw : Network) (q : Query) (r : PlanRide) (rest : List PlanRide) (alights : Bool) (k : Known) → took_all nw q (cond alights (r ∷ []) [] ++ rest) k ≡ took_all nw q rest (cond alights (took nw q r k) k)
+took-here nw q r rest true k = refl
+took-here nw q r rest false k = refl
+
+module _ (nw : Network) (st : State) (valid : IsValid nw st) (q : Query) (b : Boarding) (label : ℕ) (there : has_call st b.train label ≡ true) (a : Arrival) (first : first_arrival nw st b.train (calls_after st b.train label) ≡ Some a) (old new : Known) (taken : new ≡ cond a.alights (took nw q (ride_to b a) old) old) where
+  at : IsArrival nw st b.train label a
+  at = arrives-of nw st valid b.train label there a first
+
+  -- the rides at this call are taken, and those to the calls after it are left
+  rest-left : took_all nw q (rides_on nw st b (calls_after st b.train label)) old ≡ took_all nw q (cond a.goes_on (rides_on nw st b (calls_after st b.train a.label)) []) new
+  rest-left =
+      let d = at.call in
+      let here = cond d.alight (ride_to b (arrival_at nw st b.train d) ∷ []) [] in
+      let on = cond d.departure.live (rides_on nw st b at.rest) [] in
+      let P : Arrival → Type 0 = λ a. here ++ on ≡ cond a.alights (ride_to b a ∷ []) [] ++ cond a.goes_on (rides_on nw st b at.rest) [] in
+      let split = ap (rides_on nw st b) at.split ∙ cond-true d.arrival.live (here ++ on) [] at.live ∙ subst P at.is refl in
+      ap (λ rs. took_all nw q rs old) split
+      ∙ took-here nw q (ride_to b a) (cond a.goes_on (rides_on nw st b at.rest) []) a.alights old
+      ∙ ap (took_all nw q (cond a.goes_on (rides_on nw st b at.rest) [])) (sym taken)
+      ∙ ap (λ cs. took_all nw q (cond a.goes_on (rides_on nw st b cs) []) new) (sym at.onward)
+
+  pub next-left : a.goes_on ≡ true → LeavesRides nw st q b label old a.label new
+  next-left goes =
+      let size : length (calls_after st b.train label) ≡ suc (length at.rest) = ap length at.split in
+      let fewer : length (calls_after st b.train a.label) ≡ length at.rest = ap length at.onward in
+      record {
+        left = sym (rest-left ∙ ap (λ rs. took_all nw q rs new) (cond-true a.goes_on (rides_on nw st b (calls_after st b.train a.label)) [] goes));
+        there = ap is_some at.found;
+        fewer = omega (arith, size, fewer);
+      }
+
+  pub none-left : a.goes_on ≡ false → new ≡ took_all nw q (rides_on nw st b (calls_after st b.train label)) old
+  none-left ends = sym (rest-left ∙ ap (λ rs. took_all nw q rs new) (cond-false a.goes_on (rides_on nw st b (calls_after st b.train a.label)) [] ends))
+
+-- nothing is left where the train does not arrive
+pub past-left : (nw : Network) (st : State) (q : Query) (b : Boarding) (k : Known) (cs : List Call) → first_arrival nw st b.train cs ≡ None → k ≡ took_all nw q (rides_on nw st b cs) k
+past-left nw st q b k [] first = refl
+past-left nw st q b k (d ∷ ds) first =
+    let made = arrival_at nw st b.train d in
+    let here = cond d.alight (ride_to b made ∷ []) [] ++ cond d.departure.live (rides_on nw st b ds) [] in
+    elim (cases_Bool d.arrival.live) [
+      | inl live ↦ absurd (none-some made (sym first ∙ cond-true d.arrival.live (Some made) None live))
+      | inr dead ↦ sym (ap (λ rs. took_all nw q rs k) (cond-false d.arrival.live here [] dead))
+    ]
+
+-- the departure at a call
+abbrev start : Network → State → ℕ → Call → ℕ → Boarding
+start nw st train c label = record { train = train; label = label; stop = c.stop; time = event_time nw st (departure_of train 0 c).key }
+
+along-same : (nw : Network) (st : State) (train route : ℕ) (c : Call) (ds : List Call) → rides_along nw st train route c ds ≡ rides_on nw st (start nw st train c c.label) ds
+along-same nw st train route c [] = refl
+along-same nw st train route c (d ∷ ds) =
+    let here = cond d.alight (ride_to (start nw st train c c.label) (arrival_at nw st train d) ∷ []) [] in
+    ap (λ rs. cond d.arrival.live (here ++ cond d.departure.live rs []) []) (along-same nw st train route c ds)
+
+module _ (nw : Network) (st : State) (train label : ℕ) where
+  abbrev starts : Call → Option Boarding
+  starts c = cond (c.departure.live && c.board) (Some (start nw st train c label)) None
+
+  abbrev lists : ℕ → List Call → Call → List PlanRide
+  lists route cs c = cond (c.departure.live && c.board) (rides_along nw st train route c (after (is_call label) cs)) []
+
+  at-start : (b : Boarding) (route : ℕ) (cs : List Call) (f : Option Call) → find (is_call label) cs ≡ f → Some b ≡ option_map_or starts f None → (option_map_or (lists route cs) (find (is_call label) cs) [] ≡ rides_on nw st b (after (is_call label) cs)) × (b.train ≡ train) × (b.label ≡ label)
+  at-start b route cs None found is = absurd (none-some b (sym is))
+  at-start b route cs (Some c) found is =
+      let made = start nw st train c label in
+      let rides = rides_along nw st train route c (after (is_call label) cs) in
+      elim (cases_Bool (c.departure.live && c.board)) [
+        | inr neither ↦ absurd (none-some b (sym (is ∙ cond-false (c.departure.live && c.board) (Some made) None neither)))
+        | inl both ↦
+            let same : made ≡ b = sym (same_Some b made (is ∙ cond-true (c.departure.live && c.board) (Some made) None both)) in
+            let named = (is-at label cs c found).named in
+            subst (λ b. (option_map_or (lists route cs) (find (is_call label) cs) [] ≡ rides_on nw st b (after (is_call label) cs)) × (b.train ≡ train) × (b.label ≡ label)) same (
+              ap (λ f. option_map_or (lists route cs) f []) found
+                  ∙ cond-true (c.departure.live && c.board) rides [] both
+                  ∙ along-same nw st train route c (after (is_call label) cs)
+                  ∙ ap (λ l. rides_on nw st (start nw st train c l) (after (is_call label) cs)) named,
+              refl,
+              refl,
+            )
+      ]
+
+  train-start : (b : Boarding) (o : Option Train) → Some b ≡ option_map_or starts (find (is_call label) (option_map_or (λ (t : Train). t.calls) o [])) None → (option_map_or (λ (t : Train). rides_at nw st train t.route label t.calls) o [] ≡ rides_on nw st b (after (is_call label) (option_map_or (λ (t : Train). t.calls) o []))) × (b.train ≡ train) × (b.label ≡ label)
+  train-start b None is = absurd (none-some b (sym is))
+  train-start b (Some t) is = at-start b t.route t.calls (find (is_call label) t.calls) refl is
+
+  -- the rides that begin with a departure at which one may board
+  pub rides-start : (b : Boarding) → Some b ≡ boarding_at nw st train label → (rides_from nw st (record { train = train; label = label; dep = true }) ≡ rides_on nw st b (calls_after st b.train b.label)) × (b.train ≡ train) × (b.label ≡ label)
+  unfolding rides_from
+  rides-start b is =
+      let by = train-start b (slice_get st.trains train) is in
+      (by.0 ∙ (λ i. rides_on nw st b (calls_after st (sym by.1 i) (sym by.2 i))), by.1, by.2)
+
+  at-none : (route : ℕ) (cs : List Call) (f : Option Call) → find (is_call label) cs ≡ f → None ≡ option_map_or starts f None → option_map_or (lists route cs) (find (is_call label) cs) [] ≡ []
+  at-none route cs None found is = ap (λ f. option_map_or (lists route cs) f []) found
+  at-none route cs (Some c) found is =
+      let rides = rides_along nw st train route c (after (is_call label) cs) in
+      elim (cases_Bool (c.departure.live && c.board)) [
+        | inl both ↦ absurd (none-some (start nw st train c label) (is ∙ cond-true (c.departure.live && c.board) (Some (start nw st train c label)) None both))
+        | inr neither ↦ ap (λ f. option_map_or (lists route cs) f []) found ∙ cond-false (c.departure.live && c.board) rides [] neither
+      ]
+
+  train-none : (o : Option Train) → None ≡ option_map_or starts (find (is_call label) (option_map_or (λ (t : Train). t.calls) o [])) None → option_map_or (λ (t : Train). rides_at nw st train t.route label t.calls) o [] ≡ []
+  train-none None is = refl
+  train-none (Some t) is = at-none t.route t.calls (find (is_call label) t.calls) refl is
+
+  -- there are none where one may not board
+  pub rides-none : None ≡ boarding_at nw st train label → rides_from nw st (record { train = train; label = label; dep = true }) ≡ []
+  unfolding rides_from
+  rides-none is = train-none (slice_get st.trains train) is

@@ -1,0 +1,23 @@
+-- What a scratch shows, and what an answer says.
+use Rattle.std.specs.Prelude.{◌≡◌, ℕ, List, [], length}
+use Rattle.mt_base.specs.declared.plans.PlanRide.{PlanRide}
+use Rattle.mt_base.specs.declared.plans.Query.{Query}
+use Rattle.delay_model.specs.declared.network.Network.{Network}
+use Rattle.delay_model.specs.declared.state.State.{State}
+use Rattle.delay_model.specs.Journeys.{IsEarliest, HasNoJourney}
+use Rattle.conn_scan.specs.declared.scratch.Found.{Found}
+use Rattle.conn_scan.specs.declared.scratch.Found.TheVariants.{Arrives, NoWay}
+use Rattle.conn_scan.specs.declared.scratch.Scratch.TheInside.{Inside}
+
+-- for how many stops there is room, and the rides of the journey that was found last
+pub record Answered : Type 0 where
+  pub stops : ℕ
+  pub rides : List PlanRide
+
+abbrev pub seen : Inside → Answered
+seen s = record { stops = length s.known.labels; rides = s.rides.items }
+
+-- the earliest arrival with the rides of a journey that arrives then, or no ride, where there is no journey
+abbrev pub IsAnswer : Network → State → Query → List PlanRide → Found → Type 0
+IsAnswer nw st q rides (Arrives at) = IsEarliest nw st q rides at
+IsAnswer nw st q rides NoWay = (rides ≡ []) × HasNoJourney nw st q
