@@ -12,13 +12,17 @@ WEEKDAYS = ("monday", "tuesday", "wednesday", "thursday", "friday", "saturday", 
 
 @dataclass(eq=False)
 class Event:
-    """An arrival or a departure. Times are seconds from the beginning of service day 0."""
+    """An arrival, which is open where passengers may alight, or a departure, which is open where they may board.
+
+    Times are seconds from the beginning of service day 0.
+    """
 
     train: "Train"
     label: int
     stop: str
     kind: str
     scheduled: int
+    is_open: bool
     live: bool = True
     forecast: int | None = None
     report: int | None = None
@@ -50,10 +54,10 @@ class Train:
         return {"trip": self.trip, "date": date_text(self.day)}
 
     def new_calls(self, calls):
-        """The live events of new calls, with the next labels of the train; a call is a stop and two times."""
-        for label, (stop, *times) in enumerate(calls, self.next_label):
-            for kind, time in zip(("arr", "dep"), times):
-                yield Event(self, label, stop, kind, time)
+        """The live events of new calls. A call is a stop, and for each of its events a time and if it is open."""
+        for label, (stop, *events) in enumerate(calls, self.next_label):
+            for kind, (time, is_open) in zip(("arr", "dep"), events):
+                yield Event(self, label, stop, kind, time, is_open)
 
     def begin(self, calls):
         """The train gets its first calls. It does not arrive at the first nor depart from the last."""
@@ -88,9 +92,10 @@ def runs(service, day, calendar, exceptions):
 
 
 def timed_call(row, day):
-    """The stop, arrival and departure of a row with a time; one that is empty is the other."""
+    """The call of a row with a time; one that is empty is the other."""
     times = row["arrival_time"] or row["departure_time"], row["departure_time"] or row["arrival_time"]
-    return row["stop_id"], *(seconds_of(time, day) for time in times)
+    are_open = (int(row.get(column) or 0) != 1 for column in ("drop_off_type", "pickup_type"))
+    return row["stop_id"], *zip((seconds_of(time, day) for time in times), are_open)
 
 
 class Feed:

@@ -1,18 +1,21 @@
 """The rules of docs/MODEL.md as a plain, slow program, to be read beside that page.
 
 It reads a feed from its folder and answers lines as `traind times` does, from
-Monday 2026-01-05: all eight messages, and flush lines. It takes feeds that are
-not refused and lines that are not bad, and does nothing fast: every pair of
-events is tried for a planned connection, and after each message every event
-gets its time anew. The feed is read by tools/plain_feed.py; the program
-tools/compare runs all this.
+Monday 2026-01-05: all eight messages, queries, and flush lines. It takes feeds
+that are not refused and lines that are not bad but for the places, the date and
+the time of a query. It does nothing fast: every pair of events is tried for a
+planned connection, and after each message every event gets its time anew. The
+feed is read by tools/plain_feed.py and journeys are found by
+tools/plain_journeys.py; the program tools/compare runs all this.
 """
 
 import itertools
 import json
+import re
 from collections import namedtuple
 
-from plain_feed import Feed, Train, date_text, seconds_of
+from plain_feed import DAY, Feed, Train, date_text, seconds_of, time_text
+from plain_journeys import Journeys, rides_of
 
 DEFAULTS = {
     "days": 1, "slack": 7, "stop": 60, "change": 180, "window": 1800,
@@ -35,7 +38,7 @@ class Plain:
         # For each departure, the planned connections by feeder; and what was chosen for each feeder: keep or drop.
         self.planned, self.overrides = {}, {}
         self.plan({*self.live_events()})
-        self.times = self.event_times()
+        self.times, self.rides = self.event_times(), None
         self.accepted = 0
 
     def live_events(self):
@@ -193,6 +196,23 @@ class Plain:
         self.overrides[v][u] = message["type"]
         return None
 
+    # Section 10: the answer to a query.
+
+    def answer(self, query):
+        """The answer to a query, with its journeys in place of one; a reply may show any of them that arrives then."""
+        places, days = (query["from"], query["to"]), [date_text(day) for day in range(self.options["days"])]
+        if not all(place in self.feed.stops and self.feed.place_type(place) in "01" for place in places):
+            return {"bad": "stop"}
+        if query["date"] not in days or not re.fullmatch("[0-9]{1,2}:[0-5][0-9]:[0-5][0-9]", query["time"]):
+            return {"bad": "time"}
+        if self.rides is None:
+            self.rides = rides_of(self.trains, self.times)
+        day = days.index(query["date"])
+        journeys = Journeys(self.feed, self.rides, *places, seconds_of(query["time"], day))
+        if journeys.arrives is None:
+            return {"after": self.accepted, "arrives": None}
+        return {"after": self.accepted, "arrives": time_text(journeys.arrives - day * DAY), "rides": journeys}
+
     def are_at_stops(self, calls):
         return all(self.feed.is_stop(call["stop"]) for call in calls)
 
@@ -221,11 +241,13 @@ class Plain:
         message = json.loads(line)
         if message["type"] == "flush":
             return {"flush": self.accepted}
+        if message["type"] == "query":
+            return self.answer(message)
         take = TAKES[message["type"]]
         refusal = take(self, message)
         if refusal:
             return refusal
-        before, self.times = self.times, self.event_times()
+        before, self.times, self.rides = self.times, self.event_times(), None
         self.accepted += 1
         changed = sum(before.get(v) != self.times.get(v) for v in before.keys() | self.times.keys())
         return {"accepted": self.accepted, "changed": changed}
@@ -271,8 +293,8 @@ def after(event):
 
 
 def read_calls(calls, day):
-    """The stop and the times of each call of a line."""
-    return [(call["stop"], seconds_of(call["arr"], day), seconds_of(call["dep"], day)) for call in calls]
+    """The calls of a line, where passengers may alight and board."""
+    return [(call["stop"], *((seconds_of(call[kind], day), True) for kind in ("arr", "dep"))) for call in calls]
 
 
 def first_reported(events, contradicts=lambda report: True):

@@ -1,6 +1,6 @@
 //! The change times of a feed.
 
-ghost use Rattle.std.specs.Prelude.{◌≡◌, ◌<◌, ◌≤◌, IfOk, IfErr};
+ghost use Rattle.std.specs.Prelude.{◌≡◌, ◌<◌, ◌≤◌, IfOk, IfErr, length};
 ghost use Rattle.delay_model.specs.Changes.{kind_of, station, change};
 ghost use Rattle.change_times.specs.ChangeTables.{tables_of, HaveSameChanges};
 ghost use Rattle.change_times.specs.Reach.{reached, reached_back, pairs};
@@ -97,6 +97,13 @@ impl Changes {
         ensures { result ≡ station self.now.stops a }
     {
         self.table.places().station(a)
+    }
+
+    /// How many locations there are.
+    pub fn stops(&self) -> u32
+        ensures { result ≡ length self.now.stops }
+    {
+        self.table.places().len() as u32
     }
 
     /// The `location_type` of a location. None exactly where there is no such location.

@@ -1,5 +1,5 @@
 -- What is known at the end of a scan is the answer.
-use Rattle.std.proofs.Common.{◌≡◌, ◌⊎◌, inl, inr, ℕ, ◌≤◌, Bool, true, false, List, [], ◌∷◌, ◌++◌, reverse, Option, Some, None, MatchBool, refl, sym, ◌∙◌, ap, subst, arith}
+use Rattle.std.proofs.Common.{◌≡◌, ◌⊎◌, inl, inr, ℕ, ◌≤◌, ◌<◌, Bool, true, false, List, [], ◌∷◌, ◌++◌, reverse, Option, Some, None, MatchBool, refl, sym, ap, subst, arith}
 use Rattle.std.specs.Option.{MatchOption, option_and_then}
 use Rattle.std.proofs.lemmas.Bool.{cases_lt, both_ways}
 use Rattle.std.proofs.lemmas.Grind.{reverse_onto}
@@ -9,7 +9,7 @@ use Rattle.mt_base.specs.declared.plans.PlanRide.{PlanRide}
 use Rattle.mt_base.specs.declared.plans.Query.{Query}
 use Rattle.delay_model.specs.declared.network.Network.{Network}
 use Rattle.delay_model.specs.declared.state.State.{State}
-use Rattle.delay_model.specs.Journeys.{is_one_station, IsInTime, MayBegin, GoesOn, IsJourney, IsEarliest, HasNoJourney}
+use Rattle.delay_model.specs.Journeys.{is_one_station, IsInTime, MayBegin, GoesOn, IsJourney, IsRide, IsEarliest, HasNoJourney}
 use Rattle.delay_model.specs.Valid.{IsValid}
 use Rattle.timetable.specs.AtStops.{AreAtStops}
 use Rattle.conn_scan.specs.Reached.{Access, CanBoard, IsFromOrigin, IsBehind, IsPossible, AreExplained, ride_before}
@@ -40,7 +40,7 @@ module _ (nw : Network) (st : State) (q : Query) where
         (by_match a.ride r.board_stop a.time r.board_time h.2 (origin-later (is_one_station nw q.from_stop r.board_stop) r.board_stop a.time r.board_time h.2) access (explained r.board_stop a h.1))
 
     -- the ride before one that can be boarded
-    pub boards-after : (r before : PlanRide) → CanBoard access r → ride_before access r ≡ Some before → IsPossible nw st access before × IsBehind nw before r.board_stop r.board_time
+    boards-after : (r before : PlanRide) → CanBoard access r → ride_before access r ≡ Some before → IsPossible nw st access before × IsBehind nw before r.board_stop r.board_time
     boards-after r before h at =
         MatchOption-at_some (MayBegin nw q r) (λ a. IsPossible nw st access a × IsBehind nw a r.board_stop r.board_time) before at (boards r h)
 
@@ -50,12 +50,17 @@ module _ (nw : Network) (st : State) (q : Query) where
         (possible.0, MatchOption-at_none (MayBegin nw q r) (λ a. IsPossible nw st access a × IsBehind nw a r.board_stop r.board_time) way (boards r possible.1), goes)
     way-back (before ∷ rides) r rest arrives possible way goes =
         let last = boards-after r before possible.1 way.0 in
-        let same : reverse rides ++ (before ∷ r ∷ rest) ≡ reverse (before ∷ rides) ++ r ∷ rest =
-        sym (ap (λ rs. rs ++ r ∷ rest) (reverse_onto rides before []) ∙ append_assoc (reverse rides) (before ∷ []) (r ∷ rest))
-        in
-        subst (λ rs. IsJourney nw st q rs arrives) same (way-back rides before (r ∷ rest) arrives last.0 way.1 (possible.0, last.1, goes))
+        rw (reverse_onto rides before [], append_assoc (reverse rides) (before ∷ []) (r ∷ rest)) (way-back rides before (r ∷ rest) arrives last.0 way.1 (possible.0, last.1, goes))
 
   module _ (valid : IsValid nw st) where
+    -- the ride before one that can be boarded can be taken, and departs earlier
+    pub boards-earlier : (access : ℕ → Option Access) → AreExplained nw st q access → (r before : PlanRide) → CanBoard access r → ride_before access r ≡ Some before → IsRide nw st before × CanBoard access before × (before.board_time < r.board_time)
+    boards-earlier access explained r before can at =
+        let last = boards-after access explained r before can at in
+        let ride = ride-forward nw st valid before last.0.0 in
+        let later = in_time-later nw valid.options before.alight_stop before.alight_time r.board_stop r.board_time last.1 in
+        (last.0.0, last.0.1, omega arith)
+
     goes-later : (a t : ℕ) (rs : List PlanRide) (to arrives : ℕ) → GoesOn nw st a t rs to arrives → t ≤ arrives
     goes-later a t [] to arrives h = let same = h.1 in omega arith
     goes-later a t (r ∷ rs) to arrives h =
@@ -120,7 +125,7 @@ module _ (nw : Network) (st : State) (q : Query) where
           let best = ended.best_there in
           let goes : GoesOn nw st r.alight_stop r.alight_time [] q.to_stop r.alight_time = (best.1, refl) in
           record {
-            journey = subst (λ rs. IsJourney nw st q rs r.alight_time) (sym (reverse_onto rides r [])) (way-back access ended.explained rides r [] r.alight_time best.0 way goes);
+            journey = rw (reverse_onto rides r []) (way-back access ended.explained rides r [] r.alight_time best.0 way goes);
             least = least;
           }
         where

@@ -1,5 +1,5 @@
 -- The calls of a train by their labels, and when their events take place.
-use Rattle.std.proofs.Common.{◌≡◌, ℕ, Bool, true, false, cond, List, [], ◌∷◌, ◌++◌, Option, Some, None, is_some, slice_get, find, refl, sym, ◌∙◌, ap, subst, inl, inr, All}
+use Rattle.std.proofs.Common.{◌≡◌, ℕ, Bool, true, false, cond, List, [], ◌∷◌, ◌++◌, Option, Some, None, is_some, slice_get, find, refl, sym, ◌∙◌, ap, subst, inl, inr, All, arith}
 use Rattle.std.specs.Option.{option_map, option_map_or}
 use Rattle.std.proofs.lemmas.Bool.{cases_Bool, cond-true, cond-false}
 use Rattle.std.proofs.lemmas.List.{append_assoc}
@@ -15,13 +15,13 @@ use Rattle.delay_model.specs.Cuts.{after}
 use Rattle.delay_model.specs.Effect.{is_call}
 use Rattle.delay_model.specs.Events.{calls_of, event_by, event_named, is_live}
 use Rattle.delay_model.specs.Timing.{event_time}
-use Rattle.delay_model.specs.Valid.{HasDistinctLabels, IsTrain, IsValid}
+use Rattle.delay_model.specs.Valid.{HasDistinctLabels, IsRun, IsTrain, IsValid}
 use Rattle.train_nodes.specs.Calls.{call_named, has_call, label_after, values_of}
 use Rattle.train_nodes.proofs.EventLemmas.{event-named, live-named}
 use Rattle.timetable.specs.LiveTimes.{live_time}
 use Rattle.timetable.proofs.Named.{event-found, live-event, live_time-none}
 use Rattle.conn_scan.specs.Calls.{arrival_at, calls_after, first_arrival}
-use Rattle.conn_scan.proofs.RideLemmas.{find-labelled, after-labelled, is-at}
+use Rattle.conn_scan.proofs.RideLemmas.{is-at, labelled}
 
 -- the call after one with a label is found by its own label, and what stands after it too
 pub next-call : (cs : List Call) → HasDistinctLabels cs → (label : ℕ) (c : Call) → find (is_call label) cs ≡ Some c → (d : Call) (ds : List Call) → after (is_call label) cs ≡ d ∷ ds → (find (is_call d.label) cs ≡ Some d) × (after (is_call d.label) cs ≡ ds)
@@ -30,17 +30,25 @@ next-call cs distinct label c found d ds rest =
     let before = at.earlier ++ c ∷ [] in
     let whole = at.split ∙ ap (λ es. at.earlier ++ c ∷ es) rest ∙ sym (append_assoc at.earlier (c ∷ []) (d ∷ ds)) in
     let apart = subst HasDistinctLabels whole distinct in
-    (subst (λ cs. find (is_call d.label) cs ≡ Some d) (sym whole) (find-labelled before d ds apart), subst (λ cs. after (is_call d.label) cs ≡ ds) (sym whole) (after-labelled before d ds apart))
+    rw whole (labelled before d ds apart)
 
 module _ (st : State) (trains : All IsTrain st.trains) (train : ℕ) where
-  labels-of : (o : Option Train) → slice_get st.trains train ≡ o → HasDistinctLabels (option_map_or (λ (t : Train). t.calls) o [])
-  labels-of None there = tt
-  labels-of (Some t) there =
+  laws-of : (o : Option Train) → slice_get st.trains train ≡ o → HasDistinctLabels (option_map_or (λ (t : Train). t.calls) o []) × IsRun false (option_map_or (λ (t : Train). t.calls) o [])
+  laws-of None there = (tt, refl)
+  laws-of (Some t) there =
       let good : IsTrain t = subst IsTrain (get_or_from_slice_get st.trains train t t there) (All-get_or IsTrain st.trains train t (slice_get_within st.trains train t there) trains) in
-      good.labels
+      (good.labels, good.run)
 
   pub calls-distinct : HasDistinctLabels (calls_of st train)
-  calls-distinct = labels-of (slice_get st.trains train) refl
+  calls-distinct = (laws-of (slice_get st.trains train) refl).0
+
+  pub calls-run : IsRun false (calls_of st train)
+  calls-run = (laws-of (slice_get st.trains train) refl).1
+
+-- a train runs after a call as it departs there
+pub run-rest : (before : List Call) (live : Bool) (c : Call) (rest : List Call) → IsRun live (before ++ c ∷ rest) → IsRun c.departure.live rest
+run-rest [] live c rest run = run.1
+run-rest (b ∷ before) live c rest run = run-rest before b.departure.live c rest run.1
 
 pub route-of : (o : Option Train) (label : ℕ) (c : Call) → find (is_call label) (option_map_or (λ (t : Train). t.calls) o []) ≡ Some c → (route : ℕ) × (option_map (λ (t : Train). t.route) o ≡ Some route)
 route-of None label c found = absurd (none-some c found)
@@ -87,44 +95,22 @@ next-of st train label next distinct (Some c) named there (d ∷ ds) split first
       onward = subst (λ l. calls_after st train l ≡ ds) same by.1;
     }
 
-no-next : (cs : List Call) → option_map (λ (c : Call). c.label) (slice_get cs 0) ≡ None → cs ≡ []
-no-next [] h = refl
-no-next (c ∷ cs) h = absurd (cc)
-
 module _ (nw : Network) (st : State) (valid : IsValid nw st) (train label : ℕ) (there : has_call st train label ≡ true) where
   pub next-named : (next : ℕ) → label_after (calls_of st train) label ≡ Some next → IsNextCall st train label next
   next-named next after = next-of st train label next (calls-distinct st valid.trains train) (call_named st train label) refl there (calls_after st train label) refl after
 
-  pub arrival-past : label_after (calls_of st train) label ≡ None → first_arrival nw st train (calls_after st train label) ≡ None
-  arrival-past after = ap (first_arrival nw st train) (no-next (calls_after st train label) after)
-
   module _ (next : ℕ) (is : IsNextCall st train label next) where
-    head : first_arrival nw st train (calls_after st train label) ≡ cond is.call.arrival.live (Some (arrival_at nw st train is.call)) None
-    head = ap (first_arrival nw st train) is.split
-
     its-time : live_time nw st (record { train = train; label = next; dep = false }) ≡ cond is.call.arrival.live (Some (arrival_at nw st train is.call).time) None
     its-time = time-of_call nw st valid (record { train = train; label = next; dep = false }) is.call is.found
 
     -- where the arrival has no time there is none
     pub arrival-dead : live_time nw st (record { train = train; label = next; dep = false }) ≡ None → first_arrival nw st train (calls_after st train label) ≡ None
-    arrival-dead dead =
-        let a = arrival_at nw st train is.call in
-        elim (cases_Bool is.call.arrival.live) [
-          | inl live ↦ absurd (none-some a.time (sym dead ∙ its-time ∙ cond-true is.call.arrival.live (Some a.time) None live))
-          | inr other ↦ head ∙ cond-false is.call.arrival.live (Some a) None other
-        ]
+    arrival-dead dead = rw is.split (grind (arith, its-time, dead))
 
     pub arrival-live : (time stop : ℕ) (alights goes_on : Bool) → live_time nw st (record { train = train; label = next; dep = false }) ≡ Some time → option_map (λ (c : Call). c.stop) (call_named st train next) ≡ Some stop → option_map (λ (c : Call). c.alight) (call_named st train next) ≡ Some alights → goes_on ≡ is_live st (record { train = train; label = next; dep = true }) → Some (record { label = next; stop = stop; time = time; alights = alights; goes_on = goes_on }) ≡ first_arrival nw st train (calls_after st train label)
     arrival-live time stop alights goes_on live at may on =
-        let d = is.call in
-        let a = arrival_at nw st train d in
-        let stops : d.stop ≡ stop = same_Some d.stop stop (sym (ap (option_map (λ (c : Call). c.stop)) is.found) ∙ at) in
-        let lets : d.alight ≡ alights = same_Some d.alight alights (sym (ap (option_map (λ (c : Call). c.alight)) is.found) ∙ may) in
-        let leaves : d.departure.live ≡ goes_on = sym (on ∙ live-named st (record { train = train; label = next; dep = true }) (calls-distinct st valid.trains train) ∙ ap (λ o. option_map_or (λ (c : Call). c.departure.live) o false) is.found) in
-        elim (cases_Bool d.arrival.live) [
-          | inr other ↦ absurd (none-some time (sym (its-time ∙ cond-false d.arrival.live (Some a.time) None other) ∙ live))
-          | inl lives ↦
-              let times : a.time ≡ time = same_Some a.time time (sym (its-time ∙ cond-true d.arrival.live (Some a.time) None lives) ∙ live) in
-              let same : a ≡ record { label = next; stop = stop; time = time; alights = alights; goes_on = goes_on } = λ i. record { label = is.named i; stop = stops i; time = times i; alights = lets i; goes_on = leaves i } in
-              sym (head ∙ cond-true d.arrival.live (Some a) None lives ∙ ap Some same)
-        ]
+        let stops = rw is.found at at in
+        let lets = rw is.found at may in
+        let leaves = rw is.found at (on ∙ live-named st (record { train = train; label = next; dep = true }) (calls-distinct st valid.trains train)) in
+        let named = is.named in
+        rw is.split (grind (arith, its-time, live, stops, lets, leaves, named))

@@ -2,7 +2,7 @@
 use Rattle.std.proofs.Common.{◌≡◌, ℕ, ◌≤◌, true, List, [], ◌∷◌, ◌++◌, Option, map, refl, sym, ◌∙◌, ap, subst, arith, inl, inr}
 use Rattle.std.specs.List.{All, AllPairs, Contains}
 use Rattle.std.proofs.lemmas.List.{get_or-map, length-map}
-use Rattle.std.proofs.lemmas.List.Elements.{All-cons, All-contains, All-head, All-map, All-nil, All-tail, All-weaker, Contains-append_cases, Contains-append_right}
+use Rattle.std.proofs.lemmas.List.Elements.{All-cons, All-contains, All-map, All-nil, All-weaker, Contains-append_cases, Contains-append_right}
 use Rattle.mt_base.specs.declared.keys.Key.{Key}
 use Rattle.mt_base.specs.declared.plans.PlanRide.{PlanRide}
 use Rattle.delay_model.specs.declared.network.Network.{Network}
@@ -13,6 +13,7 @@ use Rattle.delay_model.specs.Timing.{event_time}
 use Rattle.delay_model.proofs.Ends.{IsLiveAt}
 use Rattle.delay_model.proofs.Lists.{AllPairs-after, AllPairs-tail}
 use Rattle.conn_scan.specs.Scan.{IsThereBy}
+use Rattle.conn_scan.proofs.Forward.{All-left}
 use Rattle.conn_scan.proofs.Scanning.{IsNext}
 
 module _ {X : Type 0} (key : X → Key) (time : X → ℕ) where
@@ -36,13 +37,6 @@ module _ {X : Type 0} (key : X → Key) (time : X → ℕ) where
       (All-contains (λ x. time e ≤ time x) (done ++ d ∷ rest) d later (Contains-append_right done (d ∷ rest) d (0, omega arith, refl)))
       (before-pairs done d rest (AllPairs-tail (λ d e. time d ≤ time e) e (done ++ d ∷ rest) order))
 
-  All-left : (P : X → Type 0) (xs ys : List X) → All P (xs ++ ys) → All P xs
-  All-left P [] ys h = All-nil P
-  All-left P (x ∷ xs) ys h = All-cons P x xs (All-head P x (xs ++ ys) h) (All-left P xs ys (All-tail P x (xs ++ ys) h))
-
-  both-hold : (P Q : X → Type 0) (xs : List X) → All P xs → All Q xs → All (λ x. P x × Q x) xs
-  both-hold P Q xs h k = λ i d l. (h i d l, k i d l)
-
   module _ (nw : Network) (st : State) (begin : ℕ) (ds : List X) (departures : AreDepartures nw st begin ds) where
     -- the next one of the list, with its event
     pub list-next : (done : List X) (d : X) (rest : List X) → ds ≡ done ++ d ∷ rest → (v : Event) × IsNext nw st (map key done) v × (v.key ≡ key d) × (time d ≡ event_time nw st v.key)
@@ -53,15 +47,13 @@ module _ {X : Type 0} (key : X → Key) (time : X → ℕ) where
         let named = here.live.2 in
         let at : time d ≡ event_time nw st v.key = here.at ∙ ap (event_time nw st) (sym named) in
         let P : Key → Type 0 = λ k. IsLiveAt (events st) k × (event_time nw st k ≤ event_time nw st v.key) in
-        let ordered =
-        both-hold (IsKnown nw st) (λ e. time e ≤ time d) done (All-left (IsKnown nw st) done (d ∷ rest) known)
-        (before-pairs done d rest (subst (AllPairs (λ d e. time d ≤ time e)) split departures.order))
-        in (
+        let are = All-left (IsKnown nw st) done (d ∷ rest) known in
+        let rise = before-pairs done d rest (subst (AllPairs (λ d e. time d ≤ time e)) split departures.order) in (
           v,
           record {
             there = here.live.1;
             departs = ap (λ (k : Key). k.dep) named ∙ here.departs;
-            order = All-map P key done (All-weaker (λ e. IsKnown nw st e × (time e ≤ time d)) (λ e. P (key e)) (λ e h. let before = h.1 in let its = h.0.at in (h.0.live, omega arith)) done ordered);
+            order = All-map P key done (λ i e l. let before = rise i e l in let its = (are i e l).at in ((are i e l).live, omega arith));
           },
           named,
           at,

@@ -1,10 +1,10 @@
 -- Rides run forward, and a change takes a second at least.
 use Rattle.std.proofs.Common.{◌≡◌, ℕ, zero, suc, ◌+◌, ◌≤◌, ◌<◌, max, true, cond, ◌&&◌, nat_eq, List, [], ◌∷◌, ◌++◌, Option, Some, None, slice_get, refl, ◌∙◌, ap, subst, arith}
 use Rattle.std.specs.Option.{IfSome, option_map_or}
-use Rattle.std.specs.List.{All, Contains}
+use Rattle.std.specs.List.{All}
 use Rattle.std.proofs.lemmas.Bool.{cond_both, cond-true, and_from}
 use Rattle.std.proofs.lemmas.Option.{same_Some, none-some, slice_get_within, get_or_from_slice_get}
-use Rattle.std.proofs.lemmas.List.Elements.{All-contains, All-contains_itself, All-head, All-tail, All-weaker, All-get_or, Contains-append_left, Contains-append_right}
+use Rattle.std.proofs.lemmas.List.Elements.{All-cons, All-contains, All-head, All-nil, All-tail, All-get_or, Contains-append_right}
 use Rattle.mt_base.specs.declared.keys.Key.{Key}
 use Rattle.mt_base.specs.declared.options.Opts.{Opts}
 use Rattle.mt_base.specs.declared.plans.PlanRide.{PlanRide}
@@ -49,15 +49,18 @@ change-least nw ranges a b w h =
 pub in_time-later : (nw : Network) → IsInRange nw.opts → (a t b s : ℕ) → IsInTime nw a t b s → t < s
 in_time-later nw ranges a t b s h = let least = change-least nw ranges a b h.0 h.1 in let by = h.2 in omega arith
 
+module _ {X : Type 0} (P : X → Type 0) where
+  pub All-right : (xs ys : List X) → All P (xs ++ ys) → All P ys
+  All-right [] ys h = h
+  All-right (x ∷ xs) ys h = All-right xs ys (All-tail P x (xs ++ ys) h)
+
+  pub All-left : (xs ys : List X) → All P (xs ++ ys) → All P xs
+  All-left [] ys h = All-nil P
+  All-left (x ∷ xs) ys h = All-cons P x xs (All-head P x (xs ++ ys) h) (All-left xs ys (All-tail P x (xs ++ ys) h))
+
 module _ (P : Edge → Type 0) (o : Opts) where
-  All-right : (xs ys : List Edge) → All P (xs ++ ys) → All P ys
-  All-right xs ys h = All-weaker (Contains ys) P (λ e there. All-contains P (xs ++ ys) e h (Contains-append_right xs ys e there)) ys (All-contains_itself ys)
-
-  All-left : (xs ys : List Edge) → All P (xs ++ ys) → All P xs
-  All-left xs ys h = All-weaker (Contains xs) P (λ e there. All-contains P (xs ++ ys) e h (Contains-append_left xs ys e there)) xs (All-contains_itself xs)
-
   along-rest : (u : Event) (vs : List Event) → All P (edges_along o (u ∷ vs)) → All P (edges_along o vs)
-  along-rest u vs h = All-right (edge_on o u vs) (edges_along o vs) h
+  along-rest u vs h = All-right P (edge_on o u vs) (edges_along o vs) h
 
   along-first : (u v : Event) (vs : List Event) → u.live ≡ true → v.live ≡ true → All P (edges_along o (u ∷ v ∷ vs)) → P (train_edge o u v)
   along-first u v vs from to h =
@@ -68,11 +71,11 @@ module _ (P : Edge → Type 0) (o : Opts) where
   train-edges : (first : ℕ) (ts : List Train) (k : ℕ) (t : Train) → slice_get ts k ≡ Some t → All P (train_edges o first ts) → (n : ℕ) → n ≡ first + k → All P (edges_along o (events_of n t))
   train-edges first [] k t there h n at = absurd (none-some t there)
   train-edges first (s ∷ ts) zero t there h n at =
-      let along = All-left (edges_along o (events_of first s)) (train_edges o (first + 1) ts) h in
+      let along = All-left P (edges_along o (events_of first s)) (train_edges o (first + 1) ts) h in
       let number : first ≡ n = omega arith in
       subst (λ m. All P (edges_along o (events_of m t))) number (subst (λ u. All P (edges_along o (events_of first u))) (same_Some s t there) along)
   train-edges first (s ∷ ts) (suc k) t there h n at =
-      train-edges (first + 1) ts k t there (All-right (edges_along o (events_of first s)) (train_edges o (first + 1) ts) h) n (omega arith)
+      train-edges (first + 1) ts k t there (All-right P (edges_along o (events_of first s)) (train_edges o (first + 1) ts) h) n (omega arith)
 
   from-departure : (train route : ℕ) (before : List Call) (c : Call) (cs : List Call) → All P (edges_along o (events_at train route (before ++ c ∷ cs))) → All P (edges_along o (departure_of train route c ∷ events_at train route cs))
   from-departure train route [] c cs h = along-rest (arrival_of train route c) (departure_of train route c ∷ events_at train route cs) h

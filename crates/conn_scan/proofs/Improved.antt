@@ -1,15 +1,10 @@
 -- One more way to a place, in a list by the numbers of the places.
-use Rattle.std.proofs.Common.{◌≡◌, ◌⊎◌, inl, inr, ℕ, ◌≤◌, ◌<◌, nat_lt, true, false, List, Option, Some, None, length, set, refl, sym, ◌∙◌, ap, subst, arith}
-use Rattle.std.specs.Option.{MatchOption, option_map_or}
+use Rattle.std.proofs.Common.{◌≡◌, ◌⊎◌, inl, inr, ℕ, ◌≤◌, ◌<◌, nat_lt, true, false, List, Option, Some, None, length, set, refl, sym, ◌∙◌, ap, arith}
+use Rattle.std.specs.Option.{option_map_or}
 use Rattle.std.proofs.lemmas.Bool.{both_ways, cases_eq, cond_both, ltb-true, ltb-false}
 use Rattle.std.proofs.lemmas.List.{get_or-set_other, get_or-set_same}
 use Rattle.std.proofs.lemmas.Option.{same_Some, none-some}
-use Rattle.mt_base.specs.declared.plans.PlanRide.{PlanRide}
-use Rattle.mt_base.specs.declared.plans.Query.{Query}
-use Rattle.delay_model.specs.declared.network.Network.{Network}
-use Rattle.delay_model.specs.declared.state.State.{State}
-use Rattle.conn_scan.specs.Reached.{Access, access_in, improved, IsReached, IsFromOrigin, IsBehind, IsPossible, AreExplained}
-use Rattle.conn_scan.specs.Scan.{IsAfterRide}
+use Rattle.conn_scan.specs.Reached.{Access, access_in, improved, IsReached}
 
 is-before : (a : Access) (o : Option Access) (e : Access) → option_map_or (λ (o : Access). nat_lt a.time o.time) o true ≡ true → o ≡ Some e → a.time ≤ e.time
 is-before a None e earlier at = absurd (none-some e at)
@@ -43,30 +38,3 @@ module _ (b : ℕ) (a : Access) (list : List (Option Access)) (within : b < leng
     | inl same ↦ inr (same, same_Some a e (sym (ap (access_in (set list b (Some a))) same ∙ at-place) ∙ at))
     | inr other ↦ inl (sym (at-other x other) ∙ at)
   ]) (λ _ at. inl at)
-
--- before anything is written nothing is new
-pub after-nothing : (nw : Network) (r : PlanRide) (old : ℕ → Option Access) → IsAfterRide nw r old old
-after-nothing nw r old = record { no_later = λ b t h. h; behind = λ b a at. inl at }
-
--- one more stop behind the ride
-pub after-improved : (nw : Network) (r : PlanRide) (old : ℕ → Option Access) (b : ℕ) (a : Access) (list : List (Option Access)) → b < length list → a.ride ≡ Some r → IsBehind nw r b a.time → IsAfterRide nw r old (access_in list) → IsAfterRide nw r old (access_in (improved b a list))
-after-improved nw r old b a list within by behind after =
-    record {
-      no_later = λ x t h. improved-kept b a list within x t (after.no_later x t h);
-      behind = λ x e at. elim (improved-from b a list within x e at) [
-        | inl before ↦ after.behind x e before
-        | inr new ↦ inr (subst (λ (e : Access). (e.ride ≡ Some r) × IsBehind nw r x e.time) new.1 (by, subst (λ y. IsBehind nw r y a.time) (sym new.0) behind))
-      ];
-    }
-
--- one more stop that is reached straight from the origin
-pub explained-improved : (nw : Network) (st : State) (q : Query) (b : ℕ) (a : Access) (list : List (Option Access)) → b < length list → a.ride ≡ None → IsFromOrigin nw q b a.time → AreExplained nw st q (access_in list) → AreExplained nw st q (access_in (improved b a list))
-explained-improved nw st q b a list within by origin explained = λ x e at. elim (improved-from b a list within x e at) [
-  | inl before ↦ still e.ride x e.time (explained x e before)
-  | inr new ↦ subst (λ (e : Access). MatchOption e.ride (IsFromOrigin nw q x e.time) (λ r. IsPossible nw st (access_in (improved b a list)) r × IsBehind nw r x e.time)) new.1
-      (subst (λ o. MatchOption o (IsFromOrigin nw q x a.time) (λ r. IsPossible nw st (access_in (improved b a list)) r × IsBehind nw r x a.time)) (sym by) (subst (λ y. IsFromOrigin nw q y a.time) (sym new.0) origin))
-]
-  where
-    still : (o : Option PlanRide) (x t : ℕ) → MatchOption o (IsFromOrigin nw q x t) (λ r. IsPossible nw st (access_in list) r × IsBehind nw r x t) → MatchOption o (IsFromOrigin nw q x t) (λ r. IsPossible nw st (access_in (improved b a list)) r × IsBehind nw r x t)
-    still None x t h = h
-    still (Some r) x t h = ((h.0.0, improved-kept b a list within r.board_stop r.board_time h.0.1), h.1)

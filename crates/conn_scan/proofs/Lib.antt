@@ -7,9 +7,11 @@ mod Scanning
 mod Onward
 mod Improved
 mod DepartureList
-mod LabelLemmas
+mod StampedLemmas
 mod LoweredLemmas
 mod CallLemmas
 mod WalkLemmas
 mod WayBack
+mod Passed
 mod ScanEnds
+mod EveryQuery

@@ -1,12 +1,11 @@
 -- What a list of changes makes of the ways to the stops.
-use Rattle.std.proofs.Common.{◌≡◌, ◌⊎◌, inl, inr, ℕ, ◌+◌, ◌≤◌, ◌<◌, true, false, List, [], ◌∷◌, Option, Some, None, length, set, refl, sym, ◌∙◌, subst, arith}
+use Rattle.std.proofs.Common.{◌≡◌, ◌⊎◌, inl, inr, ℕ, ◌+◌, ◌≤◌, ◌<◌, true, List, [], ◌∷◌, Option, Some, None, length, set, refl, sym, ◌∙◌, subst, arith}
 use Rattle.std.specs.List.{All}
-use Rattle.std.proofs.lemmas.Bool.{cases_Bool, cond-true, cond-false, cond_both}
+use Rattle.std.proofs.lemmas.Bool.{cases_Bool, cond_both}
 use Rattle.std.proofs.lemmas.List.{length-set}
 use Rattle.std.proofs.lemmas.List.Elements.{All-cons, All-head, All-nil, All-tail}
 use Rattle.mt_base.specs.declared.plans.PlanRide.{PlanRide}
 use Rattle.mt_base.specs.declared.plans.Query.{Query}
-use Rattle.change_times.specs.ChangeTables.{ChangeTables}
 use Rattle.change_times.specs.Reach.{reached}
 use Rattle.change_times.specs.declared.change.Change.{Change}
 use Rattle.delay_model.specs.declared.network.Network.{Network}
@@ -17,7 +16,7 @@ use Rattle.conn_scan.specs.Reached.{Access, access_in, improved, IsReached, IsFr
 use Rattle.conn_scan.specs.Scan.{IsAfterRide, AreReachedBehind}
 use Rattle.conn_scan.proofs.Improved.{improved-kept, improved-reached, improved-from}
 use Rattle.conn_scan.specs.Scanned.{changes_of}
-use Rattle.conn_scan.proofs.Onward.{IsOfNetwork, listed-leads, behind-reached, origin-reached, stop-within}
+use Rattle.conn_scan.proofs.Onward.{listed-leads, listed-reached, origin-reached, stop-within}
 
 -- the changes lead to places of the list
 abbrev pub AreWithin : List (Option Access) → List Change → Type 0
@@ -66,69 +65,48 @@ module _ (at : ℕ) (ride : Option PlanRide) where
         ]
       ]
 
+-- the changes of a network lead to places of a list that is long enough
+pub reached-within : (nw : Network) (a n : ℕ) → length nw.stops ≤ n → All (λ (c : Change). c.stop < n) (reached (changes_of nw) a)
+reached-within nw a n room = λ k d l. let within = stop-within nw.stops _ (listed-leads nw a 0 k d l).0 in omega arith
+
 module _ (nw : Network) (q : Query) where
   abbrev pub here : Access
   here = record { time = q.time; ride = None }
 
-  pub own-at : (list : List (Option Access)) (b : ℕ) → is_one_station nw q.from_stop b ≡ true → access_of nw q list b ≡ Some here
-  own-at list b one = cond-true (is_one_station nw q.from_stop b) (Some here) (access_in list b) one
+  of-reached : (list : List (Option Access)) (b t : ℕ) → q.time ≤ t → IsReached (access_in list) b t → IsReached (access_of nw q list) b t
+  of-reached list b t later h = elim (cases_Bool (is_one_station nw q.from_stop b)) [ inl one ↦ rw one (here, refl, later) | inr apart ↦ rw apart h ]
 
-  pub else-at : (list : List (Option Access)) (b : ℕ) → is_one_station nw q.from_stop b ≡ false → access_of nw q list b ≡ access_in list b
-  else-at list b apart = cond-false (is_one_station nw q.from_stop b) (Some here) (access_in list b) apart
+  of-kept : (old new : List (Option Access)) → ((x t : ℕ) → IsReached (access_in old) x t → IsReached (access_in new) x t) → (b t : ℕ) → IsReached (access_of nw q old) b t → IsReached (access_of nw q new) b t
+  of-kept old new kept b t h = elim (cases_Bool (is_one_station nw q.from_stop b)) [ inl one ↦ rw one (rw one at h) | inr apart ↦ rw apart (kept b t (rw apart at h)) ]
 
-  pub of-reached : (list : List (Option Access)) (b t : ℕ) → q.time ≤ t → IsReached (access_in list) b t → IsReached (access_of nw q list) b t
-  of-reached list b t later h = elim (cases_Bool (is_one_station nw q.from_stop b)) [
-    | inl one ↦ (here, own-at list b one, later)
-    | inr apart ↦ (h.0, else-at list b apart ∙ h.1, h.2)
-  ]
+  -- what a ride makes of what is known
+  pub after-ride : (r : PlanRide) (list : List (Option Access)) → length nw.stops ≤ length list → IsAfterRide nw r (access_of nw q list) (access_of nw q (lowered r.alight_time (Some r) (reached (changes_of nw) r.alight_stop) list))
+  after-ride r list room =
+      let cs = reached (changes_of nw) r.alight_stop in
+      let new = lowered r.alight_time (Some r) cs list in
+      let within : AreWithin list cs = reached-within nw r.alight_stop (length list) room in
+      record {
+        no_later = of-kept list new (lowered-kept r.alight_time (Some r) cs list within);
+        behind = λ b a at. elim (cases_Bool (is_one_station nw q.from_stop b)) [
+          | inl one ↦ inl (rw one (rw one at at))
+          | inr apart ↦ elim (lowered-from r.alight_time (Some r) (λ b s. (is_stop nw.stops b ≡ true) × IsInTime nw r.alight_stop r.alight_time b s) cs list within (listed-leads nw r.alight_stop r.alight_time) b a (rw apart at at)) [
+            | inl old ↦ inl (rw apart old)
+            | inr by ↦ inr (by.0, by.1.1)
+          ]
+        ];
+      }
 
-  pub of-kept : (old new : List (Option Access)) → ((x t : ℕ) → IsReached (access_in old) x t → IsReached (access_in new) x t) → (b t : ℕ) → IsReached (access_of nw q old) b t → IsReached (access_of nw q new) b t
-  of-kept old new kept b t h = elim (cases_Bool (is_one_station nw q.from_stop b)) [
-    | inl one ↦ (h.0, own-at new b one ∙ sym (own-at old b one) ∙ h.1, h.2)
-    | inr apart ↦ let k = kept b t (h.0, sym (else-at old b apart) ∙ h.1, h.2) in (k.0, else-at new b apart ∙ k.1, k.2)
-  ]
+  -- the stops behind it are reached
+  pub after-reaches : (r : PlanRide) (list : List (Option Access)) → length nw.stops ≤ length list → q.time ≤ r.alight_time → AreReachedBehind nw r (access_of nw q (lowered r.alight_time (Some r) (reached (changes_of nw) r.alight_stop) list))
+  after-reaches r list room later =
+      let cs = reached (changes_of nw) r.alight_stop in
+      let new = lowered r.alight_time (Some r) cs list in
+      listed-reached nw (access_of nw q new) r.alight_stop r.alight_time (λ i d l. let h = lowered-reached r.alight_time (Some r) cs list (reached-within nw r.alight_stop (length list) room) i d l in of-reached new _ _ (omega arith) h)
 
-  module _ (t : ChangeTables) (of_network : IsOfNetwork nw t) where
-    abbrev Leads : ℕ → ℕ → ℕ → ℕ → Type 0
-    Leads a at b s = (is_stop nw.stops b ≡ true) × IsInTime nw a at b s
-
-    -- what a ride makes of what is known
-    pub after-ride : (r : PlanRide) (list : List (Option Access)) → AreWithin list (reached t r.alight_stop) → IsAfterRide nw r (access_of nw q list) (access_of nw q (lowered r.alight_time (Some r) (reached t r.alight_stop) list))
-    after-ride r list within =
-        let cs = reached t r.alight_stop in
-        let new = lowered r.alight_time (Some r) cs list in
-        record {
-          no_later = of-kept list new (lowered-kept r.alight_time (Some r) cs list within);
-          behind = λ b a at. elim (cases_Bool (is_one_station nw q.from_stop b)) [
-            | inl one ↦ inl (own-at list b one ∙ sym (own-at new b one) ∙ at)
-            | inr apart ↦ elim (lowered-from r.alight_time (Some r) (Leads r.alight_stop r.alight_time) cs list within (listed-leads nw t of_network r.alight_stop r.alight_time) b a (sym (else-at new b apart) ∙ at)) [
-              | inl old ↦ inl (else-at list b apart ∙ old)
-              | inr by ↦ inr (by.0, by.1.1)
-            ]
-          ];
-        }
-
-    -- the stops behind it are reached
-    pub after-reaches : (r : PlanRide) (list : List (Option Access)) → AreWithin list (reached t r.alight_stop) → q.time ≤ r.alight_time → AreReachedBehind nw r (access_of nw q (lowered r.alight_time (Some r) (reached t r.alight_stop) list))
-    after-reaches r list within later =
-        let cs = reached t r.alight_stop in
-        let new = lowered r.alight_time (Some r) cs list in
-        behind-reached nw t of_network (access_of nw q new) r (λ i d l. let h = lowered-reached r.alight_time (Some r) cs list within i d l in of-reached new _ _ (omega arith) h)
-
-    abbrev pub first_ways : List (Option Access) → List (Option Access)
-    first_ways list = lowered q.time None (reached t q.from_stop) list
-
-    -- at first the stops are reached to which one can change from the origin
-    pub origin-known : (list : List (Option Access)) → AreWithin list (reached t q.from_stop) → (b s : ℕ) → is_stop nw.stops b ≡ true → IsFromOrigin nw q b s → IsReached (access_of nw q (first_ways list)) b s
-    origin-known list within =
-        let new = first_ways list in
-        origin-reached nw t of_network (access_of nw q new) q
-        (λ b stop one. (here, own-at new b one, omega arith))
-        (λ i d l. let h = lowered-reached q.time None (reached t q.from_stop) list within i d l in of-reached new _ _ (omega arith) h)
-
--- the changes of a network lead to places of a list that is long enough
-pub reached-within : (nw : Network) (a n : ℕ) → length nw.stops ≤ n → All (λ (c : Change). c.stop < n) (reached (changes_of nw) a)
-reached-within nw a n room = λ k d l.
-    let leads = listed-leads nw (changes_of nw) (record { stops = refl; transfers = refl; default = refl }) a 0 k d l in
-    let within = stop-within nw.stops _ leads.0 in
-    omega arith
+  -- at first the stops are reached to which one can change from the origin
+  pub origin-known : (list : List (Option Access)) → length nw.stops ≤ length list → (b s : ℕ) → is_stop nw.stops b ≡ true → IsFromOrigin nw q b s → IsReached (access_of nw q (lowered q.time None (reached (changes_of nw) q.from_stop) list)) b s
+  origin-known list room =
+      let cs = reached (changes_of nw) q.from_stop in
+      let new = lowered q.time None cs list in
+      origin-reached nw (access_of nw q new) q (λ b stop one. rw one (here, refl, omega arith))
+      (λ i d l. let h = lowered-reached q.time None cs list (reached-within nw q.from_stop (length list) room) i d l in of-reached new _ _ (omega arith) h)

@@ -2,11 +2,10 @@
 use Rattle.std.proofs.Common.{◌≡◌, ℕ, zero, suc, ◌+◌, ◌≤◌, ◌<◌, Bool, true, false, List, [], ◌∷◌, Option, Some, None, MatchBool, length, refl, sym, ◌∙◌, ap, subst, arith, inl, inr}
 use Rattle.std.specs.List.{All, Contains, cons_option, filter_map}
 use Rattle.std.specs.Option.{option_map}
-use Rattle.std.proofs.lemmas.Bool.{cases_Bool, cond-true, cond-false}
+use Rattle.std.proofs.lemmas.Bool.{cases_Bool}
 use Rattle.std.proofs.lemmas.Option.{none-some, same_Some}
 use Rattle.std.proofs.lemmas.List.Elements.{All-cons, All-contains, All-nil}
 use Rattle.std.proofs.lemmas.List.FromFn.{get_or-range_with_len, length-range_with_len}
-use Rattle.mt_base.specs.declared.plans.PlanRide.{PlanRide}
 use Rattle.mt_base.specs.declared.plans.Query.{Query}
 use Rattle.mt_base.specs.declared.tables.StopRow.{StopRow}
 use Rattle.delay_model.specs.declared.network.Network.{Network}
@@ -17,7 +16,7 @@ use Rattle.change_times.specs.ChangeTables.{ChangeTables}
 use Rattle.change_times.specs.declared.change.Change.{Change}
 use Rattle.change_times.specs.Reach.{places, change_to, reached}
 use Rattle.conn_scan.specs.Reached.{Access, IsReached, IsFromOrigin}
-use Rattle.conn_scan.specs.Scan.{AreReachedBehind}
+use Rattle.conn_scan.specs.Scanned.{changes_of}
 
 still-there : {Y : Type 0} (o : Option Y) (ys : List Y) (y : Y) → Contains ys y → Contains (cons_option o ys) y
 still-there None ys y there = there
@@ -54,64 +53,37 @@ made-change t a b c None stop at made = absurd (none-some c made)
 made-change t a b c (Some s) stop at made = subst (IsChange t a) (same_Some (record { stop = b; seconds = s }) c made) (record { stop = stop; change = at })
 
 is-change : (t : ChangeTables) (a b : ℕ) (c : Change) → change_to t a b ≡ Some c → IsChange t a c
-is-change t a b c made =
-    let o = change t.stops t.transfers t.default a b in
-    let by : Option Change = option_map (λ s. record { stop = b; seconds = s }) o in
-    elim (cases_Bool (is_stop t.stops b)) [
-      | inl stop ↦ made-change t a b c o stop refl (sym (cond-true (is_stop t.stops b) by None stop) ∙ made)
-      | inr other ↦ absurd (none-some c (sym (cond-false (is_stop t.stops b) by None other) ∙ made))
-    ]
-
--- each entry of the list is a change to a stop
-changes-listed : (t : ChangeTables) (a : ℕ) → All (IsChange t a) (reached t a)
-unfolding reached
-changes-listed t a = filter_map-each (IsChange t a) (change_to t a) (places t) (λ b c made. is-change t a b c made)
+is-change t a b c made = elim (cases_Bool (is_stop t.stops b)) [
+  | inl stop ↦ made-change t a b c (change t.stops t.transfers t.default a b) stop refl (rw stop at made)
+  | inr other ↦ absurd (none-some c (rw other at made))
+]
 
 -- each change to a stop is in the list
 change-listed : (t : ChangeTables) (a b w : ℕ) → is_stop t.stops b ≡ true → change t.stops t.transfers t.default a b ≡ Some w → Contains (reached t a) (record { stop = b; seconds = w })
 unfolding reached
 change-listed t a b w stop at =
-    let by : Option Change = option_map (λ s. record { stop = b; seconds = s }) (change t.stops t.transfers t.default a b) in
-    let n = length t.stops in
     let within = stop-within t.stops b stop in
-    let all = length-range_with_len 0 n in
-    let here : 0 + b ≡ b = omega arith in
-    filter_map-there (change_to t a) (places t) b (record { stop = b; seconds = w }) (b, (omega arith), get_or-range_with_len 0 n b b within ∙ here)
-    (cond-true (is_stop t.stops b) by None stop ∙ ap (option_map (λ s. record { stop = b; seconds = s })) at)
+    let all = length-range_with_len 0 (length t.stops) in
+    filter_map-there (change_to t a) (places t) b (record { stop = b; seconds = w }) (b, (omega arith), get_or-range_with_len 0 (length t.stops) b b within ∙ omega arith) (rw (stop, at))
 
--- the change times are those of the network
-pub record IsOfNetwork (nw : Network) (t : ChangeTables) : Type 0 where
-  pub stops : t.stops ≡ nw.stops
-  pub transfers : t.transfers ≡ nw.transfers
-  pub default : t.default ≡ nw.opts.change
-
-module _ (nw : Network) (t : ChangeTables) (of_network : IsOfNetwork nw t) where
-  same-tables : t ≡ record { stops = nw.stops; transfers = nw.transfers; default = nw.opts.change }
-  same-tables = λ i. record { stops = of_network.stops i; transfers = of_network.transfers i; default = of_network.default i }
-
+module _ (nw : Network) where
   -- each entry of the list of changes leads to a stop in its seconds
-  pub listed-leads : (a at : ℕ) → All (λ (c : Change). (is_stop nw.stops c.stop ≡ true) × IsInTime nw a at c.stop (at + c.seconds)) (reached t a)
+  pub listed-leads : (a at : ℕ) → All (λ (c : Change). (is_stop nw.stops c.stop ≡ true) × IsInTime nw a at c.stop (at + c.seconds)) (reached (changes_of nw) a)
+  unfolding reached
   listed-leads a at =
-      let u : ChangeTables = record { stops = nw.stops; transfers = nw.transfers; default = nw.opts.change } in
-      let P : Change → Type 0 = λ c. (is_stop nw.stops c.stop ≡ true) × IsInTime nw a at c.stop (at + c.seconds) in
-      subst (λ t. All P (reached t a)) (sym same-tables) (λ k d l. let is = changes-listed u a k d l in (is.stop, (_, is.change, (omega arith))))
+      filter_map-each (λ (c : Change). (is_stop nw.stops c.stop ≡ true) × IsInTime nw a at c.stop (at + c.seconds)) (change_to (changes_of nw) a) (places (changes_of nw))
+      (λ b c made. let is = is-change (changes_of nw) a b c made in (is.stop, (c.seconds, is.change, (omega arith))))
 
   -- where each stop of the list is reached with its seconds, all stops are to which one can change
-  pub listed-reached : (access : ℕ → Option Access) (a at : ℕ) → All (λ (c : Change). IsReached access c.stop (at + c.seconds)) (reached t a) → (b s : ℕ) → is_stop nw.stops b ≡ true → IsInTime nw a at b s → IsReached access b s
+  pub listed-reached : (access : ℕ → Option Access) (a at : ℕ) → All (λ (c : Change). IsReached access c.stop (at + c.seconds)) (reached (changes_of nw) a) → (b s : ℕ) → is_stop nw.stops b ≡ true → IsInTime nw a at b s → IsReached access b s
   listed-reached access a at all b s stop by =
-      let u : ChangeTables = record { stops = nw.stops; transfers = nw.transfers; default = nw.opts.change } in
-      let P : Change → Type 0 = λ c. IsReached access c.stop (at + c.seconds) in
-      let there = All-contains P (reached u a) (record { stop = b; seconds = by.0 }) (subst (λ t. All P (reached t a)) same-tables all) (change-listed u a b by.0 stop by.1) in
+      let there = All-contains (λ (c : Change). IsReached access c.stop (at + c.seconds)) (reached (changes_of nw) a) (record { stop = b; seconds = by.0 }) all (change-listed (changes_of nw) a b by.0 stop by.1) in
       let le = there.2 in
       let until = by.2 in
       (there.0, there.1, omega arith)
 
-  -- so behind a ride
-  pub behind-reached : (access : ℕ → Option Access) (r : PlanRide) → All (λ (c : Change). IsReached access c.stop (r.alight_time + c.seconds)) (reached t r.alight_stop) → AreReachedBehind nw r access
-  behind-reached access r all = listed-reached access r.alight_stop r.alight_time all
-
-  -- and straight from the origin, with the stops of its own station at the query's time
-  pub origin-reached : (access : ℕ → Option Access) (q : Query) → ((b : ℕ) → is_stop nw.stops b ≡ true → is_one_station nw q.from_stop b ≡ true → IsReached access b q.time) → All (λ (c : Change). IsReached access c.stop (q.time + c.seconds)) (reached t q.from_stop) → (b s : ℕ) → is_stop nw.stops b ≡ true → IsFromOrigin nw q b s → IsReached access b s
+  -- so it is straight from the origin, with the stops of its own station at the query's time
+  pub origin-reached : (access : ℕ → Option Access) (q : Query) → ((b : ℕ) → is_stop nw.stops b ≡ true → is_one_station nw q.from_stop b ≡ true → IsReached access b q.time) → All (λ (c : Change). IsReached access c.stop (q.time + c.seconds)) (reached (changes_of nw) q.from_stop) → (b s : ℕ) → is_stop nw.stops b ≡ true → IsFromOrigin nw q b s → IsReached access b s
   origin-reached access q own all b s stop from = by (is_one_station nw q.from_stop b) refl from
     where
       by : (x : Bool) → is_one_station nw q.from_stop b ≡ x → MatchBool x (q.time ≤ s) (IsInTime nw q.from_stop q.time b s) → IsReached access b s

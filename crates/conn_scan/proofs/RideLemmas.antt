@@ -1,10 +1,10 @@
 -- The rides that are listed for a departure are those that begin with it.
-use Rattle.std.proofs.Common.{◌≡◌, ◌≢◌, inl, inr, ℕ, true, cond, ◌&&◌, nat_eq, List, [], ◌∷◌, ◌++◌, Option, Some, None, slice_get, find, refl, sym, ◌∙◌, ap, subst, arith}
+use Rattle.std.proofs.Common.{◌≡◌, ◌≢◌, inl, inr, ℕ, true, cond, ◌&&◌, List, [], ◌∷◌, ◌++◌, Option, Some, None, slice_get, find, refl, sym, ◌∙◌, ap, subst, arith}
 use Rattle.std.specs.List.{All, Contains}
 use Rattle.std.specs.Option.{option_map_or}
-use Rattle.std.proofs.lemmas.Bool.{cases_Bool, cond_both, cond-true, cond-false, and_parts, and_from, eqb-true, eq-eqb, ne_eqb}
+use Rattle.std.proofs.lemmas.Bool.{cases_Bool, cond_both, and_parts, eqb-true, eq-eqb, ne_eqb}
 use Rattle.std.proofs.lemmas.List.{append_assoc}
-use Rattle.std.proofs.lemmas.Option.{same_Some, none-some, slice_get_within, get_or_from_slice_get}
+use Rattle.std.proofs.lemmas.Option.{none-some, slice_get_within, get_or_from_slice_get}
 use Rattle.std.proofs.lemmas.List.Elements.{All-append, All-cons, All-nil, All-head, All-tail, All-push, All-contains, All-get_or, Contains-append_right}
 use Rattle.mt_base.specs.declared.keys.Node.{Node}
 use Rattle.mt_base.specs.declared.plans.PlanRide.{PlanRide}
@@ -19,17 +19,12 @@ use Rattle.delay_model.specs.Valid.{HasDistinctLabels, IsTrain, IsValid}
 use Rattle.conn_scan.specs.Rides.{departure_of_ride, BeginsWith, ride_between, rides_along, rides_at, rides_from}
 
 -- a call is found by its label where no two have one label, and what stands after it too
-pub find-labelled : (before : List Call) (c : Call) (cs : List Call) → HasDistinctLabels (before ++ c ∷ cs) → find (is_call c.label) (before ++ c ∷ cs) ≡ Some c
-find-labelled [] c cs distinct = cond-true (nat_eq c.label c.label) (Some c) (find (is_call c.label) cs) (eq-eqb c.label c.label refl)
-find-labelled (b ∷ before) c cs distinct =
-    let other : b.label ≢ c.label = All-contains (λ (d : Call). b.label ≢ d.label) (before ++ c ∷ cs) c distinct.0 (Contains-append_right before (c ∷ cs) c (0, omega arith, refl)) in
-    cond-false (nat_eq b.label c.label) (Some b) (find (is_call c.label) (before ++ c ∷ cs)) (ne_eqb b.label c.label other) ∙ find-labelled before c cs distinct.1
-
-pub after-labelled : (before : List Call) (c : Call) (cs : List Call) → HasDistinctLabels (before ++ c ∷ cs) → after (is_call c.label) (before ++ c ∷ cs) ≡ cs
-after-labelled [] c cs distinct = cond-true (nat_eq c.label c.label) cs (after (is_call c.label) cs) (eq-eqb c.label c.label refl)
-after-labelled (b ∷ before) c cs distinct =
-    let other : b.label ≢ c.label = All-contains (λ (d : Call). b.label ≢ d.label) (before ++ c ∷ cs) c distinct.0 (Contains-append_right before (c ∷ cs) c (0, omega arith, refl)) in
-    cond-false (nat_eq b.label c.label) (before ++ c ∷ cs) (after (is_call c.label) (before ++ c ∷ cs)) (ne_eqb b.label c.label other) ∙ after-labelled before c cs distinct.1
+pub labelled : (before : List Call) (c : Call) (cs : List Call) → HasDistinctLabels (before ++ c ∷ cs) → (find (is_call c.label) (before ++ c ∷ cs) ≡ Some c) × (after (is_call c.label) (before ++ c ∷ cs) ≡ cs)
+labelled [] c cs distinct = let own = eq-eqb c.label c.label refl in (rw own, rw own)
+labelled (b ∷ before) c cs distinct =
+    let apart = ne_eqb b.label c.label (All-contains (λ (d : Call). b.label ≢ d.label) (before ++ c ∷ cs) c distinct.0 (Contains-append_right before (c ∷ cs) c (0, omega arith, refl))) in
+    let rest = labelled before c cs distinct.1 in
+    (rw apart rest.0, rw apart rest.1)
 
 -- what is found by a label stands before what is after it
 pub record IsAt (label : ℕ) (cs : List Call) (c : Call) : Type 0 where
@@ -39,24 +34,10 @@ pub record IsAt (label : ℕ) (cs : List Call) (c : Call) : Type 0 where
 
 pub is-at : (label : ℕ) (cs : List Call) (c : Call) → find (is_call label) cs ≡ Some c → IsAt label cs c
 is-at label [] c found = absurd (none-some c found)
-is-at label (d ∷ ds) c found =
-    let rest = after (is_call label) ds in
-    elim (cases_Bool (is_call label d)) [
-      | inl here ↦
-          let same = same_Some d c (sym (cond-true (is_call label d) (Some d) (find (is_call label) ds) here) ∙ found) in
-          record {
-            earlier = [];
-            split = ap (λ e. e ∷ ds) same ∙ ap (λ es. c ∷ es) (sym (cond-true (is_call label d) ds rest here));
-            named = sym (ap (λ (x : Call). x.label) same) ∙ eqb-true d.label label here;
-          }
-      | inr apart ↦
-          let at = is-at label ds c (sym (cond-false (is_call label d) (Some d) (find (is_call label) ds) apart) ∙ found) in
-          record {
-            earlier = d ∷ at.earlier;
-            split = ap (λ es. d ∷ es) (at.split ∙ ap (λ es. at.earlier ++ c ∷ es) (sym (cond-false (is_call label d) ds rest apart)));
-            named = at.named;
-          }
-    ]
+is-at label (d ∷ ds) c found = elim (cases_Bool (is_call label d)) [
+  | inl here ↦ record { earlier = []; split = grind (arith, here, found); named = grind (arith, here, found, eqb-true d.label label here) }
+  | inr apart ↦ let at = is-at label ds c (rw apart at found) in record { earlier = d ∷ at.earlier; split = rw apart (ap (λ es. d ∷ es) at.split); named = at.named }
+]
 
 module _ (nw : Network) (st : State) (train : ℕ) (t : Train) (there : slice_get st.trains train ≡ Some t) (c : Call) (n : Node) (own : record { train = train; label = c.label; dep = true } ≡ n) (departs : c.departure.live ≡ true) (boards : c.board ≡ true) where
   -- each ride that is listed is one
@@ -68,27 +49,7 @@ module _ (nw : Network) (st : State) (train : ℕ) (t : Train) (there : slice_ge
       All-append (BeginsWith nw st n) (cond d.alight (ride_between nw st train t.route c d ∷ []) []) (cond d.departure.live on [])
       (cond_both d.alight (ride_between nw st train t.route c d ∷ []) [] (All (BeginsWith nw st n)) (λ alights.
       All-cons (BeginsWith nw st n) (ride_between nw st train t.route c d) [] (record {
-        ride = record {
-          by_train = t;
-          calls_before = before;
-          boarded = c;
-          calls_between = between;
-          alighted = d;
-          calls_after = ds;
-          is_train = there;
-          are_calls = split;
-          board_label = refl;
-          board_stop = refl;
-          board_time = refl;
-          alight_label = refl;
-          alight_stop = refl;
-          alight_time = refl;
-          departs = departs;
-          passes = passes;
-          arrives = arrives;
-          may_board = boards;
-          may_alight = alights;
-        };
+        ride = record { by_train = t; calls_before = before; boarded = c; calls_between = between; alighted = d; calls_after = ds; is_train = there; are_calls = split; board_label = refl; board_stop = refl; board_time = refl; alight_label = refl; alight_stop = refl; alight_time = refl; departs = departs; passes = passes; arrives = arrives; may_board = boards; may_alight = alights };
         departure = own;
       }) (All-nil (BeginsWith nw st n))) (λ _. All-nil (BeginsWith nw st n)))
       (cond_both d.departure.live on [] (All (BeginsWith nw st n)) (λ goes_on.
@@ -97,32 +58,16 @@ module _ (nw : Network) (st : State) (train : ℕ) (t : Train) (there : slice_ge
 
 -- each ride along these calls is listed
 along-lists : (nw : Network) (st : State) (train route : ℕ) (c : Call) (between : List Call) (d : Call) (ds : List Call) → All StopsAndGoesOn between → d.arrival.live ≡ true → d.alight ≡ true → Contains (rides_along nw st train route c (between ++ d ∷ ds)) (ride_between nw st train route c d)
-along-lists nw st train route c [] d ds passes arrives alights =
-    let r = ride_between nw st train route c d in
-    let on = cond d.departure.live (rides_along nw st train route c ds) [] in
-    let P : List PlanRide → Type 0 = λ rs. Contains rs r in
-    subst P (sym (cond-true d.arrival.live (cond d.alight (r ∷ []) [] ++ on) [] arrives))
-    (subst (λ rs. Contains (rs ++ on) r) (sym (cond-true d.alight (r ∷ []) [] alights)) (0, omega arith, refl))
+along-lists nw st train route c [] d ds passes arrives alights = rw (arrives, alights) (0, omega arith, refl)
 along-lists nw st train route c (e ∷ between) d ds passes arrives alights =
     let r = ride_between nw st train route c d in
-    let rest = rides_along nw st train route c (between ++ d ∷ ds) in
-    let here = cond e.alight (ride_between nw st train route c e ∷ []) [] in
-    let P : List PlanRide → Type 0 = λ rs. Contains rs r in
     let lives = All-head StopsAndGoesOn e between passes in
-    let later = along-lists nw st train route c between d ds (All-tail StopsAndGoesOn e between passes) arrives alights in
-    subst P (sym (cond-true e.arrival.live (here ++ cond e.departure.live rest []) [] lives.0))
-    (Contains-append_right here (cond e.departure.live rest []) r (subst P (sym (cond-true e.departure.live rest [] lives.1)) later))
+    rw (lives.0, lives.1) (Contains-append_right _ _ r (along-lists nw st train route c between d ds (All-tail StopsAndGoesOn e between passes) arrives alights))
 
 at-lists : (nw : Network) (st : State) (train route : ℕ) (before : List Call) (c : Call) (between : List Call) (d : Call) (ds : List Call) → HasDistinctLabels (before ++ c ∷ (between ++ d ∷ ds)) → c.departure.live ≡ true → c.board ≡ true → All StopsAndGoesOn between → d.arrival.live ≡ true → d.alight ≡ true → Contains (rides_at nw st train route c.label (before ++ c ∷ (between ++ d ∷ ds))) (ride_between nw st train route c d)
 at-lists nw st train route before c between d ds distinct departs boards passes arrives alights =
-    let r = ride_between nw st train route c d in
-    let rest = between ++ d ∷ ds in
-    let cs = before ++ c ∷ rest in
-    let begin : List Call → Call → List PlanRide = λ es b. cond (b.departure.live && b.board) (rides_along nw st train route b es) [] in
-    let found = find-labelled before c rest distinct in
-    let there = subst (λ rs. Contains rs r) (sym (cond-true (c.departure.live && c.board) (rides_along nw st train route c rest) [] (and_from _ _ departs boards))) (along-lists nw st train route c between d ds passes arrives alights) in
-    subst (λ o. Contains (option_map_or (begin (after (is_call c.label) cs)) o []) r) (sym found)
-    (subst (λ es. Contains (begin es c) r) (sym (after-labelled before c rest distinct)) there)
+    let at = labelled before c (between ++ d ∷ ds) distinct in
+    rw (at.0, at.1, departs, boards) (along-lists nw st train route c between d ds passes arrives alights)
 
 module _ (nw : Network) (st : State) where
   at-rides : (n : Node) (t : Train) → n.dep ≡ true → slice_get st.trains n.train ≡ Some t → (o : Option Call) → find (is_call n.label) t.calls ≡ o → All (BeginsWith nw st n) (option_map_or (λ (c : Call). cond (c.departure.live && c.board) (rides_along nw st n.train t.route c (after (is_call n.label) t.calls)) []) o [])
@@ -156,18 +101,5 @@ module _ (nw : Network) (st : State) where
       let distinct = subst HasDistinctLabels ride.are_calls good.labels in
       let there = at-lists nw st r.train t.route ride.calls_before c ride.calls_between ride.alighted ride.calls_after distinct ride.departs ride.may_board ride.passes ride.arrives ride.may_alight in
       let made = ride_between nw st r.train t.route c ride.alighted in
-      let same : made ≡ r =
-      λ i. record {
-        train = r.train;
-        board = sym ride.board_label i;
-        board_stop = sym ride.board_stop i;
-        board_time = sym ride.board_time i;
-        alight = sym ride.alight_label i;
-        alight_stop = sym ride.alight_stop i;
-        alight_time = sym ride.alight_time i;
-      }
-      in
-      let by_label = subst (λ l. Contains (rides_at nw st r.train t.route l (ride.calls_before ++ c ∷ rest)) made) (sym ride.board_label) there in
-      let by_calls = subst (λ cs. Contains (rides_at nw st r.train t.route r.board cs) made) (sym ride.are_calls) by_label in
-      subst (Contains (rides_from nw st (departure_of_ride r))) same
-      (subst (λ o. Contains (option_map_or (λ (t : Train). rides_at nw st r.train t.route r.board t.calls) o []) made) (sym ride.is_train) by_calls)
+      let same : made ≡ r = λ i. record { train = r.train; board = sym ride.board_label i; board_stop = sym ride.board_stop i; board_time = sym ride.board_time i; alight = sym ride.alight_label i; alight_stop = sym ride.alight_stop i; alight_time = sym ride.alight_time i } in
+      subst (Contains (rides_from nw st (departure_of_ride r))) same (rw (ride.is_train, ride.are_calls, ride.board_label) there)

@@ -1,8 +1,8 @@
 -- What is known once the departures are scanned.
-use Rattle.std.proofs.Common.{◌≡◌, inl, inr, ℕ, ◌≤◌, nat_le, true, false, List, [], ◌∷◌, ◌++◌, Option, Some, None, MatchBool, slice_get, map, length, replicate, refl, sym, ◌∙◌, ap, subst, arith}
+use Rattle.std.proofs.Common.{◌≡◌, inl, inr, ℕ, ◌≤◌, nat_le, true, false, List, [], ◌∷◌, ◌++◌, Option, Some, None, slice_get, map, length, replicate, refl, sym, ◌∙◌, ap, subst, arith}
 use Rattle.std.specs.List.{All, Contains}
 use Rattle.std.specs.Option.{MatchOption, option_map_or}
-use Rattle.std.proofs.lemmas.Bool.{cases_Bool, cases_lt, cond-true, cond-false, leb-true, leb-false}
+use Rattle.std.proofs.lemmas.Bool.{cases_Bool, cases_lt, leb-true, leb-false}
 use Rattle.std.proofs.lemmas.List.{append_assoc, append-nil, get_or-replicate, get_or_past, length-replicate, map-append}
 use Rattle.std.proofs.lemmas.List.Elements.{All-contains, All-nil, All-weaker, Contains-append_right}
 use Rattle.std.proofs.lemmas.Option.{none-some, same_Some}
@@ -15,7 +15,7 @@ use Rattle.delay_model.specs.declared.network.Network.{Network}
 use Rattle.delay_model.specs.declared.state.Call.{Call}
 use Rattle.delay_model.specs.declared.state.Event.{Event}
 use Rattle.delay_model.specs.declared.state.State.{State}
-use Rattle.delay_model.specs.Events.{event_named}
+use Rattle.delay_model.specs.Events.{event_named, is_live}
 use Rattle.delay_model.specs.Journeys.{is_one_station, IsInTime}
 use Rattle.delay_model.specs.Timing.{event_time}
 use Rattle.delay_model.specs.Valid.{IsValid}
@@ -23,7 +23,7 @@ use Rattle.edge_rules.proofs.Neighbours.{named-there}
 use Rattle.timetable.specs.Departures.{departing, departures_from, IsDeparture}
 use Rattle.timetable.specs.declared.departure_list.Departure.{Departure}
 use Rattle.timetable.proofs.Departing.{later-in, later-each, later-not-before, later-rise, times-rise}
-use Rattle.timetable.proofs.Named.{event-found}
+use Rattle.timetable.proofs.Named.{event-found, event-live}
 use Rattle.train_nodes.specs.Calls.{call_named, has_call}
 use Rattle.train_nodes.proofs.EventLemmas.{event-named}
 use Rattle.conn_scan.specs.Lowered.{lowered, access_of}
@@ -35,13 +35,11 @@ use Rattle.conn_scan.specs.declared.known.Known.{Known}
 use Rattle.conn_scan.proofs.CallLemmas.{route-of}
 use Rattle.conn_scan.proofs.DepartureList.{list-ends, list-next, rest-late, AreDepartures, IsKnown}
 use Rattle.conn_scan.proofs.Forward.{ride-forward}
-use Rattle.conn_scan.proofs.LoweredLemmas.{after-reaches, after-ride, else-at, here, length-lowered, lowered-from, origin-known, own-at, reached-within, AreWithin}
-use Rattle.conn_scan.proofs.Onward.{listed-leads, IsOfNetwork}
+use Rattle.conn_scan.proofs.LoweredLemmas.{after-reaches, after-ride, here, length-lowered, lowered-from, origin-known, reached-within, AreWithin}
+use Rattle.conn_scan.proofs.Onward.{listed-leads}
+use Rattle.conn_scan.proofs.Passed.{length-departed}
 use Rattle.conn_scan.proofs.Scanning.{begins-at, scan-departs, scan-ends, scan-passes, scan-starts, scan-takes_next, IsNext}
 use Rattle.conn_scan.proofs.WalkLemmas.{named-of}
-
-of-itself : (nw : Network) → IsOfNetwork nw (changes_of nw)
-of-itself nw = record { stops = refl; transfers = refl; default = refl }
 
 -- the call of an event is there, and its stop is the event's
 call-there : (st : State) (v : Event) → event_named st (node_of v.key) ≡ Some v → (has_call st v.key.train v.key.label ≡ true) × (stop_of st v.key ≡ v.stop)
@@ -77,74 +75,49 @@ module _ (nw : Network) (st : State) (q : Query) (valid : IsValid nw st) where
       let cs = reached (changes_of nw) q.from_stop in
       let old : List (Option Access) = replicate n None in
       let new = lowered q.time None cs old in
-      let within : AreWithin old cs = reached-within nw q.from_stop (length old) (subst (λ m. length nw.stops ≤ m) (sym (length-replicate n None)) room) in
-      let P : Option PlanRide → Type 0 = λ o. MatchOption o (IsFromOrigin nw q b a.time) (λ r. IsPossible nw st (access_of nw q new) r × IsBehind nw r b a.time) in
+      let size = length-replicate {A = Option Access} n None in
+      let within : AreWithin old cs = reached-within nw q.from_stop (length old) (omega arith) in
+      let P : Access → Type 0 = λ a. MatchOption a.ride (IsFromOrigin nw q b a.time) (λ r. IsPossible nw st (access_of nw q new) r × IsBehind nw r b a.time) in
       elim (cases_Bool (is_one_station nw q.from_stop b)) [
-        | inl one ↦
-            let same : here nw q ≡ a = same_Some (here nw q) a (sym (own-at nw q new b one) ∙ at) in
-            subst (λ (a : Access). MatchOption a.ride (IsFromOrigin nw q b a.time) (λ r. IsPossible nw st (access_of nw q new) r × IsBehind nw r b a.time)) same
-            (subst (λ x. MatchBool x (q.time ≤ q.time) (IsInTime nw q.from_stop q.time b q.time)) (sym one) (omega arith))
-        | inr apart ↦ elim (lowered-from q.time None (λ b s. IsInTime nw q.from_stop q.time b s) cs old within (λ k d l. (listed-leads nw (changes_of nw) (of-itself nw) q.from_stop q.time k d l).1) b a (sym (else-at nw q new b apart) ∙ at)) [
+        | inl one ↦ subst P (same_Some (here nw q) a (rw one at at)) (rw one (omega arith))
+        | inr apart ↦ elim (lowered-from q.time None (λ b s. IsInTime nw q.from_stop q.time b s) cs old within (λ k d l. (listed-leads nw q.from_stop q.time k d l).1) b a (rw apart at at)) [
           | inl before ↦ absurd (nothing-known n b a before)
-          | inr by ↦ subst P (sym by.0) (subst (λ x. MatchBool x (q.time ≤ a.time) (IsInTime nw q.from_stop q.time b a.time)) (sym apart) by.1)
+          | inr by ↦ rw (by.0, apart) by.1
         ]
       ]
 
   abbrev pub IsKnownScan : (PlanRide → Type 0) → Known → Type 0
-  IsKnownScan Seen k = IsScan nw st q (access_of nw q k.labels) k.best Seen
+  IsKnownScan Seen k = IsScan nw st q (access_of nw q k.accesses) k.best Seen
 
-  pub origin-scan : (n : ℕ) → length nw.stops ≤ n → IsKnownScan (IsSeen [] []) (record { labels = lowered q.time None (reached (changes_of nw) q.from_stop) (replicate n None); best = None })
+  pub origin-scan : (n : ℕ) → length nw.stops ≤ n → IsKnownScan (IsSeen [] []) (record { accesses = lowered q.time None (reached (changes_of nw) q.from_stop) (replicate n None); best = None })
   origin-scan n room =
       let old : List (Option Access) = replicate n None in
-      let within : AreWithin old (reached (changes_of nw) q.from_stop) = reached-within nw q.from_stop (length old) (subst (λ m. length nw.stops ≤ m) (sym (length-replicate n None)) room) in
-      scan-starts nw st valid q (access_of nw q (lowered q.time None (reached (changes_of nw) q.from_stop) old)) (origin-known nw q (changes_of nw) (of-itself nw) old within) (origin-explained n room)
-
-  length-took : (rs : List PlanRide) (k : Known) → length (took_all nw q rs k).labels ≡ length k.labels
-  length-took [] k = refl
-  length-took (r ∷ rs) k = length-took rs (took nw q r k) ∙ length-lowered r.alight_time (Some r) (reached (changes_of nw) r.alight_stop) k.labels
+      let size = length-replicate {A = Option Access} n None in
+      scan-starts nw st valid q (access_of nw q (lowered q.time None (reached (changes_of nw) q.from_stop) old)) (origin-known nw q old (omega arith)) (origin-explained n room)
 
   module _ (ks : List Key) (v : Event) (next : IsNext nw st ks v) (from : q.time ≤ event_time nw st v.key) where
     -- once the rides are taken that are left of those that begin with the departure
-    took-rest : (front rest : List PlanRide) (k : Known) → rides_from nw st (node_of v.key) ≡ front ++ rest → length nw.stops ≤ length k.labels → IsReached (access_of nw q k.labels) v.stop (event_time nw st v.key) → IsKnownScan (IsSeen ks front) k → IsKnownScan (IsSeen ks (rides_from nw st (node_of v.key))) (took_all nw q rest k)
+    took-rest : (front rest : List PlanRide) (k : Known) → rides_from nw st (node_of v.key) ≡ front ++ rest → length nw.stops ≤ length k.accesses → IsReached (access_of nw q k.accesses) v.stop (event_time nw st v.key) → IsKnownScan (IsSeen ks front) k → IsKnownScan (IsSeen ks (rides_from nw st (node_of v.key))) (took_all nw q rest k)
     took-rest front [] k split room reached scan = subst (λ rs. IsKnownScan (IsSeen ks rs) k) (sym (split ∙ append-nil front)) scan
     took-rest front (r ∷ rs) k split room reached scan =
         let now = took nw q r k in
-        let within = reached-within nw r.alight_stop (length k.labels) room in
-        let after = after-ride nw q (changes_of nw) (of-itself nw) r k.labels within in
+        let after = after-ride nw q r k.accesses room in
         let begins = begins-at nw st valid q ks v next r (subst (λ rs. Contains rs r) (sym split) (Contains-append_right front (r ∷ rs) r (0, omega arith, refl))) in
         let forward = ride-forward nw st valid r begins.0 in
         let time = begins.2 in
         let later : q.time ≤ r.alight_time = omega arith in
-        let size = length-lowered r.alight_time (Some r) (Rattle.change_times.specs.Reach.reached (changes_of nw) r.alight_stop) k.labels in
+        let size = length-lowered r.alight_time (Some r) (Rattle.change_times.specs.Reach.reached (changes_of nw) r.alight_stop) k.accesses in
         took-rest (front ++ r ∷ []) rs now (split ∙ sym (append_assoc front (r ∷ []) rs)) (subst (λ n. length nw.stops ≤ n) (sym size) room) (after.no_later v.stop (event_time nw st v.key) reached)
-        (scan-takes_next nw st valid q ks v next front r rs (access_of nw q k.labels) (access_of nw q now.labels) k.best split scan reached after (after-reaches nw q (changes_of nw) (of-itself nw) r k.labels within later))
+        (scan-takes_next nw st valid q ks v next front r rs (access_of nw q k.accesses) (access_of nw q now.accesses) k.best split scan reached after (after-reaches nw q r k.accesses room later))
 
     -- once the departure is scanned
-    departed-scan : (d : Departure) (k : Known) → v.key ≡ d.key → d.time ≡ event_time nw st v.key → stop_of st v.key ≡ v.stop → length nw.stops ≤ length k.labels → IsKnownScan (IsSeen ks []) k → IsKnownScan (IsSeen (ks ++ v.key ∷ []) []) (departed nw st q d k)
-    departed-scan d k named at stop room scan =
-        let all = took_all nw q (rides_from nw st (node_of d.key)) k in
-        let test = is_in_time nw q k.labels (stop_of st d.key) d.time in
-        let same : test ≡ is_in_time nw q k.labels v.stop (event_time nw st v.key) = (λ i. is_in_time nw q k.labels (stop_of st (sym named i)) (at i)) ∙ ap (λ s. is_in_time nw q k.labels s (event_time nw st v.key)) stop in
-        let P : Known → Type 0 = IsKnownScan (IsSeen (ks ++ v.key ∷ []) []) in
-        elim (cases_Bool test) [
-          | inl timely ↦
-              let reached = tested (access_of nw q k.labels v.stop) (event_time nw st v.key) (sym same ∙ timely) in
-              subst P (sym (cond-true test all k timely ∙ ap (λ key. took_all nw q (rides_from nw st (node_of key)) k) (sym named)))
-              (scan-departs nw st valid q ks v next (access_of nw q (took_all nw q (rides_from nw st (node_of v.key)) k).labels) (took_all nw q (rides_from nw st (node_of v.key)) k).best
-              (took-rest [] (rides_from nw st (node_of v.key)) k refl room reached scan))
-          | inr late ↦
-              subst P (sym (cond-false test all k late))
-              (scan-passes nw st valid q ks v next (access_of nw q k.labels) k.best scan (λ reached. untested (access_of nw q k.labels v.stop) (event_time nw st v.key) (sym same ∙ late) reached.0 reached.1 reached.2))
-        ]
-
-  length-departed : (d : Departure) (k : Known) → length (departed nw st q d k).labels ≡ length k.labels
-  length-departed d k =
-      let test = is_in_time nw q k.labels (stop_of st d.key) d.time in
-      let rides = rides_from nw st (node_of d.key) in
-      elim (cases_Bool test) [
-        | inl timely ↦ ap (λ (k : Known). length k.labels) (cond-true test (took_all nw q rides k) k timely) ∙ length-took rides k
-        | inr late ↦ ap (λ (k : Known). length k.labels) (cond-false test (took_all nw q rides k) k late)
-      ]
+    departed-scan : (d : Departure) (k : Known) → v.key ≡ d.key → d.time ≡ event_time nw st v.key → stop_of st v.key ≡ v.stop → length nw.stops ≤ length k.accesses → IsKnownScan (IsSeen ks []) k → IsKnownScan (IsSeen (ks ++ v.key ∷ []) []) (departed nw st q d k)
+    departed-scan d k named at stop room scan = rw (← named, at, stop) (elim (cases_Bool (is_in_time nw q k.accesses v.stop (event_time nw st v.key))) [
+      | inl timely ↦
+          let after = took_all nw q (rides_from nw st (node_of v.key)) k in
+          rw timely (scan-departs nw st valid q ks v next (access_of nw q after.accesses) after.best (took-rest [] (rides_from nw st (node_of v.key)) k refl room (tested (access_of nw q k.accesses v.stop) (event_time nw st v.key) timely) scan))
+      | inr late ↦ rw late (scan-passes nw st valid q ks v next (access_of nw q k.accesses) k.best scan (λ reached. untested (access_of nw q k.accesses v.stop) (event_time nw st v.key) late reached.0 reached.1 reached.2))
+    ])
 
   known : (d : Departure) → IsDeparture nw st d → IsKnown (λ (d : Departure). d.key) (λ (d : Departure). d.time) nw st d
   known d is = record { live = (is.event, is.there, is.key, is.live); departs = is.departs; at = is.time }
@@ -165,47 +138,42 @@ module _ (nw : Network) (st : State) (q : Query) (valid : IsValid nw st) where
   time_of d = d.time
 
   abbrev Ends : Known → Type 0
-  Ends k = IsAtEnd nw st q (access_of nw q k.labels) k.best
+  Ends k = IsAtEnd nw st q (access_of nw q k.accesses) k.best
 
   -- once the departures are scanned that are left
-  pub scanned-ends : (done ds : List Departure) (k : Known) → departures_from nw st q.time ≡ done ++ ds → length nw.stops ≤ length k.labels → IsKnownScan (IsSeen (map key_of done) []) k → Ends (scanned nw st q ds k)
+  pub scanned-ends : (done ds : List Departure) (k : Known) → departures_from nw st q.time ≡ done ++ ds → length nw.stops ≤ length k.accesses → IsKnownScan (IsSeen (map key_of done) []) k → Ends (scanned nw st q ds k)
   scanned-ends done [] k split room scan =
-      scan-ends nw st valid q (access_of nw q k.labels) k.best (map key_of done) scan
+      scan-ends nw st valid q (access_of nw q k.accesses) k.best (map key_of done) scan
       (list-ends key_of time_of nw st q.time (departures_from nw st q.time) departures-are done [] k.best split (All-nil (λ e. IsThereBy k.best (time_of e))))
   scanned-ends done (d ∷ ds) k split room scan =
       let all = departures_from nw st q.time in
-      let test = is_there_by k.best d.time in
       let next = list-next key_of time_of nw st q.time all departures-are done d ds split in
       let v = next.0 in
       let later = All-contains (λ (d : Departure). q.time ≤ d.time) (done ++ d ∷ ds) d (subst (All (λ (d : Departure). q.time ≤ d.time)) split (later-not-before nw st q.time)) (Contains-append_right done (d ∷ ds) d (0, omega arith, refl)) in
       let its = next.3 in
       let stop = (call-there st v (event-found st v valid.trains next.1.there)).1 in
       let after = departed nw st q d k in
-      let size = length-departed d k in
+      let size = length-departed nw q st d k in
       let seen : map key_of done ++ v.key ∷ [] ≡ map key_of (done ++ d ∷ []) = ap (λ key. map key_of done ++ key ∷ []) next.2 ∙ sym (map-append key_of done (d ∷ [])) in
-      elim (cases_Bool test) [
-        | inl over ↦
-            subst Ends (sym (cond-true test k (scanned nw st q ds after) over))
-            (scan-ends nw st valid q (access_of nw q k.labels) k.best (map key_of done) scan
+      elim (cases_Bool (is_there_by k.best d.time)) [
+        | inl over ↦ rw over (scan-ends nw st valid q (access_of nw q k.accesses) k.best (map key_of done) scan
             (list-ends key_of time_of nw st q.time all departures-are done (d ∷ ds) k.best split (rest-late key_of time_of nw st q.time all departures-are done d ds k.best split (there-by k.best d.time over))))
-        | inr early ↦
-            subst Ends (sym (cond-false test k (scanned nw st q ds after) early))
-            (scanned-ends (done ++ d ∷ []) ds after (split ∙ sym (append_assoc done (d ∷ []) ds)) (subst (λ n. length nw.stops ≤ n) (sym size) room)
+        | inr early ↦ rw early (scanned-ends (done ++ d ∷ []) ds after (split ∙ sym (append_assoc done (d ∷ []) ds)) (omega arith)
             (subst (λ ks. IsKnownScan (IsSeen ks []) after) seen (departed-scan (map key_of done) v next.1 (omega arith) d k next.2 its stop room scan)))
       ]
 
   at-call : (d : Departure) → IsDeparture nw st d → IsAtCall st d
   at-call d is =
       let there = (call-there st is.event (event-found st is.event valid.trains is.there)).0 in
-      (subst (λ (k : Key). has_call st k.train k.label ≡ true) is.key there, is.departs)
+      (subst (λ (k : Key). has_call st k.train k.label ≡ true) is.key there, is.departs, subst (λ k. is_live st (node_of k) ≡ true) is.key (event-live st is.event is.there is.live))
 
   -- the departures are of calls that are there
   pub at-calls : All (IsAtCall st) (departures_from nw st q.time)
   at-calls = All-weaker (IsDeparture nw st) (IsAtCall st) at-call (departures_from nw st q.time) (later-each nw st q.time)
 
   -- all departures, begun with what is known straight from the origin
-  pub search-ends : (n : ℕ) → length nw.stops ≤ n → Ends (scanned nw st q (departures_from nw st q.time) (record { labels = lowered q.time None (reached (changes_of nw) q.from_stop) (replicate n None); best = None }))
+  pub search-ends : (n : ℕ) → length nw.stops ≤ n → Ends (scanned nw st q (departures_from nw st q.time) (record { accesses = lowered q.time None (reached (changes_of nw) q.from_stop) (replicate n None); best = None }))
   search-ends n room =
       let old : List (Option Access) = replicate n None in
       let size = length-lowered q.time None (reached (changes_of nw) q.from_stop) old ∙ length-replicate n None in
-      scanned-ends [] (departures_from nw st q.time) (record { labels = lowered q.time None (reached (changes_of nw) q.from_stop) old; best = None }) refl (subst (λ m. length nw.stops ≤ m) (sym size) room) (origin-scan n room)
+      scanned-ends [] (departures_from nw st q.time) (record { accesses = lowered q.time None (reached (changes_of nw) q.from_stop) old; best = None }) refl (subst (λ m. length nw.stops ≤ m) (sym size) room) (origin-scan n room)

@@ -39,14 +39,14 @@ module _ (nw : Network) (q : Query) (r : PlanRide) (best : Option PlanRide) wher
   earlier = option_map_or (λ (s : PlanRide). nat_lt r.alight_time s.alight_time) best true
 
   -- the better ride is there no later than the best so far
-  better-later : (t : ℕ) → IsThereBy best t → IsThereBy (better nw q r best) t
+  pub better-later : (t : ℕ) → IsThereBy best t → IsThereBy (better nw q r best) t
   unfolding earlier
   better-later t h =
       cond_both (ends_there nw q r && earlier) (Some r) best (λ o. IsThereBy o t)
       (λ passes. (r, refl, is-earlier r best t (and_parts (ends_there nw q r) earlier passes).1 h)) (λ _. h)
 
   -- nor than this one, if it ends in the destination's station
-  better-there : ends_there nw q r ≡ true → IsThereBy (better nw q r best) r.alight_time
+  pub better-there : ends_there nw q r ≡ true → IsThereBy (better nw q r best) r.alight_time
   unfolding earlier
   better-there ends =
       cond_both (ends_there nw q r && earlier) (Some r) best (λ o. IsThereBy o r.alight_time) (λ _. (r, refl, omega arith)) (λ fails.

@@ -1,7 +1,7 @@
 -- The rides from a departure, one call after the other.
 use Rattle.std.proofs.Common.{◌≡◌, ℕ, suc, Bool, true, false, cond, ◌&&◌, List, [], ◌∷◌, ◌++◌, Option, Some, None, is_some, slice_get, find, length, refl, sym, ◌∙◌, ap, subst, inl, inr, arith}
 use Rattle.std.specs.Option.{option_map, option_map_or}
-use Rattle.std.proofs.lemmas.Bool.{cases_Bool, cond-true, cond-false}
+use Rattle.std.proofs.lemmas.Bool.{cases_Bool, cond-true}
 use Rattle.std.proofs.lemmas.Option.{same_Some, none-some}
 use Rattle.mt_base.specs.declared.plans.PlanRide.{PlanRide}
 use Rattle.mt_base.specs.declared.plans.Query.{Query}
@@ -42,25 +42,15 @@ named-of (Some c) there = (c, refl)
 module _ (nw : Network) (st : State) (valid : IsValid nw st) (train label : ℕ) (there : has_call st train label ≡ true) where
   first-of : (a : Arrival) (cs : List Call) → calls_after st train label ≡ cs → first_arrival nw st train cs ≡ Some a → IsArrival nw st train label a
   first-of a [] split first = absurd (none-some a first)
-  first-of a (d ∷ ds) split first =
-      let made = arrival_at nw st train d in
-      elim (cases_Bool d.arrival.live) [
-        | inr dead ↦ absurd (none-some a (sym (cond-false d.arrival.live (Some made) None dead) ∙ first))
-        | inl live ↦
-            let is = same_Some made a (sym (cond-true d.arrival.live (Some made) None live) ∙ first) in
-            let c = named-of (call_named st train label) there in
-            let by = next-call (calls_of st train) (calls-distinct st valid.trains train) label c.0 c.1 d ds split in
-            let same : d.label ≡ a.label = ap (λ (a : Arrival). a.label) is in
-            record {
-              call = d;
-              rest = ds;
-              split = split;
-              live = live;
-              is = is;
-              found = subst (λ l. call_named st train l ≡ Some d) same by.0;
-              onward = subst (λ l. calls_after st train l ≡ ds) same by.1;
-            }
-      ]
+  first-of a (d ∷ ds) split first = elim (cases_Bool d.arrival.live) [
+    | inr dead ↦ absurd (none-some a (rw dead at first))
+    | inl live ↦
+        let is = same_Some (arrival_at nw st train d) a (rw live at first) in
+        let c = named-of (call_named st train label) there in
+        let by = next-call (calls_of st train) (calls-distinct st valid.trains train) label c.0 c.1 d ds split in
+        let same : d.label ≡ a.label = ap (λ (a : Arrival). a.label) is in
+        record { call = d; rest = ds; split = split; live = live; is = is; found = subst (λ l. call_named st train l ≡ Some d) same by.0; onward = subst (λ l. calls_after st train l ≡ ds) same by.1 }
+  ]
 
   arrives-of : (a : Arrival) → first_arrival nw st train (calls_after st train label) ≡ Some a → IsArrival nw st train label a
   arrives-of a first = first-of a (calls_after st train label) refl first
@@ -69,32 +59,16 @@ module _ (nw : Network) (st : State) (valid : IsValid nw st) (train label : ℕ)
   pub board-dead : live_time nw st (record { train = train; label = label; dep = true }) ≡ None → None ≡ boarding_at nw st train label
   board-dead dead =
       let by = named-of (call_named st train label) there in
-      let c = by.0 in
-      let time = event_time nw st (departure_of train 0 c).key in
-      let b : Boarding = record { train = train; label = label; stop = c.stop; time = time } in
-      let its = time-of_call nw st valid (record { train = train; label = label; dep = true }) c by.1 in
-      let P : Option Boarding → Type 0 = λ o. None ≡ o in
-      subst P (sym (ap (λ o. option_map_or (λ (c : Call). cond (c.departure.live && c.board) (Some (record { train = train; label = label; stop = c.stop; time = event_time nw st (departure_of train 0 c).key })) None) o None) by.1)) (elim (cases_Bool c.departure.live) [
-        | inl live ↦ absurd (none-some time (sym dead ∙ its ∙ cond-true c.departure.live (Some time) None live))
-        | inr other ↦ sym (cond-false (c.departure.live && c.board) (Some b) None (ap (λ x. x && c.board) other))
-      ])
+      let its = time-of_call nw st valid (record { train = train; label = label; dep = true }) by.0 by.1 in
+      rw by.1 (grind (arith, its, dead))
 
   pub board-live : (time stop : ℕ) → live_time nw st (record { train = train; label = label; dep = true }) ≡ Some time → option_map (λ (c : Call). c.stop) (call_named st train label) ≡ Some stop → option_map (λ (c : Call). c.board) (call_named st train label) ≡ Some true → Some (record { train = train; label = label; stop = stop; time = time }) ≡ boarding_at nw st train label
   board-live time stop live at may =
       let by = named-of (call_named st train label) there in
-      let c = by.0 in
-      let own = event_time nw st (departure_of train 0 c).key in
-      let b : Boarding = record { train = train; label = label; stop = c.stop; time = own } in
-      let its = time-of_call nw st valid (record { train = train; label = label; dep = true }) c by.1 in
-      let stops : stop ≡ c.stop = sym (same_Some c.stop stop (sym (ap (option_map (λ (c : Call). c.stop)) by.1) ∙ at)) in
-      let boards : c.board ≡ true = same_Some c.board true (sym (ap (option_map (λ (c : Call). c.board)) by.1) ∙ may) in
-      let P : Option Boarding → Type 0 = λ o. Some (record { train = train; label = label; stop = stop; time = time }) ≡ o in
-      subst P (sym (ap (λ o. option_map_or (λ (c : Call). cond (c.departure.live && c.board) (Some (record { train = train; label = label; stop = c.stop; time = event_time nw st (departure_of train 0 c).key })) None) o None) by.1)) (elim (cases_Bool c.departure.live) [
-        | inr other ↦ absurd (none-some time (sym (its ∙ cond-false c.departure.live (Some own) None other) ∙ live))
-        | inl lives ↦
-            let times : time ≡ own = sym (same_Some own time (sym (its ∙ cond-true c.departure.live (Some own) None lives) ∙ live)) in
-            (λ i. Some (record { train = train; label = label; stop = stops i; time = times i })) ∙ sym (cond-true (c.departure.live && c.board) (Some b) None (ap (λ x. x && c.board) lives ∙ boards))
-      ])
+      let its = time-of_call nw st valid (record { train = train; label = label; dep = true }) by.0 by.1 in
+      let stops = rw by.1 at at in
+      let boards = rw by.1 at may in
+      rw by.1 (grind (arith, its, live, stops, boards))
 
 took-here : (nw : Network) (q : Query) (r : PlanRide) (rest : List PlanRide) (alights : Bool) (k : Known) → took_all nw q (cond alights (r ∷ []) [] ++ rest) k ≡ took_all nw q rest (cond alights (took nw q r k) k)
 took-here nw q r rest true k = refl
@@ -127,82 +101,46 @@ module _ (nw : Network) (st : State) (valid : IsValid nw st) (q : Query) (b : Bo
         fewer = omega (arith, size, fewer);
       }
 
-  pub none-left : a.goes_on ≡ false → new ≡ took_all nw q (rides_on nw st b (calls_after st b.train label)) old
-  none-left ends = sym (rest-left ∙ ap (λ rs. took_all nw q rs new) (cond-false a.goes_on (rides_on nw st b (calls_after st b.train a.label)) [] ends))
-
--- nothing is left where the train does not arrive
-pub past-left : (nw : Network) (st : State) (q : Query) (b : Boarding) (k : Known) (cs : List Call) → first_arrival nw st b.train cs ≡ None → k ≡ took_all nw q (rides_on nw st b cs) k
-past-left nw st q b k [] first = refl
-past-left nw st q b k (d ∷ ds) first =
-    let made = arrival_at nw st b.train d in
-    let here = cond d.alight (ride_to b made ∷ []) [] ++ cond d.departure.live (rides_on nw st b ds) [] in
-    elim (cases_Bool d.arrival.live) [
-      | inl live ↦ absurd (none-some made (sym first ∙ cond-true d.arrival.live (Some made) None live))
-      | inr dead ↦ sym (ap (λ rs. took_all nw q rs k) (cond-false d.arrival.live here [] dead))
-    ]
-
 -- the departure at a call
 abbrev start : Network → State → ℕ → Call → ℕ → Boarding
 start nw st train c label = record { train = train; label = label; stop = c.stop; time = event_time nw st (departure_of train 0 c).key }
 
 along-same : (nw : Network) (st : State) (train route : ℕ) (c : Call) (ds : List Call) → rides_along nw st train route c ds ≡ rides_on nw st (start nw st train c c.label) ds
 along-same nw st train route c [] = refl
-along-same nw st train route c (d ∷ ds) =
-    let here = cond d.alight (ride_to (start nw st train c c.label) (arrival_at nw st train d) ∷ []) [] in
-    ap (λ rs. cond d.arrival.live (here ++ cond d.departure.live rs []) []) (along-same nw st train route c ds)
+along-same nw st train route c (d ∷ ds) = rw (along-same nw st train route c ds)
 
 module _ (nw : Network) (st : State) (train label : ℕ) where
   abbrev starts : Call → Option Boarding
   starts c = cond (c.departure.live && c.board) (Some (start nw st train c label)) None
 
-  abbrev lists : ℕ → List Call → Call → List PlanRide
-  lists route cs c = cond (c.departure.live && c.board) (rides_along nw st train route c (after (is_call label) cs)) []
+  abbrev begun : List Call → Option Boarding → List PlanRide
+  begun cs o = option_map_or (λ (b : Boarding). rides_on nw st b (after (is_call label) cs)) o []
 
-  at-start : (b : Boarding) (route : ℕ) (cs : List Call) (f : Option Call) → find (is_call label) cs ≡ f → Some b ≡ option_map_or starts f None → (option_map_or (lists route cs) (find (is_call label) cs) [] ≡ rides_on nw st b (after (is_call label) cs)) × (b.train ≡ train) × (b.label ≡ label)
-  at-start b route cs None found is = absurd (none-some b (sym is))
-  at-start b route cs (Some c) found is =
-      let made = start nw st train c label in
-      let rides = rides_along nw st train route c (after (is_call label) cs) in
-      elim (cases_Bool (c.departure.live && c.board)) [
-        | inr neither ↦ absurd (none-some b (sym (is ∙ cond-false (c.departure.live && c.board) (Some made) None neither)))
-        | inl both ↦
-            let same : made ≡ b = sym (same_Some b made (is ∙ cond-true (c.departure.live && c.board) (Some made) None both)) in
-            let named = (is-at label cs c found).named in
-            subst (λ b. (option_map_or (lists route cs) (find (is_call label) cs) [] ≡ rides_on nw st b (after (is_call label) cs)) × (b.train ≡ train) × (b.label ≡ label)) same (
-              ap (λ f. option_map_or (lists route cs) f []) found
-                  ∙ cond-true (c.departure.live && c.board) rides [] both
-                  ∙ along-same nw st train route c (after (is_call label) cs)
-                  ∙ ap (λ l. rides_on nw st (start nw st train c l) (after (is_call label) cs)) named,
-              refl,
-              refl,
-            )
-      ]
+  by-call : (route : ℕ) (cs : List Call) (f : Option Call) → find (is_call label) cs ≡ f → option_map_or (λ (c : Call). cond (c.departure.live && c.board) (rides_along nw st train route c (after (is_call label) cs)) []) f [] ≡ begun cs (option_map_or starts f None)
+  by-call route cs None found = refl
+  by-call route cs (Some c) found =
+      let named = (is-at label cs c found).named in
+      let same = along-same nw st train route c (after (is_call label) cs) ∙ ap (λ l. rides_on nw st (start nw st train c l) (after (is_call label) cs)) named in
+      elim (cases_Bool (c.departure.live && c.board)) [ inl both ↦ rw both same | inr neither ↦ rw neither ]
 
-  train-start : (b : Boarding) (o : Option Train) → Some b ≡ option_map_or starts (find (is_call label) (option_map_or (λ (t : Train). t.calls) o [])) None → (option_map_or (λ (t : Train). rides_at nw st train t.route label t.calls) o [] ≡ rides_on nw st b (after (is_call label) (option_map_or (λ (t : Train). t.calls) o []))) × (b.train ≡ train) × (b.label ≡ label)
-  train-start b None is = absurd (none-some b (sym is))
-  train-start b (Some t) is = at-start b t.route t.calls (find (is_call label) t.calls) refl is
+  by-train : (o : Option Train) → option_map_or (λ (t : Train). rides_at nw st train t.route label t.calls) o [] ≡ begun (option_map_or (λ (t : Train). t.calls) o []) (option_map_or starts (find (is_call label) (option_map_or (λ (t : Train). t.calls) o [])) None)
+  by-train None = refl
+  by-train (Some t) = by-call t.route t.calls (find (is_call label) t.calls) refl
+
+  rides-begun : rides_from nw st (record { train = train; label = label; dep = true }) ≡ begun (calls_of st train) (boarding_at nw st train label)
+  unfolding rides_from
+  rides-begun = by-train (slice_get st.trains train)
+
+  at-board : (b : Boarding) (o : Option Call) → Some b ≡ option_map_or starts o None → (b.train ≡ train) × (b.label ≡ label)
+  at-board b None is = absurd (none-some b (sym is))
+  at-board b (Some c) is = (grind (arith, is), grind (arith, is))
 
   -- the rides that begin with a departure at which one may board
   pub rides-start : (b : Boarding) → Some b ≡ boarding_at nw st train label → (rides_from nw st (record { train = train; label = label; dep = true }) ≡ rides_on nw st b (calls_after st b.train b.label)) × (b.train ≡ train) × (b.label ≡ label)
-  unfolding rides_from
   rides-start b is =
-      let by = train-start b (slice_get st.trains train) is in
-      (by.0 ∙ (λ i. rides_on nw st b (calls_after st (sym by.1 i) (sym by.2 i))), by.1, by.2)
-
-  at-none : (route : ℕ) (cs : List Call) (f : Option Call) → find (is_call label) cs ≡ f → None ≡ option_map_or starts f None → option_map_or (lists route cs) (find (is_call label) cs) [] ≡ []
-  at-none route cs None found is = ap (λ f. option_map_or (lists route cs) f []) found
-  at-none route cs (Some c) found is =
-      let rides = rides_along nw st train route c (after (is_call label) cs) in
-      elim (cases_Bool (c.departure.live && c.board)) [
-        | inl both ↦ absurd (none-some (start nw st train c label) (is ∙ cond-true (c.departure.live && c.board) (Some (start nw st train c label)) None both))
-        | inr neither ↦ ap (λ f. option_map_or (lists route cs) f []) found ∙ cond-false (c.departure.live && c.board) rides [] neither
-      ]
-
-  train-none : (o : Option Train) → None ≡ option_map_or starts (find (is_call label) (option_map_or (λ (t : Train). t.calls) o [])) None → option_map_or (λ (t : Train). rides_at nw st train t.route label t.calls) o [] ≡ []
-  train-none None is = refl
-  train-none (Some t) is = at-none t.route t.calls (find (is_call label) t.calls) refl is
+      let at = at-board b (call_named st train label) is in
+      (rides-begun ∙ ap (begun (calls_of st train)) (sym is) ∙ (λ i. rides_on nw st b (calls_after st (sym at.0 i) (sym at.1 i))), at.0, at.1)
 
   -- there are none where one may not board
   pub rides-none : None ≡ boarding_at nw st train label → rides_from nw st (record { train = train; label = label; dep = true }) ≡ []
-  unfolding rides_from
-  rides-none is = train-none (slice_get st.trains train) is
+  rides-none is = rides-begun ∙ ap (begun (calls_of st train)) (sym is)

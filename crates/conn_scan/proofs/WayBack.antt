@@ -8,8 +8,7 @@ use Rattle.delay_model.specs.declared.state.State.{State}
 use Rattle.delay_model.specs.Valid.{IsValid}
 use Rattle.conn_scan.specs.Reached.{Access, ride_before, AreExplained, CanBoard}
 use Rattle.conn_scan.specs.Scan.{LeadsTo}
-use Rattle.conn_scan.proofs.Answer.{boards-after}
-use Rattle.conn_scan.proofs.Forward.{in_time-later, ride-forward}
+use Rattle.conn_scan.proofs.Answer.{boards-earlier}
 use Rattle.conn_scan.proofs.Scanning.{LeadsBack, leads-more, leads-all}
 
 -- these rides are the way back so far, and `before` is the next one
@@ -26,9 +25,6 @@ abbrev pub left_of : Option PlanRide → ℕ
 left_of before = option_map_or (λ (r : PlanRide). r.board_time + 1) before 0
 
 module _ (access : ℕ → Option Access) (last : PlanRide) where
-  pub way-starts : (rides : List PlanRide) (before : Option PlanRide) → CanBoard access last → rides ≡ last ∷ [] → before ≡ ride_before access last → IsOnWay access last rides before
-  way-starts rides before can split next = record { done = []; ride = last; leads = λ rest way. way; split = split; can = can; next = next }
-
   pub way-ends : (rides : List PlanRide) → IsOnWay access last rides None → LeadsTo access last (reverse rides)
   way-ends rides way = (way.done, leads-all access last way.done way.ride way.leads (sym way.next), ap reverse way.split)
 
@@ -36,13 +32,10 @@ module _ (access : ℕ → Option Access) (last : PlanRide) where
     earlier : (r : PlanRide) (o : Option PlanRide) → CanBoard access r → ride_before access r ≡ o → left_of o < r.board_time + 1
     earlier r None can at = omega arith
     earlier r (Some before) can at =
-        let back = boards-after nw st q access explained r before can at in
-        let ride = ride-forward nw st valid before back.0.0 in
-        let later = in_time-later nw valid.options before.alight_stop before.alight_time r.board_stop r.board_time back.1 in
-        omega arith
+        let back = boards-earlier nw st q valid access explained r before can at in omega arith
 
     pub way-can : (rides : List PlanRide) (r : PlanRide) → IsOnWay access last rides (Some r) → CanBoard access r
-    way-can rides r way = (boards-after nw st q access explained way.ride r way.can (sym way.next)).0.1
+    way-can rides r way = (boards-earlier nw st q valid access explained way.ride r way.can (sym way.next)).1
 
     pub way-more : (rides new : List PlanRide) (r : PlanRide) (before : Option PlanRide) → IsOnWay access last rides (Some r) → new ≡ rides ++ r ∷ [] → before ≡ ride_before access r → IsOnWay access last new before
     way-more rides new r before way pushed next =

@@ -15,7 +15,7 @@ pub record Answered : Type 0 where
   pub rides : List PlanRide
 
 abbrev pub seen : Inside → Answered
-seen s = record { stops = length s.known.labels; rides = s.rides.items }
+seen s = record { stops = length s.known.accesses; rides = s.rides.items }
 
 -- the earliest arrival with the rides of a journey that arrives then, or no ride, where there is no journey
 abbrev pub IsAnswer : Network → State → Query → List PlanRide → Found → Type 0

@@ -6,3 +6,4 @@ pub mod Stamped
 pub mod Calls
 pub mod Scanned
 pub mod Answered
+pub mod Passed

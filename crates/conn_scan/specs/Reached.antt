@@ -5,7 +5,7 @@ use Rattle.mt_base.specs.declared.plans.Query.{Query}
 use Rattle.mt_base.specs.declared.plans.PlanRide.{PlanRide}
 use Rattle.delay_model.specs.declared.network.Network.{Network}
 use Rattle.delay_model.specs.declared.state.State.{State}
-pub use Rattle.conn_scan.specs.declared.labels.Access.{Access}
+pub use Rattle.conn_scan.specs.declared.accesses.Access.{Access}
 use Rattle.delay_model.specs.Journeys.{IsRide, IsInTime, is_one_station}
 
 -- how a passenger gets to place b, from a list by the numbers of the places

@@ -10,7 +10,7 @@ use Rattle.change_times.specs.Reach.{reached}
 use Rattle.delay_model.specs.declared.network.Network.{Network}
 use Rattle.delay_model.specs.declared.state.Call.{Call}
 use Rattle.delay_model.specs.declared.state.State.{State}
-use Rattle.delay_model.specs.Events.{departure_of}
+use Rattle.delay_model.specs.Events.{departure_of, is_live}
 use Rattle.delay_model.specs.Timing.{event_time}
 use Rattle.train_nodes.specs.Calls.{call_named, has_call}
 use Rattle.timetable.specs.declared.departure_list.Departure.{Departure}
@@ -31,7 +31,7 @@ changes_of nw = record { stops = nw.stops; transfers = nw.transfers; default = n
 abbrev pub took : Network → Query → PlanRide → Known → Known
 took nw q r k =
     record {
-      labels = lowered r.alight_time (Some r) (reached (changes_of nw) r.alight_stop) k.labels;
+      accesses = lowered r.alight_time (Some r) (reached (changes_of nw) r.alight_stop) k.accesses;
       best = better nw q r k.best;
     }
 
@@ -74,7 +74,7 @@ pub record LeavesRides (nw : Network) (st : State) (q : Query) (b : Boarding) (l
 
 -- whether a passenger can be at a stop by a time
 abbrev pub is_in_time : Network → Query → List (Option Access) → ℕ → ℕ → Bool
-is_in_time nw q labels stop time = option_map_or (λ (a : Access). nat_le a.time time) (access_of nw q labels stop) false
+is_in_time nw q accesses stop time = option_map_or (λ (a : Access). nat_le a.time time) (access_of nw q accesses stop) false
 
 -- the stop of an event
 abbrev pub stop_of : State → Key → ℕ
@@ -83,7 +83,7 @@ stop_of st k = option_map_or (λ (c : Call). c.stop) (call_named st k.train k.la
 -- once a departure is scanned: its rides are taken if a passenger can be at its stop in time
 abbrev pub departed : Network → State → Query → Departure → Known → Known
 departed nw st q d k =
-    if is_in_time nw q k.labels (stop_of st d.key) d.time then took_all nw q (rides_from nw st (node_of d.key)) k else k
+    if is_in_time nw q k.accesses (stop_of st d.key) d.time then took_all nw q (rides_from nw st (node_of d.key)) k else k
 
 -- whether the best ride arrives by a time
 abbrev pub is_there_by : Option PlanRide → ℕ → Bool
@@ -94,6 +94,6 @@ abbrev pub scanned : Network → State → Query → List Departure → Known �
 scanned nw st q [] k = k
 scanned nw st q (d ∷ ds) k = if is_there_by k.best d.time then k else scanned nw st q ds (departed nw st q d k)
 
--- it is a departure, of a call that is there
+-- it is a live departure, of a call that is there
 abbrev pub IsAtCall : State → Departure → Type 0
-IsAtCall st d = (has_call st d.key.train d.key.label ≡ true) × (d.key.dep ≡ true)
+IsAtCall st d = (has_call st d.key.train d.key.label ≡ true) × (d.key.dep ≡ true) × (is_live st (node_of d.key) ≡ true)

@@ -1,16 +1,15 @@
--- Labels of several queries, of which those of the last count.
+-- What several queries found, of which only that of the last counts.
 use Rattle.std.specs.Prelude.{ℕ, ◌≤◌, List, Option, Some, None, nat_eq, if◌then◌else◌, map, All}
-use Rattle.conn_scan.specs.declared.labels.Access.{Access}
-use Rattle.conn_scan.specs.declared.labels.Label.{Label}
-use Rattle.conn_scan.specs.declared.labels.Labels.TheInside.{Inside}
+use Rattle.conn_scan.specs.declared.query_table.Stamped.{Stamped}
+use Rattle.conn_scan.specs.declared.query_table.QueryTable.TheInside.{Inside}
 
--- what a label says to the query with this number
-abbrev pub access_for : ℕ → Label → Option Access
-access_for query label = if nat_eq label.query query then Some label.access else None
+-- what a row says to the query with this number
+abbrev pub found_for : {T : Type 0} → ℕ → Stamped T → Option T
+found_for query row = if nat_eq row.query query then Some row.found else None
 
-abbrev pub seen : Inside → List (Option Access)
-seen s = map (access_for s.query) s.labels.items
+abbrev pub seen : {T : Type 0} → Inside T → List (Option T)
+seen s = map (found_for s.query) s.rows.items
 
--- no label is of a later query
-abbrev pub AreStamped : Inside → Type 0
-AreStamped s = All (λ (label : Label). label.query ≤ s.query) s.labels.items
+-- no row is of a later query
+abbrev pub AreStamped : {T : Type 0} → Inside T → Type 0
+AreStamped {T} s = All (λ (row : Stamped T). row.query ≤ s.query) s.rows.items

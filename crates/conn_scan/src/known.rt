@@ -8,7 +8,8 @@ ghost use Rattle.conn_scan.specs.Lowered.{access_of};
 ghost use Rattle.conn_scan.specs.Scan.{ends_there};
 ghost use Rattle.conn_scan.specs.Scanned.{changes_of, is_in_time, is_there_by, took};
 
-use crate::labels::{Access, Labels};
+use crate::accesses::{Access, lower};
+use crate::query_table::QueryTable;
 use change_times::Change;
 use mt_base::numbers::{StopNo, Time};
 use mt_base::plans::{PlanRide, Query};
@@ -17,7 +18,7 @@ use timetable::Timetable;
 /// How a passenger gets to the stops, and the ride that ends first in the station of the destination.
 #[derive(Drop)]
 pub(crate) struct Known {
-    pub(crate) labels: Labels,
+    pub(crate) accesses: QueryTable<Access>,
     pub(crate) best: Option<PlanRide>,
 }
 
@@ -37,8 +38,13 @@ pub(crate) fn is_one_station(t: &Timetable, a: StopNo, b: StopNo) -> bool
 }
 
 /// How a passenger of the query gets to a stop, as far as that is known.
-pub(crate) fn access(t: &Timetable, q: &Query, labels: &Labels, stop: StopNo) -> Option<Access>
-    ensures { result ≡ access_of t.now.network q.now labels.now stop }
+pub(crate) fn access(
+    t: &Timetable,
+    q: &Query,
+    accesses: &QueryTable<Access>,
+    stop: StopNo,
+) -> Option<Access>
+    ensures { result ≡ access_of t.now.network q.now accesses.now stop }
 {
     if is_one_station(t, q.from_stop, stop) {
         return Some(Access {
@@ -46,20 +52,20 @@ pub(crate) fn access(t: &Timetable, q: &Query, labels: &Labels, stop: StopNo) ->
             ride: None,
         });
     }
-    labels.get(stop)
+    accesses.get(stop.get())
 }
 
 /// Whether a passenger of the query can be at a stop by this time, as far as is known.
 pub(crate) fn is_in_time(
     t: &Timetable,
     q: &Query,
-    labels: &Labels,
+    accesses: &QueryTable<Access>,
     stop: StopNo,
     time: Time,
 ) -> bool
-    ensures { result ≡ is_in_time t.now.network q.now labels.now stop time }
+    ensures { result ≡ is_in_time t.now.network q.now accesses.now stop time }
 {
-    match access(t, q, labels, stop) {
+    match access(t, q, accesses, stop) {
         Some(access) => access.time <= u64::from(time.seconds()),
         None => false,
     }
@@ -94,11 +100,14 @@ fn is_better(t: &Timetable, q: &Query, ride: &PlanRide, best: &Option<PlanRide>)
 
 /// Takes a ride.
 pub(crate) fn take_ride(t: &Timetable, q: &Query, ride: &PlanRide, known: &mut Known)
-    requires room { length t.now.network.stops ≤ length known.old.labels }
-    ensures taken { known.new ≡ took t.now.network q.now ride.now known.old }
-    ensures room { length known.new.labels ≡ length known.old.labels }
+    ensures { known.new ≡ took t.now.network q.now ride.now known.old }
 {
-    known.labels.lower(onward(t, ride.alight_stop), ride.alight_time, &Some(*ride));
+    lower(
+        &mut known.accesses,
+        onward(t, ride.alight_stop),
+        ride.alight_time,
+        &Some(*ride),
+    );
     if is_better(t, q, ride, &known.best) {
         known.best = Some(*ride);
     }

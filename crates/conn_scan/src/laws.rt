@@ -1,6 +1,6 @@
 //! Why a scan of the departures finds the earliest arrival.
 
-ghost use Rattle.std.specs.Prelude.{◌≡◌, ◌≤◌, ◌<◌, ℕ, List, [], ◌∷◌, Option, Some, None, true, false, reverse, All, Contains};
+ghost use Rattle.std.specs.Prelude.{◌≡◌, ◌≤◌, ◌<◌, ◌⊎◌, ℕ, List, [], ◌∷◌, Option, Some, None, true, false, reverse, All, Contains};
 ghost use Rattle.mt_base.specs.declared.keys.Node.{Node as ANode};
 ghost use Rattle.mt_base.specs.declared.plans.PlanRide.{PlanRide as APlanRide};
 ghost use Rattle.mt_base.specs.declared.plans.Query.{Query as AQuery};
@@ -48,4 +48,11 @@ pub fn a_scan_finds_the_earliest(nw: &Network, st: &State)
     ensures none { (q : AQuery) (access : ℕ → Option Access) →
         is_one_station nw.now q.from_stop q.to_stop ≡ false → IsAtEnd nw.now st.now q access None →
         HasNoJourney nw.now st.now q }
+{}
+
+/// Every query has an answer: a journey such that none arrives earlier, or there is none.
+pub fn every_query_has_an_answer(nw: &Network, st: &State)
+    requires valid { IsValid nw.now st.now }
+    requires at_stops { AreAtStops nw.now st.now }
+    ensures { (q : AQuery) → ((rides : List APlanRide) × (arrives : ℕ) × IsEarliest nw.now st.now q rides arrives) ⊎ HasNoJourney nw.now st.now q }
 {}

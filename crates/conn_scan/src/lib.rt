@@ -1,9 +1,10 @@
 //! The earliest arrival, by a scan of the departures in the order of their times.
 #![tactic(auto)]
 
+pub mod accesses;
 mod known;
-pub mod labels;
 pub mod laws;
+mod query_table;
 mod scan;
 pub mod scratch;
 mod search;

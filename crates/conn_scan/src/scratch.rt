@@ -3,11 +3,12 @@
 ghost use Rattle.std.specs.Prelude.{◌≡◌, ◌≤◌, [], IfOk, length};
 ghost use Rattle.conn_scan.specs.Answered.{IsAnswer};
 
+use crate::accesses::Access;
 use crate::known::{Known, is_one_station};
-use crate::labels::Labels;
+use crate::query_table::QueryTable;
 use crate::search::{search, trace};
 use mt_base::memory::OutOfMemory;
-use mt_base::numbers::Time;
+use mt_base::numbers::{Label, Time};
 use mt_base::plans::{PlanRide, Query};
 use std::alloc::Global;
 use std::marker::Model;
@@ -15,11 +16,12 @@ use std::sync::ledger::Ledger;
 use timetable::Timetable;
 use train_nodes::Steps;
 
-/// What a scan keeps for each stop, for one query after the other: made once, it takes no memory at a query but for the rides that it
-/// shows.
+/// What a scan keeps for each stop and each train, for one query after the other: made once, it takes no memory at a query but for
+/// the rides that it shows.
 #[derive(Drop)]
 pub struct Scratch {
     known: Known,
+    passed: QueryTable<Label>,
     rides: Vec<PlanRide>,
 }
 
@@ -36,24 +38,29 @@ impl Model for Scratch {
 /// The answer to a query.
 #[derive(Clone, Copy, Debug, PartialEq, Eq)]
 pub enum Found {
-    /// The time of the earliest arrival.
-    Arrives(Time),
+    /// There is one.
+    Arrives {
+        /// The time of the earliest arrival.
+        at: Time,
+    },
 
     /// There is no journey.
     NoWay,
 }
 
 impl Scratch {
-    /// Room for queries over so many stops. No ride is shown.
-    pub fn build(alloc: Global, stops: u32) -> Result<Scratch, OutOfMemory>
+    /// Room for queries over so many stops. No ride is shown. For so many trains, by number, it is noted from which call on their rides
+    /// were taken, so that these are not taken again; a train past that number is only slower.
+    pub fn build(alloc: Global, stops: u32, trains: u32) -> Result<Scratch, OutOfMemory>
         ensures { IfOk result (λ scratch. scratch ≡ record { stops = stops; rides = [] }) }
     {
+        let ride: Option<PlanRide> = None;
+        let accesses = QueryTable::build(alloc, stops, Access { time: 0, ride })?;
+        let passed = QueryTable::build(alloc, trains, Label::new(0))?;
         let best: Option<PlanRide> = None;
         Ok(Scratch {
-            known: Known {
-                labels: Labels::build(alloc, stops)?,
-                best,
-            },
+            known: Known { accesses, best },
+            passed,
             rides: Vec::new(alloc),
         })
     }
@@ -66,7 +73,8 @@ impl Scratch {
     }
 }
 
-/// The earliest arrival of a query. The rides of a journey that arrives then are shown in the scratch.
+/// The earliest arrival of a query. The rides of a journey that arrives then are shown in the scratch. `OutOfMemory` where there is
+/// no memory for the rides that are shown; what the scratch shows is then open.
 pub fn earliest<L: Ledger>(
     t: &Timetable,
     q: &Query,
@@ -81,12 +89,14 @@ pub fn earliest<L: Ledger>(
     t.calls_are_at_stops();
     scratch.rides.clear();
     if is_one_station(t, q.from_stop, q.to_stop) {
-        return Ok(Found::Arrives(q.time));
+        return Ok(Found::Arrives { at: q.time });
     }
-    search(t, q, &mut scratch.known, steps);
+    search(t, q, &mut scratch.known, &mut scratch.passed, steps);
     let Some(last) = scratch.known.best else {
         return Ok(Found::NoWay);
     };
-    trace(t, q, &scratch.known.labels, &last, &mut scratch.rides)?;
-    Ok(Found::Arrives(last.alight_time))
+    trace(t, q, &scratch.known.accesses, &last, &mut scratch.rides)?;
+    Ok(Found::Arrives {
+        at: last.alight_time,
+    })
 }

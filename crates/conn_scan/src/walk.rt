@@ -4,6 +4,7 @@ ghost use Rattle.std.specs.Prelude.{◌≡◌, ◌≤◌, true, IsTrue, IfSome, 
 ghost use Rattle.delay_model.specs.Valid.{IsValid};
 ghost use Rattle.train_nodes.specs.Calls.{has_call};
 ghost use Rattle.conn_scan.specs.Calls.{calls_after, first_arrival};
+ghost use Rattle.conn_scan.specs.Passed.{IsPassed};
 ghost use Rattle.conn_scan.specs.Rides.{rides_from};
 ghost use Rattle.conn_scan.specs.Scanned.{boarding_at, ride_to, rides_on, took_all, LeavesRides};
 
@@ -132,10 +133,8 @@ fn take_next<L: Ledger>(
 ) -> Option<Label>
     requires valid { IsValid t.now.network t.now.state }
     requires there { IsTrue (has_call t.now.state boarding.now.train label) }
-    requires room { length t.now.network.stops ≤ length known.old.labels }
     ensures last { IfNone result (known.new ≡ took_all t.now.network q.now (rides_on t.now.network t.now.state boarding.now (calls_after t.now.state boarding.now.train label)) known.old) }
     ensures next { IfSome result (λ next. LeavesRides t.now.network t.now.state q.now boarding.now label known.old next known.new) }
-    ensures room { length known.new.labels ≡ length known.old.labels }
 {
     let arrival = next_arrival(t, boarding.train, label, steps)?;
     if arrival.alights {
@@ -158,9 +157,7 @@ fn take_on<L: Ledger>(
 )
     requires valid { IsValid t.now.network t.now.state }
     requires there { IsTrue (has_call t.now.state boarding.now.train boarding.now.label) }
-    requires room { length t.now.network.stops ≤ length known.old.labels }
-    ensures taken { known.new ≡ took_all t.now.network q.now (rides_on t.now.network t.now.state boarding.now (calls_after t.now.state boarding.now.train boarding.now.label)) known.old }
-    ensures room { length known.new.labels ≡ length known.old.labels }
+    ensures { known.new ≡ took_all t.now.network q.now (rides_on t.now.network t.now.state boarding.now (calls_after t.now.state boarding.now.train boarding.now.label)) known.old }
 {
     let mut label = boarding.label;
     while let Some(next) = take_next(t, q, boarding, label, known, steps) {
@@ -168,7 +165,7 @@ fn take_on<L: Ledger>(
     }
 }
 
-/// Takes the rides that begin with the departure at a call.
+/// Takes the rides that begin with the departure at a call. Gives whether passengers may board it.
 pub(crate) fn take_rides<L: Ledger>(
     t: &Timetable,
     q: &Query,
@@ -176,14 +173,16 @@ pub(crate) fn take_rides<L: Ledger>(
     label: Label,
     known: &mut Known,
     steps: &mut Steps<L>,
-)
+) -> bool
     requires valid { IsValid t.now.network t.now.state }
     requires there { IsTrue (has_call t.now.state train label) }
-    requires room { length t.now.network.stops ≤ length known.old.labels }
+    requires room { length t.now.network.stops ≤ length known.old.accesses }
     ensures taken { known.new ≡ took_all t.now.network q.now (rides_from t.now.network t.now.state (record { train = train; label = label; dep = true })) known.old }
-    ensures room { length known.new.labels ≡ length known.old.labels }
+    ensures passed { IsTrue result → IsPassed t.now.network t.now.state q.now known.new train label }
 {
-    if let Some(boarding) = board_at(t, train, label, steps) {
-        take_on(t, q, &boarding, known, steps);
-    }
+    let Some(boarding) = board_at(t, train, label, steps) else {
+        return false;
+    };
+    take_on(t, q, &boarding, known, steps);
+    true
 }

@@ -1,21 +1,26 @@
 -- The texts of replies byte by byte.
-use Rattle.std.proofs.Common.{◌≡◌, ℕ, List, ◌++◌, codes, false, refl, sym, ◌∙◌, append_assoc}
+use Rattle.std.proofs.Common.{◌≡◌, ℕ, List, [], ◌∷◌, ◌++◌, codes, false, map, refl, sym, ap, ◌∙◌, append_assoc}
 use Rattle.std.specs.Prelude.{decimal}
-use Rattle.serde_json.specs.Written.{has_float}
+use Rattle.serde_json.specs.Data.{item}
+use Rattle.serde_json.specs.View.{items_of}
+use Rattle.serde_json.specs.Written.{items_have_float}
 use Rattle.serde_json.proofs.OnLiterals.{serde_json_on_literals}
-use Rattle.delay_model.specs.declared.messages.Refusal.{Refusal}
-use Rattle.delay_model.specs.declared.messages.Refusal.TheVariants as refusals
+use Rattle.mt_base.specs.declared.plans.PlanRide.{PlanRide}
 use Rattle.schedule_build.specs.Directory.{Names}
-use Rattle.delay_report.specs.Replies.{accepted_object, refusal_object, line_of}
+use Rattle.delay_report.specs.Journeys.{ride_object, ride_objects}
+use Rattle.delay_report.specs.Replies.{accepted_object, line_of}
 
--- no refusal holds a floating-point number, so its text is known byte by byte
-pub no-floats : (names : Names) (line : ℕ) (refusal : Refusal) → has_float (refusal_object names line refusal) ≡ false
-no-floats names line refusals.Unknown = refl
-no-floats names line refusals.Known = refl
-no-floats names line refusals.NoConnection = refl
-no-floats names line (refusals.Contradiction event reported) = refl
-no-floats names line (refusals.AgainstRank from to) = refl
-no-floats names line (refusals.Full what) = refl
+-- the objects of rides, one after the other
+pub rides_listed : (names : Names) (rides : List PlanRide) → items_of (map (ride_object names) rides) ≡ ride_objects names rides
+unfolding ride_objects
+rides_listed names [] = refl
+rides_listed names (r ∷ rides) = ap (item (ride_object names r)) (rides_listed names rides)
+
+-- no ride holds a floating-point number, so its text is known byte by byte
+pub rides_are_whole : (names : Names) (rides : List PlanRide) → items_have_float (ride_objects names rides) ≡ false
+unfolding ride_objects
+rides_are_whole names [] = refl
+rides_are_whole names (r ∷ rides) = rides_are_whole names rides
 
 pieces-joined : (a p b q c r e : List ℕ) → (((a ++ p) ++ (b ++ q)) ++ (c ++ r)) ++ e ≡ a ++ (p ++ (b ++ (q ++ (c ++ (r ++ e)))))
 pieces-joined a p b q c r e = simp append_assoc

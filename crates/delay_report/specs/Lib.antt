@@ -1,4 +1,6 @@
 pub mod Clocks
+pub mod Journeys
 pub mod Replies
 pub mod Table
+pub mod Trains
 pub mod Written

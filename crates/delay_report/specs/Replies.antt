@@ -1,5 +1,5 @@
 -- The reply to a line: one JSON object, and an LF.
-use Rattle.std.specs.Prelude.{ℕ, ◌-◌, List, [], ◌∷◌, ◌++◌, Bool, if◌then◌else◌, codes}
+use Rattle.std.specs.Prelude.{ℕ, List, [], ◌∷◌, ◌++◌, Bool, if◌then◌else◌, codes}
 use Rattle.serde_json.specs.Data.{unsigned, Data, number, string, object, no_members, member}
 use Rattle.serde_json.specs.Written.{compact_text}
 use Rattle.mt_base.specs.declared.keys.Node.{Node}
@@ -7,29 +7,18 @@ use Rattle.delay_model.specs.declared.messages.Refusal.{Refusal}
 use Rattle.delay_model.specs.declared.messages.Refusal.TheVariants as refusals
 use Rattle.delay_model.specs.declared.messages.Short.{Short}
 use Rattle.delay_model.specs.declared.messages.Short.TheVariants as shorts
-use Rattle.schedule_build.specs.Directory.{Names, trip_of_train, day_of_train, date_of_day, base_of}
+use Rattle.schedule_build.specs.Directory.{Names, trip_of_train, day_of_train, date_of_day}
 use Rattle.delay_report.specs.declared.replies.BadLine.{BadLine}
 use Rattle.delay_report.specs.declared.replies.BadLine.TheVariants as lines
 use Rattle.delay_report.specs.declared.replies.Reply.{Reply}
-use Rattle.delay_report.specs.declared.replies.Reply.TheVariants.{Accepted, Refused, RefusedExtra, Bad, Flush}
-use Rattle.delay_report.specs.Clocks.{clock, date_text}
+use Rattle.delay_report.specs.declared.replies.Reply.TheVariants.{Accepted, Refused, RefusedExtra, Bad, Flush, Journey, NoJourney}
+use Rattle.delay_report.specs.Clocks.{date_text}
+use Rattle.delay_report.specs.Trains.{clock_of_train}
+use Rattle.delay_report.specs.Journeys.{journey_object, no_journey_object}
 
 -- the word for a departure (dep true) or an arrival (dep false)
 abbrev pub event_word : Bool → List ℕ
 event_word dep = if dep then codes "dep" else codes "arr"
-
--- the date of a train's service day, in eight digits
-abbrev pub date_of_train : Names → ℕ → List ℕ
-date_of_train names train = date_text (date_of_day names (day_of_train names train))
-
--- the seconds from the base of a train's service day to a time, which is given in seconds from the base of day 0.
--- A time before that base, which no train has, counts as the base itself
-abbrev pub seconds_on_day : Names → ℕ → ℕ → ℕ
-seconds_on_day names train time = time - base_of (day_of_train names train)
-
--- a time by the clock of a train's service day
-abbrev pub clock_of_train : Names → ℕ → ℕ → List ℕ
-clock_of_train names train time = clock (seconds_on_day names train time)
 
 -- what is wrong with a line
 abbrev pub bad_word : BadLine → List ℕ
@@ -128,6 +117,8 @@ reply_object names (Refused line refusal) = refusal_object names line refusal
 reply_object names (RefusedExtra line trip day from to) = refused_extra_object names line trip day from to
 reply_object names (Bad line bad) = bad_object line bad
 reply_object names (Flush line count) = flush_object line count
+reply_object names (Journey line after day arrives rides) = journey_object names line after day arrives rides
+reply_object names (NoJourney line after) = no_journey_object line after
 
 -- an object without blanks, and an LF, which is 10
 abbrev pub line_of : Data → List ℕ

@@ -8,7 +8,8 @@ use Rattle.delay_model.specs.declared.state.Event.{Event}
 use Rattle.delay_model.specs.Events.{train_events, live_events}
 use Rattle.delay_model.specs.Timing.{event_time}
 use Rattle.schedule_build.specs.Directory.{Names, trip_of_train, id_of_place}
-use Rattle.delay_report.specs.Replies.{event_word, date_of_train, clock_of_train}
+use Rattle.delay_report.specs.Replies.{event_word}
+use Rattle.delay_report.specs.Trains.{date_of_train, clock_of_train}
 
 -- a row as csv writes it: quotes only where they are needed, and an LF at its end
 abbrev pub row : List (List ℕ) → List ℕ

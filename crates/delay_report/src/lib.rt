@@ -2,6 +2,7 @@
 #![tactic(auto)]
 
 mod clocks;
+mod journeys;
 mod objects;
 mod replies;
 mod table;

@@ -1,11 +1,12 @@
 //! The JSON objects of replies.
 
-ghost use Rattle.std.specs.Prelude.{◌≡◌, codes, IfOk};
+ghost use Rattle.std.specs.Prelude.{◌≡◌, ◌-◌, codes, IfOk};
 ghost use Rattle.serde_json.specs.Data.{unsigned, number, string, object, no_members, member};
 ghost use Rattle.serde_json.specs.View.{view};
-ghost use Rattle.schedule_build.specs.Directory.{date_of_day};
-ghost use Rattle.delay_report.specs.Clocks.{date_text};
-ghost use Rattle.delay_report.specs.Replies.{event_word, date_of_train, seconds_on_day, clock_of_train, bad_word, short_word, event_of_trip, event_object, plain_refusal, contradiction_object, rank_object, full_object, refusal_object, refused_extra_object, bad_object, flush_object};
+ghost use Rattle.schedule_build.specs.Directory.{date_of_day, base_of};
+ghost use Rattle.delay_report.specs.Clocks.{clock, date_text};
+ghost use Rattle.delay_report.specs.Replies.{event_word, bad_word, short_word, event_of_trip, event_object, plain_refusal, contradiction_object, rank_object, full_object, refusal_object, refused_extra_object, bad_object, flush_object};
+ghost use Rattle.delay_report.specs.Trains.{date_of_train, seconds_on_day};
 
 use crate::clocks::{date_text, write_clock};
 use crate::replies::BadLine;
@@ -55,15 +56,23 @@ pub(crate) fn date_of_train(dir: &Directory, train: TrainNo) -> [u8; 8]
     date_text(dir.date(dir.train_day(train)))
 }
 
+/// The seconds from the base of a service day to a time.
+pub(crate) fn seconds_after(day: Day, time: Time) -> u32
+    ensures { result ≡ time - base_of day }
+{
+    let base = 86_400 * u64::from(day.get());
+    u64::from(time.seconds()).saturating_sub(base) as u32
+}
+
 /// The seconds from the base of a train's service day to a time.
 pub(crate) fn seconds_on_day(dir: &Directory, train: TrainNo, time: Time) -> u32
     ensures { result ≡ seconds_on_day dir.now train time }
 {
-    let base = dir.base(dir.train_day(train));
-    time.seconds().saturating_sub(base.seconds())
+    seconds_after(dir.train_day(train), time)
 }
 
-fn date_value(alloc: Global, dir: &Directory, day: Day) -> Result<Value, OutOfMemory>
+/// The date of a service day, in eight digits.
+pub(crate) fn date_value(alloc: Global, dir: &Directory, day: Day) -> Result<Value, OutOfMemory>
     ensures { IfOk result (λ v. view v ≡ string (date_text (date_of_day dir.now day))) }
 {
     let digits = date_text(dir.date(day));
@@ -71,16 +80,12 @@ fn date_value(alloc: Global, dir: &Directory, day: Day) -> Result<Value, OutOfMe
     json!(in alloc; text)
 }
 
-fn clock_value(
-    alloc: Global,
-    dir: &Directory,
-    train: TrainNo,
-    time: Time,
-) -> Result<Value, OutOfMemory>
-    ensures { IfOk result (λ v. view v ≡ string (clock_of_train dir.now train time)) }
+/// The time of day so many seconds after the base of a service day.
+pub(crate) fn clock_value(alloc: Global, seconds: u32) -> Result<Value, OutOfMemory>
+    ensures { IfOk result (λ v. view v ≡ string (clock seconds)) }
 {
     let mut digits = Vec::new(alloc);
-    write_clock(&mut digits, seconds_on_day(dir, train, time))?;
+    write_clock(&mut digits, seconds)?;
     let text = str::from_utf8(&digits).unwrap();
     json!(in alloc; text)
 }
@@ -98,7 +103,7 @@ fn event_of_trip(
     let date = date_value(alloc, dir, day)?;
     json!(in alloc; {
         "call": u64::from(event.label.get()),
-        "date": &date,
+        "date": date,
         "event": event_word(event.dep),
         "trip": trip
     })
@@ -128,18 +133,18 @@ fn contradiction_value(
 ) -> Result<Value, OutOfMemory>
     ensures { IfOk result (λ v. view v ≡ contradiction_object dir.now line event.now reported) }
 {
-    let reported = clock_value(alloc, dir, event.train, reported)?;
+    let reported = clock_value(alloc, seconds_on_day(dir, event.train, reported))?;
     let event = event_value(alloc, dir, event)?;
     json!(in alloc; {
-        "event": &event,
+        "event": event,
         "line": line,
         "refused": "Contradiction",
-        "reported": &reported
+        "reported": reported
     })
 }
 
-fn rank_value(alloc: Global, line: u64, from: &Value, to: &Value) -> Result<Value, OutOfMemory>
-    ensures { IfOk result (λ v. view v ≡ rank_object line (view from.now) (view to.now)) }
+fn rank_value(alloc: Global, line: u64, from: Value, to: Value) -> Result<Value, OutOfMemory>
+    ensures { IfOk result (λ v. view v ≡ rank_object line (view from) (view to)) }
 {
     json!(in alloc; {"from": from, "line": line, "refused": "AgainstRank", "to": to})
 }
@@ -169,7 +174,7 @@ pub(crate) fn refusal_value(
         Refusal::AgainstRank { from, to } => {
             let from = event_value(alloc, dir, from)?;
             let to = event_value(alloc, dir, to)?;
-            rank_value(alloc, line, &from, &to)
+            rank_value(alloc, line, from, to)
         }
         Refusal::Full { what } => full_value(alloc, line, *what),
     }
@@ -189,7 +194,7 @@ pub(crate) fn refused_extra_value(
 {
     let from = event_of_trip(alloc, dir, trip, day, from)?;
     let to = event_of_trip(alloc, dir, trip, day, to)?;
-    rank_value(alloc, line, &from, &to)
+    rank_value(alloc, line, from, to)
 }
 
 /// The object for a line that says nothing.

@@ -5,13 +5,16 @@ ghost use Rattle.serde_json.specs.View.{view};
 ghost use Rattle.serde_json.specs.Written.{has_float};
 ghost use Rattle.delay_report.specs.Replies.{accepted_object, line_of, text_of_reply};
 
+use crate::journeys::{journey_value, no_journey_value};
 use crate::objects::{bad_value, flush_value, refusal_value, refused_extra_value};
 use delay_model::messages::Refusal;
 use itoa::Buffer;
 use mt_base::keys::Node;
 use mt_base::memory::OutOfMemory;
 use mt_base::names::Name;
-use mt_base::numbers::Day;
+use mt_base::numbers::{Day, Time};
+use mt_base::plans::PlanRide;
+use mt_base::rows::Rows;
 use schedule_build::Directory;
 use serde_json::Value;
 use std::alloc::Global;
@@ -30,9 +33,9 @@ pub enum BadLine {
     Json,
     /// Its members are not those of a line.
     Shape,
-    /// It names no stop.
+    /// A query names a place that is neither a stop nor a station.
     Stop,
-    /// It has a bad time or date.
+    /// A date or a time of day is none, or the date of a query is not loaded.
     Time,
 }
 
@@ -69,6 +72,20 @@ pub enum Reply {
     Flush {
         line: u64,
         count: u64,
+    },
+    /// The answer to a query after so many accepted messages: these rides, in their order, are a journey that arrives at this time,
+    /// which counts from the base of day 0, and none arrives earlier. The time of the query lies on this service day.
+    Journey {
+        line: u64,
+        after: u64,
+        day: Day,
+        arrives: Time,
+        rides: Rows<PlanRide>,
+    },
+    /// The answer to a query after so many accepted messages: it has no journey.
+    NoJourney {
+        line: u64,
+        after: u64,
     },
 }
 
@@ -108,7 +125,7 @@ fn object_text(alloc: Global, value: &Value) -> Result<Vec<u8>, OutOfMemory>
 }
 
 /// The bytes of a reply: a JSON object without blanks, and an LF.
-#[tactic(auto, unfolding(crate::specs::Replies::text_of_reply))]
+#[tactic(auto, using(crate::proofs::ReplyTexts::rides_are_whole), unfolding(crate::specs::Replies::text_of_reply))]
 pub fn reply_text(alloc: Global, reply: &Reply, dir: &Directory) -> Result<Vec<u8>, OutOfMemory>
     ensures { IfOk result (λ b. b.items ≡ text_of_reply dir.now reply.now) }
 {
@@ -133,5 +150,18 @@ pub fn reply_text(alloc: Global, reply: &Reply, dir: &Directory) -> Result<Vec<u
         ),
         Reply::Bad { line, bad } => object_text(alloc, &bad_value(alloc, *line, *bad)?),
         Reply::Flush { line, count } => object_text(alloc, &flush_value(alloc, *line, *count)?),
+        Reply::Journey {
+            line,
+            after,
+            day,
+            arrives,
+            rides,
+        } => object_text(
+            alloc,
+            &journey_value(alloc, dir, *line, *after, *day, *arrives, rides.as_slice())?,
+        ),
+        Reply::NoJourney { line, after } => {
+            object_text(alloc, &no_journey_value(alloc, *line, *after)?)
+        }
     }
 }

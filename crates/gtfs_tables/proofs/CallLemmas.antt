@@ -1,5 +1,5 @@
 -- The calls of a trip by the first and the last of them.
-use Rattle.std.proofs.Common.{◌≡◌, ◌∙◌, ◌≤◌, ◌+◌, ◌∷◌, [], ℕ, suc, arith, List, length, get_or, refl, sym, ap}
+use Rattle.std.proofs.Common.{◌≡◌, ◌≤◌, ◌+◌, ◌∷◌, [], ℕ, suc, arith, List, length, get_or, refl}
 use Rattle.gtfs_tables.specs.declared.calls.CallTimes.{CallTimes}
 use Rattle.gtfs_tables.specs.declared.faults.Cause.TheVariants.{UntimedEnd}
 use Rattle.gtfs_tables.specs.Checks.{check, fault, ◌>>=◌}
@@ -18,5 +18,4 @@ check_trip-ends [] d e last many at = absurd (omega arith)
 check_trip-ends (call ∷ []) d e last many at = absurd (omega arith)
 check_trip-ends (call ∷ next ∷ rest) d e last many at =
     let place : last ≡ suc (length rest) = omega arith in
-    let here : get_or (call ∷ next ∷ rest) last e ≡ last_call next rest = ap (λ (i : ℕ). get_or (call ∷ next ∷ rest) i e) place ∙ last_call_at next rest e in
-    sym (ap (λ (x : CallTimes). check (fault call.row UntimedEnd) (is_timed call) >>= λ _. check (fault x.row UntimedEnd) (is_timed x) >>= λ _. check_order 0 (call ∷ next ∷ rest)) here)
+    rw (place, last_call_at next rest e) refl

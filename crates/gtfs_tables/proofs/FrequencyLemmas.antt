@@ -1,5 +1,5 @@
 -- Whether a second record follows the first.
-use Rattle.std.proofs.Common.{◌≡◌, ◌∙◌, ◌∷◌, ℕ, List, Bool, true, false, Result, Ok, Err, ap}
+use Rattle.std.proofs.Common.{◌≡◌, ◌∷◌, ℕ, arith, List, Bool, true, false, Result, Ok, Err}
 use Rattle.std.specs.Prelude.{IfOk, IfErr}
 use Rattle.csv.specs.declared.reader.Reader.{Reader}
 use Rattle.gtfs_tables.specs.declared.faults.TableError.{TableError}
@@ -12,10 +12,6 @@ use Rattle.gtfs_tables.specs.Texts.{Text, Remains, Steps}
 pub second_record : (found : Result Bool TableError) (old new : Reader Text) (header fields : List (List ℕ)) (all rest : List (List (List ℕ)))
     → all ≡ header ∷ rest → Remains old rest → IfOk found (λ b. Steps old new b fields) → IfErr found (λ e. e ≡ errors.OutOfMemory)
     → Gives (λ (b : Bool). b) found (Ok (has_rows all))
-second_record (Ok true) old new header fields all rest split remains steps memory =
-    let more = steps rest remains in
-    ap (λ (rs : List (List (List ℕ))). Ok (has_rows rs)) (split ∙ ap (λ (rs : List (List (List ℕ))). header ∷ rs) more.1)
-second_record (Ok false) old new header fields all rest split remains steps memory =
-    ap (λ (rs : List (List (List ℕ))). Ok (has_rows rs)) (split ∙ ap (λ (rs : List (List (List ℕ))). header ∷ rs) (steps rest remains))
-second_record (Err errors.OutOfMemory) old new header fields all rest split remains steps memory = tt
-second_record (Err (errors.Bad f)) old new header fields all rest split remains steps memory = absurd (cc memory)
+second_record (Ok true) old new header fields all rest split remains steps memory = let more = steps rest remains in grind (arith, more.1)
+second_record (Ok false) old new header fields all rest split remains steps memory = let none = steps rest remains in grind (arith, none)
+second_record (Err e) old new header fields all rest split remains steps memory = grind arith

@@ -1,5 +1,5 @@
 -- The ids of rows after one more id.
-use Rattle.std.proofs.Common.{◌≡◌, ◌++◌, ◌∷◌, [], ℕ, List, Option, Some, None, Bool, true, false, Ok, length, refl, sym}
+use Rattle.std.proofs.Common.{◌≡◌, ◌++◌, ◌∷◌, [], arith, ℕ, List, Option, Some, Bool, Ok, length}
 use Rattle.std.specs.Prelude.{bytes_eq, is_some, not, if◌then◌else◌}
 use Rattle.gtfs_tables.specs.Ids.{AddsId, number_of_id}
 use Rattle.gtfs_tables.specs.Numbers.{number_from}
@@ -9,9 +9,6 @@ use Rattle.gtfs_tables.proofs.NumberLemmas.{number_from-more}
 -- an id that got the next number is one more, where there was no number for it
 pub adds_id : (added : Bool) (n : ℕ) (id : List ℕ) (names : List (List ℕ)) (old : Option ℕ) (ids : Ids) → is_some old ≡ not added → old ≡ number_from 0 id names → n ≡ length names
     → ((name : List ℕ) → number_of_id ids name ≡ (if bytes_eq id name then Some n else number_from 0 name names)) → AddsId (Ok added) id names ids
-adds_id true n id names None ids fresh before next updates =
-    let none : number_from 0 id names ≡ None = sym before in
-    (none, record { found = λ name. number_from-more name id names (names ++ id ∷ []) n (number_from 0 name names) (number_of_id ids name) (updates name) refl none next refl })
-adds_id true n id names (Some k) ids fresh before next updates = absurd (cc fresh)
-adds_id false n id names None ids fresh before next updates = absurd (cc fresh)
-adds_id false n id names (Some k) ids fresh before next updates = (k, sym before)
+adds_id added n id names old ids fresh before next updates =
+    let more : (name : List ℕ) → _ = λ name. number_from-more name id names (names ++ id ∷ []) n (number_from 0 name names) (number_of_id ids name) (updates name) in
+    grind (arith, more)

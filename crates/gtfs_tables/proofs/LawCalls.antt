@@ -1,32 +1,23 @@
 -- What the rows of `stop_times.txt` keep, each by itself: their trips and their stops are there, and no time is above 99:59:59.
-use Rattle.std.proofs.Common.{rules, ◌≡◌, ℕ, ◌==◌, List, true, false, Option, Some, None, IsSomeAnd, Ok, All, is_none, length, slice_get, subst}
+use Rattle.std.proofs.Common.{◌≡◌, ℕ, List, Some, Ok, All, length, subst, arith}
+use Rattle.std.proofs.lemmas.Bool.Decides.{nat_tests}
 use Rattle.std.proofs.lemmas.List.Elements.{All-push}
-use Rattle.std.specs.BTreeMap.{is_at}
-use Rattle.std.specs.Map.{lookup}
-use Rattle.std.specs.Option.{option_map_or}
 use Rattle.mt_base.specs.declared.tables.CallRow.{CallRow}
 use Rattle.mt_base.specs.declared.tables.StopRow.{StopRow}
 use Rattle.feed_tables.specs.Lawful.{HasKind, IsCall}
 use Rattle.gtfs_tables.specs.declared.columns.Column.{Column}
-use Rattle.gtfs_tables.specs.declared.columns.Column.TheVariants.{TripId, ArrivalTime, DepartureTime, StopId, StopSequence, PickupType, DropOffType}
-use Rattle.gtfs_tables.specs.declared.faults.Cause.TheVariants.{BadTime, BadNumber, UnknownReference, DuplicateKey}
+use Rattle.gtfs_tables.specs.declared.faults.Cause.TheVariants.{BadTime, BadNumber, UnknownReference}
 use Rattle.gtfs_tables.specs.Checks.{fault}
 use Rattle.gtfs_tables.specs.Fields.{time_of, number_of, number_or_zero}
 use Rattle.gtfs_tables.specs.Numbers.{number_from}
-use Rattle.gtfs_tables.specs.Stops.{stop_ids}
-use Rattle.gtfs_tables.specs.StopTimes.{Calls, Named, call_of, call_step, is_stop, key_cmp, stop_named, with_call}
+use Rattle.gtfs_tables.specs.StopTimes.{Calls, Named, call_of, call_step, stop_named, with_call}
 use Rattle.gtfs_tables.proofs.LawKeptRows.{IsAlike, alike-more}
 use Rattle.gtfs_tables.proofs.LawNames.{number-below}
-use Rattle.gtfs_tables.proofs.LawSteps.{bind-ok, ok-same, check-ok, need-ok, tested}
+use Rattle.gtfs_tables.proofs.LawSteps.{need-ok, ok-same}
 use Rattle.gtfs_tables.proofs.LawTimes.{time-small}
 
-kind-here : (o : Option StopRow) → option_map_or (λ (row : StopRow). row.kind == 0) o false ≡ true → IsSomeAnd o (λ (row : StopRow). row.kind ≡ 0)
-kind-here None h = absurd (cc h)
-kind-here (Some row) h = search rules
-
 stop-there : (stops : List StopRow) (id : List ℕ) (n : ℕ) → stop_named stops id ≡ Some n → HasKind stops 0 n
-stop-there stops id n h =
-    kind-here (slice_get stops n) (tested (is_stop stops) (number_from 0 id (stop_ids stops)) n h).1
+stop-there stops id n h = grind (arith, nat_tests)
 
 call-read : (named : Named) (row : ℕ) (trip arr dep stop seq pickup drop_off : List ℕ) (call : CallRow) → call_of named row trip arr dep stop seq pickup drop_off ≡ Ok call → IsCall named.stops (length named.trips) call
 unfolding call_of
@@ -38,26 +29,14 @@ call-read named row trip arr dep stop seq pickup drop_off call h =
     let s = need-ok (fault row BadNumber) (number_of seq) _ call p.2 in
     let u = need-ok (fault row BadNumber) (number_or_zero pickup) _ call s.2 in
     let o = need-ok (fault row BadNumber) (number_or_zero drop_off) _ call u.2 in
-    subst (IsCall named.stops (length named.trips)) (ok-same o.2) (record {
-      trip = number-below trip named.trips t.0 t.1;
-      stop = stop-there named.stops stop p.0 p.1;
-      arr = time-small arr a.0 a.1;
-      dep = time-small dep d.0 d.1;
-    })
+    let there = number-below trip named.trips t.0 t.1 in
+    subst (IsCall named.stops (length named.trips)) (ok-same o.2) (record { trip = there; stop = stop-there named.stops stop p.0 p.1; arr = time-small arr a.0 a.1; dep = time-small dep d.0 d.1 })
 
 -- what the rows so far made
 pub record AreCalls (named : Named) (s : Calls) : Type 0 where
   pub alike : IsAlike s.rows s.by_key
   pub calls : All (IsCall named.stops (length named.trips)) s.rows
 
-call-with : (named : Named) (row : ℕ) (call : CallRow) (s next : Calls) → with_call row call s ≡ Ok next → IsCall named.stops (length named.trips) call → AreCalls named s → AreCalls named next
-unfolding with_call
-call-with named row call s next h c k =
-    let new = check-ok (fault row DuplicateKey) (is_none (lookup (is_at (key_cmp (call.trip, call.seq))) s.by_key)) _ next h in
-    subst (AreCalls named) (ok-same new.1) (record { alike = alike-more s.rows s.by_key row call new.0 k.alike; calls = All-push (IsCall named.stops (length named.trips)) s.rows call k.calls c })
-
 pub call-added : (named : Named) (row : ℕ) (field : Column → List ℕ) (s next : Calls) → call_step named row field s ≡ Ok next → AreCalls named s → AreCalls named next
-call-added named row field s next h k =
-    let read = call_of named row (field TripId) (field ArrivalTime) (field DepartureTime) (field StopId) (field StopSequence) (field PickupType) (field DropOffType) in
-    let p = bind-ok read (λ call. with_call row call s) next h in
-    call-with named row p.0 s next p.2 (call-read named row (field TripId) (field ArrivalTime) (field DepartureTime) (field StopId) (field StopSequence) (field PickupType) (field DropOffType) p.0 p.1) k
+unfolding with_call
+call-added named row field s next h k = grind (arith, call-read named row, alike-more s.rows s.by_key row, All-push (IsCall named.stops (length named.trips)) s.rows)

@@ -1,15 +1,14 @@
 -- Names by number: each number is below the number of names, and no name stands there twice.
-use Rattle.std.proofs.Common.{◌≡◌, ◌≢◌, ℕ, ◌+◌, ◌<◌, ◌≤◌, List, [], ◌∷◌, ◌++◌, true, Option, Some, None, All, is_none, length, map, unwrap_or, refl, sym, ap, subst, arith, inl, inr}
-use Rattle.std.proofs.lemmas.Bool.{cases_Bool}
-use Rattle.std.proofs.lemmas.List.{length_push, map_push}
+use Rattle.std.proofs.Common.{◌≡◌, ◌≢◌, ℕ, ◌+◌, ◌<◌, ◌≤◌, List, [], ◌∷◌, ◌++◌, true, Some, All, is_none, length, map, arith}
+use Rattle.std.proofs.lemmas.Grind.{common_steps}
+use Rattle.std.proofs.lemmas.List.{map_push}
 use Rattle.std.proofs.lemmas.List.Elements.{All-nil, All-cons, All-head, All-tail, All-push}
 use Rattle.std.proofs.lemmas.Slice.Eq.{bytes_eq-Decides}
-use Rattle.std.specs.Prelude.{bytes_eq}
 use Rattle.feed_tables.specs.Lawful.{AreDistinct}
-use Rattle.gtfs_tables.specs.Numbers.{number_from, with_name, number_in, names_with}
+use Rattle.gtfs_tables.specs.Numbers.{number_from, number_in, names_with}
 
 -- one more at the end that is not there
-pub distinct-push : {X : Type 0} (xs : List X) (x : X) → AreDistinct xs → All (λ y. y ≢ x) xs → AreDistinct (xs ++ x ∷ [])
+distinct-push : {X : Type 0} (xs : List X) (x : X) → AreDistinct xs → All (λ y. y ≢ x) xs → AreDistinct (xs ++ x ∷ [])
 unfolding AreDistinct
 distinct-push [] x h none = (All-nil (λ y. x ≢ y), tt)
 distinct-push (y ∷ ys) x h none =
@@ -18,24 +17,15 @@ distinct-push (y ∷ ys) x h none =
 -- a name without a number is none of the names
 not-there : (at : ℕ) (name : List ℕ) (names : List (List ℕ)) → is_none (number_from at name names) ≡ true → All (λ other. other ≢ name) names
 not-there at name [] h = All-nil (λ other. other ≢ name)
-not-there at name (first ∷ names) h = elim (cases_Bool (bytes_eq name first)) [
-  | inl same ↦ absurd (cc (rw same at h))
-  | inr differs ↦ All-cons (λ other. other ≢ name) first names (λ e. absurd (let t = (bytes_eq-Decides name first).1 (sym e) in cc)) (not-there (at + 1) name names (rw differs at h))
-]
+not-there at name (first ∷ names) h = grind (arith, bytes_eq-Decides name first, not-there (at + 1) name names, All-cons (λ other. other ≢ name) first names)
 
 -- a row more whose id no earlier row has
 pub ids-push : {X : Type 0} (id : X → List ℕ) (rows : List X) (row : X) → AreDistinct (map id rows) → is_none (number_from 0 (id row) (map id rows)) ≡ true → AreDistinct (map id (rows ++ row ∷ []))
-ids-push id rows row h new = subst AreDistinct (sym (map_push id rows row)) (distinct-push (map id rows) (id row) h (not-there 0 (id row) (map id rows) new))
+ids-push id rows row h new = rw (map_push id rows row) (distinct-push (map id rows) (id row) h (not-there 0 (id row) (map id rows) new))
 
 below-from : (at : ℕ) (name : List ℕ) (names : List (List ℕ)) (n : ℕ) → number_from at name names ≡ Some n → n < at + length names
 below-from at name [] n h = absurd (cc h)
-below-from at name (first ∷ names) n h = elim (cases_Bool (bytes_eq name first)) [
-  | inl same ↦
-      let e : Some at ≡ Some n = rw same at h in
-      let here : at ≡ n = cc e in
-      omega arith
-  | inr differs ↦ omega (arith, below-from (at + 1) name names n (rw differs at h))
-]
+below-from at name (first ∷ names) n h = grind (arith, below-from (at + 1) name names)
 
 pub number-below : (name : List ℕ) (names : List (List ℕ)) (n : ℕ) → number_from 0 name names ≡ Some n → n < length names
 number-below name names n h = omega (arith, below-from 0 name names n h)
@@ -46,12 +36,5 @@ pub record HasName (name : List ℕ) (names : List (List ℕ)) : Type 0 where
   pub longer : length names ≤ length (names_with name names)
   pub distinct : AreDistinct names → AreDistinct (names_with name names)
 
-has-name : (name : List ℕ) (names : List (List ℕ)) (found : Option ℕ) → number_from 0 name names ≡ found
-    → (unwrap_or found (length names) < length (with_name found name names)) × (length names ≤ length (with_name found name names)) × (AreDistinct names → AreDistinct (with_name found name names))
-has-name name names None e =
-    let more = length_push names name in
-    (omega (arith, more), omega (arith, more), λ h. distinct-push names name h (not-there 0 name names (ap is_none e)))
-has-name name names (Some n) e = (number-below name names n e, omega arith, λ h. h)
-
 pub with-name : (name : List ℕ) (names : List (List ℕ)) → HasName name names
-with-name name names = let h = has-name name names (number_from 0 name names) refl in record { below = h.0; longer = h.1; distinct = h.2 }
+with-name name names = grind (arith, common_steps, number-below name names, distinct-push names name, not-there 0 name names)

@@ -1,22 +1,21 @@
 -- What the rows of `calendar.txt` and `calendar_dates.txt` keep: each is of one of the services, and dates are of the calendar.
 use Rattle.std.proofs.Common.{◌≡◌, ℕ, ◌≤◌, List, [], Bool, true, Some, Ok, All, not, length, subst, arith}
+use Rattle.std.proofs.lemmas.Bool.Decides.{nat_tests}
+use Rattle.std.proofs.lemmas.Int.{ints}
 use Rattle.std.proofs.lemmas.List.Elements.{All-nil, All-push, All-weaker}
 use Rattle.mt_base.specs.Civil.{IsCivil, is_civil}
 use Rattle.mt_base.specs.declared.tables.CalendarRow.{CalendarRow}
-use Rattle.mt_base.specs.declared.tables.DateRow.{DateRow}
 use Rattle.feed_tables.specs.Lawful.{AreDistinct, IsWeekly, IsException}
 use Rattle.gtfs_tables.specs.declared.columns.Column.{Column}
-use Rattle.gtfs_tables.specs.declared.columns.Column.TheVariants.{ServiceId, Monday, Tuesday, Wednesday, Thursday, Friday, Saturday, Sunday, StartDate, EndDate, Date, ExceptionType}
-use Rattle.gtfs_tables.specs.declared.faults.Cause.TheVariants.{BadDate, BadNumber, DuplicateKey}
+use Rattle.gtfs_tables.specs.declared.columns.Column.TheVariants.{ServiceId, Monday, Tuesday, Wednesday, Thursday, Friday, Saturday, Sunday}
 use Rattle.gtfs_tables.specs.Calendar.{Calendar, calendar_columns, calendar_of, calendar_step, days_of, has_service, with_service}
-use Rattle.gtfs_tables.specs.CalendarDates.{Dates, added_of, calendar_dates_of, date_columns, date_step, has_date, with_date}
+use Rattle.gtfs_tables.specs.CalendarDates.{Dates, calendar_dates_of, date_columns, date_step, with_date}
+use Rattle.gtfs_tables.specs.declared.faults.Cause.TheVariants.{BadDate, DuplicateKey}
 use Rattle.gtfs_tables.specs.Checks.{fault}
 use Rattle.gtfs_tables.specs.Fields.{date_of, eight_digits}
-use Rattle.gtfs_tables.specs.Numbers.{number_in}
+use Rattle.gtfs_tables.specs.Numbers.{number_in, names_with}
 use Rattle.gtfs_tables.proofs.LawNames.{with-name}
-use Rattle.gtfs_tables.proofs.LawSteps.{bind-ok, ok-same, check-ok, need-ok, tested, table-keeps}
-use Rattle.std.proofs.lemmas.Bool.Decides.{nat_tests}
-use Rattle.std.proofs.lemmas.Int.{ints}
+use Rattle.gtfs_tables.proofs.LawSteps.{check-ok, ok-same, bind-ok, need-ok, table-keeps, tested}
 
 civil : (date : ℕ) → is_civil date ≡ true → IsCivil date
 civil date h = grind (arith, nat_tests, ints)
@@ -33,29 +32,23 @@ pub record IsCalendar (least : ℕ) (s : Calendar) : Type 0 where
 
 -- there may be more services than there were
 pub more-weekly : (services more : ℕ) (rows : List CalendarRow) → services ≤ more → All (IsWeekly services) rows → All (IsWeekly more) rows
-more-weekly services more rows l h = All-weaker (IsWeekly services) (IsWeekly more) (λ row t. record { service = omega (arith, t.service); first = t.first; last = t.last }) rows h
+more-weekly services more rows l h = All-weaker (IsWeekly services) (IsWeekly more) (λ row t. grind arith) rows h
 
 service-added : (least row : ℕ) (name : List ℕ) (days : List Bool) (first last : ℕ) (s next : Calendar) → with_service row name days first last s ≡ Ok next → IsCivil first → IsCivil last → IsCalendar least s → IsCalendar least next
 unfolding with_service
 service-added least row name days first last s next h c d k =
     let new = with-name name s.services in
-    let service = number_in name s.services in
-    let weekly : CalendarRow = record { service = service; days = days; first = first; last = last } in
-    let free = check-ok (fault row DuplicateKey) (not (has_service service s.rows)) _ next h in
-    subst (IsCalendar least) (ok-same free.1) (record {
-      rows = All-push (IsWeekly _) s.rows weekly (more-weekly (length s.services) _ s.rows new.longer k.rows) (record { service = new.below; first = c; last = d });
-      names = new.distinct k.names;
-      longer = omega (arith, k.longer, new.longer);
-    })
+    let rows = more-weekly (length s.services) _ s.rows new.longer k.rows in
+    let free = check-ok (fault row DuplicateKey) (not (has_service (number_in name s.services) s.rows)) _ next h in
+    let weekly = All-push (IsWeekly _) s.rows _ rows (record { service = new.below; first = c; last = d }) in
+    subst (IsCalendar least) (ok-same free.1) (record { rows = weekly; names = new.distinct k.names; longer = omega (arith, k.longer, new.longer) })
 
 calendar-added : (least row : ℕ) (field : Column → List ℕ) (s next : Calendar) → calendar_step row field s ≡ Ok next → IsCalendar least s → IsCalendar least next
 calendar-added least row field s next h k =
     let days = bind-ok (days_of row (field Monday) (field Tuesday) (field Wednesday) (field Thursday) (field Friday) (field Saturday) (field Sunday)) _ next h in
-    let first = need-ok (fault row BadDate) (date_of (field StartDate)) _ next days.2 in
-    let last = need-ok (fault row BadDate) (date_of (field EndDate)) (λ last. with_service row (field ServiceId) days.0 first.0 last s) next first.2 in
-    service-added least row (field ServiceId) days.0 first.0 last.0 s next last.2
-    (date-civil (field StartDate) first.0 first.1)
-    (date-civil (field EndDate) last.0 last.1) k
+    let first = need-ok (fault row BadDate) _ _ next days.2 in
+    let last = need-ok (fault row BadDate) _ _ next first.2 in
+    service-added least row _ _ _ _ s next last.2 (date-civil _ _ first.1) (date-civil _ _ last.1) k
 
 pub no-weekly : (names : List (List ℕ)) → AreDistinct names → IsCalendar (length names) (record { services = names; rows = [] })
 no-weekly names h = record { rows = All-nil (IsWeekly (length names)); names = h; longer = omega arith }
@@ -70,24 +63,13 @@ pub record AreDates (least : ℕ) (s : Dates) : Type 0 where
   pub names : AreDistinct s.services
   pub longer : least ≤ length s.services
 
-date-added : (least row : ℕ) (name : List ℕ) (date : ℕ) (added : Bool) (s next : Dates) → with_date row name date added s ≡ Ok next → IsCivil date → AreDates least s → AreDates least next
-unfolding with_date
-date-added least row name date added s next h c k =
-    let new = with-name name s.services in
-    let service = number_in name s.services in
-    let exception : DateRow = record { service = service; date = date; added = added } in
-    let free = check-ok (fault row DuplicateKey) (not (has_date service date s.rows)) _ next h in
-    subst (AreDates least) (ok-same free.1) (record {
-      rows = All-push (IsException _) s.rows exception (All-weaker (IsException (length s.services)) (IsException _) (λ row t. record { service = omega (arith, t.service, new.longer); date = t.date }) s.rows k.rows) (record { service = new.below; date = c });
-      names = new.distinct k.names;
-      longer = omega (arith, k.longer, new.longer);
-    })
-
 dates-added : (least row : ℕ) (field : Column → List ℕ) (s next : Dates) → date_step row field s ≡ Ok next → AreDates least s → AreDates least next
+unfolding with_date
 dates-added least row field s next h k =
-    let date = need-ok (fault row BadDate) (date_of (field Date)) _ next h in
-    let added = need-ok (fault row BadNumber) (added_of (field ExceptionType)) (λ added. with_date row (field ServiceId) date.0 added s) next date.2 in
-    date-added least row (field ServiceId) date.0 added.0 s next added.2 (date-civil (field Date) date.0 date.1) k
+    let more = length (names_with (field ServiceId) s.services) in
+    let new = with-name (field ServiceId) s.services in
+    let rows = All-weaker (IsException (length s.services)) (IsException more) (λ row t. record { service = omega (arith, t.service, new.longer); date = t.date }) s.rows k.rows in
+    grind (arith, date-civil, new, rows, All-push (IsException more) s.rows)
 
 pub no-dates : (names : List (List ℕ)) → AreDistinct names → AreDates (length names) (record { services = names; rows = [] })
 no-dates names h = record { rows = All-nil (IsException (length names)); names = h; longer = omega arith }

@@ -1,14 +1,10 @@
 -- What steps that went well say, and what every row of a table keeps.
-use Rattle.std.proofs.Common.{rules, ◌≡◌, ℕ, ◌+◌, ◌≤◌, List, [], ◌∷◌, Bool, true, false, cond, Option, Some, None, Result, Ok, Err, option_and_then, option_map, nat_lt, length, refl, ap, subst, if◌then◌else◌, inl, inr}
-use Rattle.std.proofs.lemmas.Bool.{cases_Bool}
-use Rattle.mt_base.specs.declared.tables.What.{What}
+use Rattle.std.proofs.Common.{arith, ◌≡◌, ℕ, ◌+◌, List, [], ◌∷◌, Bool, true, false, Option, Some, None, Result, Ok, Err, option_and_then, refl, subst, if◌then◌else◌}
 use Rattle.gtfs_tables.specs.declared.columns.Column.{Column}
 use Rattle.gtfs_tables.specs.declared.faults.Fault.{Fault}
-use Rattle.gtfs_tables.specs.declared.faults.Table.{Table}
-use Rattle.gtfs_tables.specs.declared.refusals.FeedRefusal.{FeedRefusal}
-use Rattle.gtfs_tables.specs.Checks.{Step, need, check, check_header, check_row, rows_from, table_from, ◌>>=◌}
+use Rattle.gtfs_tables.specs.Checks.{Step, need, check, rows_from, table_from, ◌>>=◌}
 use Rattle.gtfs_tables.specs.Columns.{field_in}
-use Rattle.gtfs_tables.specs.Feeds.{Records, Content, absent, too_long, holds, unless_bad, read_content, at_most}
+use Rattle.gtfs_tables.specs.Feeds.{Records}
 
 -- what goes on was good so far
 pub bind-ok : {A B E : Type 0} (r : Result A E) (f : A → Result B E) (y : B) → (r >>= f) ≡ Ok y → (x : A) × (r ≡ Ok x) × (f x ≡ Ok y)
@@ -31,22 +27,9 @@ pub need-ok : {A B : Type 0} (f : Fault) (o : Option A) (k : A → Result B Faul
 need-ok f None k y h = absurd (cc h)
 need-ok f (Some x) k y h = (x, refl, h)
 
-pub then-some : {A B : Type 0} (f : A → Option B) (o : Option A) (y : B) → option_and_then f o ≡ Some y → (x : A) × (o ≡ Some x) × (f x ≡ Some y)
-then-some f None y h = absurd (cc h)
-then-some f (Some x) y h = (x, refl, h)
-
-pub if-some : {A : Type 0} (b : Bool) (x y : A) → cond b (Some x) None ≡ Some y → (b ≡ true) × (x ≡ y)
-if-some true x y h = (refl, cc h)
-if-some false x y h = absurd (cc h)
-
 -- what was there and passed a test
 pub tested : {A : Type 0} (test : A → Bool) (o : Option A) (y : A) → option_and_then (λ x. if test x then Some x else None) o ≡ Some y → (o ≡ Some y) × (test y ≡ true)
-tested test None y h = absurd (cc h)
-tested test (Some x) y h = let p = if-some (test x) x y h in (ap Some p.1, subst (λ z. test z ≡ true) p.1 p.0)
-
-pub mapped : {A B : Type 0} (f : A → B) (o : Option A) (t : B) → option_map f o ≡ Some t → (x : A) × (o ≡ Some x) × (f x ≡ t)
-mapped f None t h = absurd (cc h)
-mapped f (Some x) t h = (x, refl, cc h)
+tested test o y h = grind arith
 
 -- ---- rows
 
@@ -56,35 +39,11 @@ Keeps {S} P step = (row : ℕ) (field : Column → List ℕ) (s next : S) → st
 
 rows-keep : {S : Type 0} (P : S → Type 0) (step : Step S) → Keeps P step → (header : List (List ℕ)) (row : ℕ) (s last : S) (rows : List (List (List ℕ))) → rows_from step header row s rows ≡ Ok last → P s → P last
 unfolding rows_from
-rows-keep P step keeps header row s last [] h k = subst P (ok-same h) k
-rows-keep P step keeps header row s last (fields ∷ rows) h k =
-    let p = bind-ok (check_row row (length header) fields) _ last h in
-    let q = bind-ok (step row (field_in header fields) s) (λ next. rows_from step header (row + 1) next rows) last p.2 in
-    rows-keep P step keeps header (row + 1) q.0 last rows q.2 (keeps row (field_in header fields) s q.0 q.1 k)
+rows-keep {S} P step keeps header row s last [] h k = subst P (ok-same h) k
+rows-keep {S} P step keeps header row s last (fields ∷ rows) h k = grind (arith, keeps row (field_in header fields) s, λ (next : S). rows-keep P step keeps header (row + 1) next last rows)
 
 -- what each row keeps is kept by all of them
 pub table-keeps : {S : Type 0} (P : S → Type 0) (step : Step S) → Keeps P step → (needed : List Column) (s last : S) (all : Records) → table_from needed step s all ≡ Ok last → P s → P last
 unfolding table_from
 table-keeps P step keeps needed s last [] h k = absurd (cc h)
-table-keeps P step keeps needed s last (header ∷ rows) h k =
-    let p = bind-ok (check_header needed header) (λ _. rows_from step header 2 s rows) last h in
-    rows-keep P step keeps header 2 s last rows p.2 k
-
--- ---- the tables of a feed
-
-unless_bad-ok : {A : Type 0} (t : Table) (r : Result A Fault) (x : A) → unless_bad t r ≡ Ok x → r ≡ Ok x
-unless_bad-ok t (Ok y) x h = cc h
-unless_bad-ok t (Err f) x h = absurd (cc h)
-
--- what a table keeps that is read, and what stands for one that is absent
-pub content-keeps : {A : Type 0} (P : A → Type 0) (t : Table) (otherwise : Result A FeedRefusal) (read : Records → Result A Fault) (content : Content) (x : A)
-    → read_content t otherwise read content ≡ Ok x → (otherwise ≡ Ok x → P x) → ((all : Records) → read all ≡ Ok x → P x) → P x
-content-keeps P t otherwise read absent x h none some = none h
-content-keeps P t otherwise read too_long x h none some = absurd (cc h)
-content-keeps P t otherwise read (holds all) x h none some = some all (unless_bad-ok t (read all) x h)
-
-pub at_most-ok : (most : ℕ) (w : What) (count : ℕ) (u : Unit {0}) → at_most most w count ≡ Ok u → count ≤ most
-at_most-ok most w count u h = elim (cases_Bool (nat_lt most count)) [
-  | inl more ↦ absurd (cc (rw more at h))
-  | inr fits ↦ search rules
-]
+table-keeps P step keeps needed s last (header ∷ rows) h k = grind (arith, rows-keep P step keeps header 2 s last rows)

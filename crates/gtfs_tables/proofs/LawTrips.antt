@@ -1,16 +1,14 @@
 -- What the rows of `trips.txt` keep: each has one of the routes and one of the services, and no two have one id.
-use Rattle.std.proofs.Common.{◌≡◌, ℕ, ◌≤◌, List, Ok, All, is_none, length, subst, arith}
+use Rattle.std.proofs.Common.{◌≡◌, ℕ, ◌≤◌, List, Ok, All, length, arith}
 use Rattle.std.proofs.lemmas.List.Elements.{All-nil, All-push, All-weaker}
 use Rattle.mt_base.specs.declared.tables.TripRow.{TripRow}
 use Rattle.feed_tables.specs.Lawful.{AreDistinct, IsTrip}
 use Rattle.gtfs_tables.specs.declared.columns.Column.{Column}
-use Rattle.gtfs_tables.specs.declared.columns.Column.TheVariants.{RouteId, ServiceId, TripId}
-use Rattle.gtfs_tables.specs.declared.faults.Cause.TheVariants.{DuplicateKey}
-use Rattle.gtfs_tables.specs.Checks.{fault}
-use Rattle.gtfs_tables.specs.Numbers.{number_from, number_in}
+use Rattle.gtfs_tables.specs.declared.columns.Column.TheVariants.{RouteId, ServiceId}
+use Rattle.gtfs_tables.specs.Numbers.{names_with}
 use Rattle.gtfs_tables.specs.Trips.{ListedTrips, no_trips, trip_columns, trip_ids, trip_step, trips_of}
 use Rattle.gtfs_tables.proofs.LawNames.{ids-push, with-name}
-use Rattle.gtfs_tables.proofs.LawSteps.{ok-same, check-ok, table-keeps}
+use Rattle.gtfs_tables.proofs.LawSteps.{table-keeps}
 
 -- the trips of a table without a fault
 pub record AreTrips (s : ListedTrips) : Type 0 where
@@ -21,21 +19,15 @@ pub record AreTrips (s : ListedTrips) : Type 0 where
 
 -- there may be more routes and services than there were
 pub more-names : (routes services more_routes more_services : ℕ) (rows : List TripRow) → routes ≤ more_routes → services ≤ more_services → All (IsTrip routes services) rows → All (IsTrip more_routes more_services) rows
-more-names routes services more_routes more_services rows l k h =
-    All-weaker (IsTrip routes services) (IsTrip more_routes more_services) (λ row t. record { route = omega (arith, t.route); service = omega (arith, t.service) }) rows h
+more-names routes services more_routes more_services rows l k h = All-weaker (IsTrip routes services) (IsTrip more_routes more_services) (λ row t. grind arith) rows h
 
 trip-added : (row : ℕ) (field : Column → List ℕ) (s next : ListedTrips) → trip_step row field s ≡ Ok next → AreTrips s → AreTrips next
 trip-added row field s next h k =
-    let route = with-name (field RouteId) s.routes in
-    let service = with-name (field ServiceId) s.services in
-    let trip : TripRow = record { id = field TripId; route = number_in (field RouteId) s.routes; service = number_in (field ServiceId) s.services } in
-    let new = check-ok (fault row DuplicateKey) (is_none (number_from 0 (field TripId) (trip_ids s.rows))) _ next h in
-    subst AreTrips (ok-same new.1) (record {
-      trips = All-push (IsTrip _ _) s.rows trip (more-names (length s.routes) (length s.services) _ _ s.rows route.longer service.longer k.trips) (record { route = route.below; service = service.below });
-      ids = ids-push (λ (trip : TripRow). trip.id) s.rows trip k.ids new.0;
-      routes = route.distinct k.routes;
-      services = service.distinct k.services;
-    })
+    let routes = names_with (field RouteId) s.routes in
+    let services = names_with (field ServiceId) s.services in
+    let ids = ids-push (λ (trip : TripRow). trip.id) s.rows in
+    let rows = more-names (length s.routes) (length s.services) (length routes) (length services) s.rows in
+    grind (arith, with-name (field RouteId) s.routes, with-name (field ServiceId) s.services, ids, rows, All-push (IsTrip (length routes) (length services)) s.rows)
 
 pub trips-keep : (all : List (List (List ℕ))) (s : ListedTrips) → trips_of all ≡ Ok s → AreTrips s
 unfolding AreDistinct

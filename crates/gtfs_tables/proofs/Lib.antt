@@ -21,4 +21,3 @@ pub mod LawTables
 pub mod LawTimes
 pub mod LawTrips
 pub mod LawTripwise
-pub mod FeedContents

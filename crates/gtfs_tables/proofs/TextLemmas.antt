@@ -1,11 +1,10 @@
 -- Fields without blanks round them are text where the fields are.
-use Rattle.std.proofs.Common.{◌≡◌, ◌<◌, ◌++◌, ◌∷◌, [], ℕ, zero, suc, List, Option, Some, None, true, length, reverse, get_or, inl, inr, sym, subst, arith}
+use Rattle.std.proofs.Common.{◌≡◌, ◌<◌, ◌++◌, ◌∷◌, [], ℕ, zero, suc, List, Option, Some, None, true, length, reverse, get_or, inl, inr, arith}
 use Rattle.std.proofs.Math.Seq.{take-append_seam, get_or-append_seam}
-use Rattle.std.proofs.lemmas.Bool.{cases_Bool, and_parts}
+use Rattle.std.proofs.lemmas.Bool.{cases_Bool}
 use Rattle.std.proofs.lemmas.List.{reverse-append, reverse-reverse, length-append}
 use Rattle.std.proofs.lemmas.Str.{IsUtf8-nil, IsUtf8-drop, IsUtf8-take, IsUtf8-from_is_utf8, IsCharBoundary-after_ascii, IsCharBoundary-before_ascii}
 use Rattle.std.specs.Prelude.{IsUtf8}
-use Rattle.std.specs.Str.{is_utf8}
 use Rattle.gtfs_tables.specs.Checks.{all_utf8}
 use Rattle.gtfs_tables.specs.Columns.{field_at_place}
 use Rattle.gtfs_tables.specs.Fields.{is_blank, trim_start, trimmed}
@@ -24,25 +23,24 @@ trim_start_text (byte ∷ bytes) text = elim (cases_Bool (is_blank byte)) [
 -- text without an ASCII byte at its end
 front_text : (front : List ℕ) (byte : ℕ) → byte < 128 → IsUtf8 (front ++ byte ∷ []) → IsUtf8 front
 front_text front byte small text =
-    let here : get_or (front ++ byte ∷ []) (length front) 0 ≡ byte = get_or-append_seam front byte [] 0 in
-    let inside : length front < length (front ++ byte ∷ []) = omega (arith, length-append front (byte ∷ [])) in
-    let low : get_or (front ++ byte ∷ []) (length front) 0 < 128 = omega arith in
-    subst IsUtf8 (take-append_seam front (byte ∷ [])) (IsUtf8-take (front ++ byte ∷ []) (length front) text (IsCharBoundary-before_ascii (front ++ byte ∷ []) (length front) inside low))
+    let whole = front ++ byte ∷ [] in
+    let low : get_or whole (length front) 0 < 128 = rw get_or-append_seam small in
+    rw (← take-append_seam front (byte ∷ [])) (IsUtf8-take whole (length front) text (IsCharBoundary-before_ascii whole (length front) (omega (arith, length-append front (byte ∷ []))) low))
 
 trim_back_text : (back : List ℕ) → IsUtf8 (reverse back) → IsUtf8 (reverse (trim_start back))
 trim_back_text [] text = text
 trim_back_text (byte ∷ back) text = elim (cases_Bool (is_blank byte)) [
-  | inl blank ↦ rw blank (trim_back_text back (front_text (reverse back) byte (blank_small byte blank) (subst IsUtf8 (reverse-append (byte ∷ []) back) text)))
+  | inl blank ↦ rw blank (trim_back_text back (front_text (reverse back) byte (blank_small byte blank) (rw (reverse-append (byte ∷ []) back) at text)))
   | inr other ↦ rw other text
 ]
 
 pub trimmed_text : (bytes : List ℕ) → IsUtf8 bytes → IsUtf8 (trimmed bytes)
-trimmed_text bytes text = trim_back_text (reverse (trim_start bytes)) (subst IsUtf8 (sym (reverse-reverse (trim_start bytes))) (trim_start_text bytes text))
+trimmed_text bytes text = trim_back_text (reverse (trim_start bytes)) (rw reverse-reverse (trim_start_text bytes text))
 
 field_text : (fields : List (List ℕ)) (i : ℕ) → all_utf8 fields ≡ true → IsUtf8 (get_or fields i [])
 field_text [] i good = IsUtf8-nil
-field_text (field ∷ fields) zero good = IsUtf8-from_is_utf8 field (and_parts (is_utf8 field) (all_utf8 fields) good).0
-field_text (field ∷ fields) (suc i) good = field_text fields i (and_parts (is_utf8 field) (all_utf8 fields) good).1
+field_text (field ∷ fields) zero good = grind (arith, IsUtf8-from_is_utf8 field)
+field_text (field ∷ fields) (suc i) good = grind (arith, field_text fields i)
 
 -- a field of a row whose fields are UTF-8 is text
 pub cell_text : (fields : List (List ℕ)) (place : Option ℕ) → all_utf8 fields ≡ true → IsUtf8 (field_at_place fields place)

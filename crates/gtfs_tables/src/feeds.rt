@@ -82,6 +82,7 @@ fn missing(table: Table) -> FeedError
     FeedError::Refused(FeedRefusal::Missing { table })
 }
 
+#[tactic(auto, unfolding(crate::specs::Feeds::stops_in))]
 fn read_stops_in<F: Feed>(alloc: Global, feed: &mut F, folder: &str) -> Result<Stops, FeedError>
     ensures made { (files : List ℕ → List ℕ → Option (List ℕ)) → F.tables feed.old ≡ Some files
         → Yields (λ stops. stops) result (stops_in (contents_of files folder.now)) }
@@ -98,6 +99,7 @@ fn read_stops_in<F: Feed>(alloc: Global, feed: &mut F, folder: &str) -> Result<S
     Ok(stops)
 }
 
+#[tactic(auto, unfolding(crate::specs::Feeds::trips_in))]
 fn read_trips_in<F: Feed>(alloc: Global, feed: &mut F, folder: &str) -> Result<Trips, FeedError>
     ensures made { (files : List ℕ → List ℕ → Option (List ℕ)) → F.tables feed.old ≡ Some files
         → Yields (λ trips. trips) result (trips_in (contents_of files folder.now)) }
@@ -112,6 +114,7 @@ fn read_trips_in<F: Feed>(alloc: Global, feed: &mut F, folder: &str) -> Result<T
     with_table(Table::Trips, read_trips(alloc, &text))
 }
 
+#[tactic(auto, unfolding(crate::specs::Feeds::calls_in))]
 fn read_calls_in<F: Feed>(
     alloc: Global,
     feed: &mut F,
@@ -135,6 +138,7 @@ fn read_calls_in<F: Feed>(
     )
 }
 
+#[tactic(auto, unfolding(crate::specs::Feeds::calendar_in))]
 fn read_calendar_in<F: Feed>(
     alloc: Global,
     feed: &mut F,
@@ -159,6 +163,7 @@ fn read_calendar_in<F: Feed>(
     Ok((rows, false))
 }
 
+#[tactic(auto, unfolding(crate::specs::Feeds::dates_in))]
 fn read_dates_in<F: Feed>(
     alloc: Global,
     feed: &mut F,
@@ -186,6 +191,7 @@ fn read_dates_in<F: Feed>(
     )
 }
 
+#[tactic(auto, unfolding(crate::specs::Feeds::transfers_in))]
 fn read_transfers_in<F: Feed>(
     alloc: Global,
     feed: &mut F,
@@ -207,6 +213,7 @@ fn read_transfers_in<F: Feed>(
     Ok(transfers.rows)
 }
 
+#[tactic(auto, unfolding(crate::specs::Feeds::rules_in))]
 fn read_rules_in<F: Feed>(
     alloc: Global,
     feed: &mut F,
@@ -233,6 +240,7 @@ fn read_rules_in<F: Feed>(
     Ok(rules)
 }
 
+#[tactic(auto, unfolding(crate::specs::Feeds::frequencies_in))]
 fn check_frequencies_in<F: Feed>(alloc: Global, feed: &mut F, folder: &str) -> Result<(), FeedError>
     ensures made { (files : List ℕ → List ℕ → Option (List ℕ)) → F.tables feed.old ≡ Some files
         → Yields (λ u. u) result (frequencies_in (contents_of files folder.now)) }
@@ -268,6 +276,7 @@ fn has_few_rows(t: &Tables) -> bool
 /// calendar_dates.txt, transfers.txt, waiting_rules.txt, frequencies.txt. `Refused` has the first cause to refuse the feed:
 /// a table that must be there is absent, a table is too long, has a fault or has too many rows. `ReadFault` comes only
 /// where the feed failed. `OutOfMemory` also comes where the rows of a table cannot be numbered with 32 bits.
+#[tactic(auto, unfolding(crate::specs::Feeds::tables_of))]
 pub fn read_tables<F: Feed>(
     alloc: Global,
     feed: &mut F,

@@ -53,6 +53,7 @@ fn digit(byte: u8) -> Option<u32>
 }
 
 /// The number of one to nine digits.
+#[tactic(auto, unfolding(crate::specs::Fields::digits_after))]
 pub fn number(bytes: &[u8]) -> Option<u32>
     ensures value { result ≡ number_of bytes.now }
     ensures small { IfSome result (λ n. n < 1000000000) }

@@ -1,2 +1,3 @@
 pub mod Rest
 pub mod SpelledLemmas
+pub mod Unnamed

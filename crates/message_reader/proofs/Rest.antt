@@ -9,7 +9,7 @@ use Rattle.mt_base.specs.declared.plans.NewCall.{NewCall}
 use Rattle.delay_model.specs.declared.messages.Refusal.{Refusal}
 use Rattle.schedule_build.specs.Directory.{Names}
 use Rattle.message_reader.specs.declared.bad.Bad.{Bad}
-use Rattle.message_reader.specs.declared.bad.Bad.TheVariants.{Utf8, Json, Shape, Time, OutOfMemory}
+use Rattle.message_reader.specs.declared.bad.Bad.TheVariants.{Utf8, Json, Shape, Stop, Time, OutOfMemory}
 use Rattle.message_reader.specs.declared.unresolved.ResolveFault.{ResolveFault}
 use Rattle.message_reader.specs.declared.unresolved.ResolveFault.TheVariants as faults
 use Rattle.message_reader.specs.declared.wire.WireCall.{WireCall}
@@ -33,6 +33,7 @@ fault_of_step OutOfMemory r f total h whole = tt
 fault_of_step Utf8 r f total h whole = sym whole ∙ ap (λ x. x >>= f) h
 fault_of_step Json r f total h whole = sym whole ∙ ap (λ x. x >>= f) h
 fault_of_step Shape r f total h whole = sym whole ∙ ap (λ x. x >>= f) h
+fault_of_step Stop r f total h whole = sym whole ∙ ap (λ x. x >>= f) h
 fault_of_step Time r f total h whole = sym whole ∙ ap (λ x. x >>= f) h
 
 -- ---- the shape of each call

@@ -2,7 +2,7 @@
 use Rattle.std.specs.Prelude.{◌≡◌, Bool, true, false, Some, None, Result, Ok, Err}
 use Rattle.std.specs.declared.option.Option.{Option}
 use Rattle.message_reader.specs.declared.bad.Bad.{Bad}
-use Rattle.message_reader.specs.declared.bad.Bad.TheVariants.{Utf8, Json, Shape, Time, OutOfMemory}
+use Rattle.message_reader.specs.declared.bad.Bad.TheVariants.{Utf8, Json, Shape, Stop, Time, OutOfMemory}
 
 infixl 10 ◌>>=◌
 -- the next step, unless there was a fault
@@ -26,6 +26,7 @@ Fails OutOfMemory read = Unit {0}
 Fails Utf8 read = read ≡ Err Utf8
 Fails Json read = read ≡ Err Json
 Fails Shape read = read ≡ Err Shape
+Fails Stop read = read ≡ Err Stop
 Fails Time read = read ≡ Err Time
 
 -- what a function returned, seen by `seen`, is what reading gives, unless memory ran out

@@ -15,5 +15,6 @@ kind_of name =
     else (if bytes_eq name (codes "keep") then Some kinds.Keep
     else (if bytes_eq name (codes "drop") then Some kinds.Drop
     else (if bytes_eq name (codes "rule") then Some kinds.Rule
+    else (if bytes_eq name (codes "query") then Some kinds.Query
     else (if bytes_eq name (codes "flush") then Some kinds.Flush
-    else None))))))))
+    else None)))))))))

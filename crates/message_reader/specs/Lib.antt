@@ -3,6 +3,7 @@ pub mod Fields
 pub mod Kinds
 pub mod Wires
 pub mod Messages
+pub mod Queries
 pub mod Lines
 pub mod Spelled
 pub mod Resolved

@@ -1,12 +1,15 @@
 -- What a line says, or its first fault. A line is one object of JSON, as
 --   {"v":1,"type":"forecast","trip":"T1","date":"20260105","call":1,"event":"arr","time":"08:36:00"}
+--   {"v":1,"type":"query","client":"c1","from":"A","to":"D","date":"20260105","time":"08:00:00"}
 --   {"v":1,"type":"keep","feeder":{"trip":"T1","date":"20260105","call":1},"train":{"trip":"T2","date":"20260105","call":0}}
 -- Members that are not named here are passed over, and of two members of one name the last counts. The faults, in order:
 --   Utf8   the bytes are no text
 --   Json   the text is no JSON, or nests deeper than `serde_json` reads
 --   Shape  the value is no object with `v` and `type`, or a member that its type needs is absent or of another kind
---   Time   a date is not eight digits that name a civil date, or a time is not H:MM:SS or HH:MM:SS
-use Rattle.std.specs.Prelude.{ℕ, ◌==◌, List, if◌then◌else◌, true, false, Result, Ok, Err, codes}
+--   Stop   a query names a place that is neither a stop nor a station
+--   Time   a date is not eight digits that name a civil date, a time is not H:MM:SS or HH:MM:SS, or the date of a query is not loaded
+use Rattle.std.specs.Prelude.{ℕ, ◌==◌, List, if◌then◌else◌, true, false, Some, None, Result, Ok, Err, codes}
+use Rattle.std.specs.declared.option.Option.{Option}
 use Rattle.std.specs.Str.{is_utf8}
 use Rattle.serde_json.specs.Data.{Data}
 use Rattle.serde_json.specs.Read.{read}
@@ -16,11 +19,14 @@ use Rattle.message_reader.specs.declared.kinds.Kind.{Kind}
 use Rattle.message_reader.specs.declared.kinds.Kind.TheVariants as kinds
 use Rattle.message_reader.specs.declared.wire.Connect.TheVariants as connects
 use Rattle.message_reader.specs.declared.wire.Line.{Line}
-use Rattle.message_reader.specs.declared.wire.Line.TheVariants.{Message, Flush}
+use Rattle.message_reader.specs.declared.wire.Line.TheVariants.{Message, Query, Flush}
+use Rattle.message_reader.specs.declared.wire.Wire.{Wire}
+use Rattle.schedule_build.specs.Directory.{Names}
 use Rattle.message_reader.specs.Chain.{◌>>=◌, need, unless}
 use Rattle.message_reader.specs.Fields.{text_at, number_at}
 use Rattle.message_reader.specs.Kinds.{kind_of}
 use Rattle.message_reader.specs.Messages.{event_of, cancel_of, reroute_of, extra_of, connect_of}
+use Rattle.message_reader.specs.Queries.{query_of}
 
 -- the bytes are a text in UTF-8
 abbrev pub utf8_of : List ℕ → Result (List ℕ) Bad
@@ -38,27 +44,35 @@ head_of d = do
   name ← need Shape (text_at (codes "type") d)
   need Shape (kind_of name)
 
--- what the object of a message says
-unfoldable pub message_of : Kind → Data → Result Line Bad
-message_of kinds.Forecast d = event_of false d >>= λ w. Ok (Message w)
-message_of kinds.Report d = event_of true d >>= λ w. Ok (Message w)
-message_of kinds.Cancel d = cancel_of d >>= λ w. Ok (Message w)
-message_of kinds.Reroute d = reroute_of d >>= λ w. Ok (Message w)
-message_of kinds.Extra d = extra_of d >>= λ w. Ok (Message w)
-message_of kinds.Keep d = connect_of connects.Keep d >>= λ w. Ok (Message w)
-message_of kinds.Drop d = connect_of connects.Drop d >>= λ w. Ok (Message w)
-message_of kinds.Rule d = connect_of connects.Rule d >>= λ w. Ok (Message w)
-message_of kinds.Flush d = Ok Flush
+-- what an object says, by the type of its line
+unfoldable pub message_of : Names → Kind → Data → Result Line Bad
+message_of names kinds.Forecast d = event_of false d >>= λ w. Ok (Message w)
+message_of names kinds.Report d = event_of true d >>= λ w. Ok (Message w)
+message_of names kinds.Cancel d = cancel_of d >>= λ w. Ok (Message w)
+message_of names kinds.Reroute d = reroute_of d >>= λ w. Ok (Message w)
+message_of names kinds.Extra d = extra_of d >>= λ w. Ok (Message w)
+message_of names kinds.Keep d = connect_of connects.Keep d >>= λ w. Ok (Message w)
+message_of names kinds.Drop d = connect_of connects.Drop d >>= λ w. Ok (Message w)
+message_of names kinds.Rule d = connect_of connects.Rule d >>= λ w. Ok (Message w)
+message_of names kinds.Query d = query_of names d
+message_of names kinds.Flush d = Ok Flush
 
 -- what the value of a line says
-unfoldable pub said_by : Data → Result Line Bad
-said_by d = do
+unfoldable pub said_by : Names → Data → Result Line Bad
+said_by names d = do
   kind ← head_of d
-  message_of kind d
+  message_of names kind d
 
--- the first fault that holds, or what the line says
-unfoldable pub line_of : List ℕ → Result Line Bad
-line_of bytes = do
+-- the first fault that holds, or what the line says by these names
+unfoldable pub line_of : Names → List ℕ → Result Line Bad
+line_of names bytes = do
   text ← utf8_of bytes
   d ← json_of text
-  said_by d
+  said_by names d
+
+-- the message, if one is said
+abbrev pub message_in : Result Line Bad → Option Wire
+message_in (Ok (Message w)) = Some w
+message_in (Ok (Query client day query)) = None
+message_in (Ok Flush) = None
+message_in (Err b) = None

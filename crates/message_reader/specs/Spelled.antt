@@ -1,4 +1,4 @@
--- How a message is spelled: the object that says it.
+-- How a message or a query is spelled: the object that says it.
 use Rattle.std.specs.Prelude.{ℕ, ◌+◌, ◌/◌, ◌%◌, ◌^◌, ◌<◌, List, [], ◌∷◌, ◌++◌, if◌then◌else◌, codes}
 use Rattle.serde_json.specs.Data.{unsigned, Data, number, string, array, object, Items, no_items, item, no_members, member}
 use Rattle.message_reader.specs.declared.wire.WireCall.{WireCall}
@@ -81,6 +81,17 @@ object_of (Connect kind feeder train) =
     (member (codes "train") (ref_object train)
     (member (codes "type") (string (connect_name kind))
     (member (codes "v") (number (unsigned 1)) no_members))))
+
+-- the object that asks a query
+abbrev pub query_object : List ℕ → List ℕ → List ℕ → ℕ → ℕ → Data
+query_object client from to date secs =
+    object (member (codes "client") (string client)
+    (member (codes "date") (string (date_text date))
+    (member (codes "from") (string from)
+    (member (codes "time") (string (time_text secs))
+    (member (codes "to") (string to)
+    (member (codes "type") (string (codes "query"))
+    (member (codes "v") (number (unsigned 1)) no_members)))))))
 
 -- every label of the message is a number of 32 bits, as labels are
 abbrev pub HasLabels : Wire → Type 0

@@ -5,7 +5,7 @@ use Rattle.message_reader.specs.declared.wire.WireCall.{WireCall}
 use Rattle.message_reader.specs.declared.wire.Wire.{Wire}
 use Rattle.message_reader.specs.declared.wire.Wire.TheVariants.{Event, Cancel, Reroute, Extra, Connect}
 use Rattle.message_reader.specs.declared.wire.Line.{Line}
-use Rattle.message_reader.specs.declared.wire.Line.TheVariants.{Message, Flush}
+use Rattle.message_reader.specs.declared.wire.Line.TheVariants.{Message, Query, Flush}
 
 -- both times are at most 99:59:59
 abbrev pub IsWireCall : WireCall → Type 0
@@ -22,4 +22,5 @@ IsWire (Connect kind feeder train) = IsCivil feeder.date × IsCivil train.date
 -- the message of the line keeps what every message that is read keeps
 abbrev pub IsLine : Line → Type 0
 IsLine (Message w) = IsWire w
+IsLine (Query client day query) = Unit {0}
 IsLine Flush = Unit {0}

@@ -14,7 +14,9 @@ pub enum Bad {
     Json,
     /// Its value has not the members that a line of its type needs.
     Shape,
-    /// A date or a time of day is none.
+    /// A query names a place that is neither a stop nor a station of the feed.
+    Stop,
+    /// A date or a time of day is none, or the date of a query is not loaded.
     Time,
     /// There was no memory to read it.
     OutOfMemory,

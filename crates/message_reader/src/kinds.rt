@@ -14,6 +14,7 @@ pub(crate) enum Kind {
     Keep,
     Drop,
     Rule,
+    Query,
     Flush,
 }
 
@@ -31,6 +32,7 @@ pub(crate) fn kind_named(name: &str) -> Option<Kind>
         "keep" => Some(Kind::Keep),
         "drop" => Some(Kind::Drop),
         "rule" => Some(Kind::Rule),
+        "query" => Some(Kind::Query),
         "flush" => Some(Kind::Flush),
         _ => None,
     }

@@ -1,13 +1,15 @@
 //! Laws of the lines.
 
-ghost use Rattle.std.specs.Prelude.{◌≡◌, ℕ, ◌≤◌, Some, Ok};
+ghost use Rattle.std.specs.Prelude.{◌≡◌, ℕ, ◌+◌, List, ◌≤◌, Some, Ok};
 ghost use Rattle.mt_base.specs.Civil.{IsCivil};
 ghost use Rattle.message_reader.specs.declared.wire.Wire.{Wire as AWire};
-ghost use Rattle.message_reader.specs.declared.wire.Line.TheVariants.{Message};
+ghost use Rattle.message_reader.specs.declared.wire.Line.TheVariants.{Message, Query};
 ghost use Rattle.message_reader.specs.Fields.{seconds_of, date_of};
-ghost use Rattle.message_reader.specs.Lines.{said_by};
-ghost use Rattle.message_reader.specs.Spelled.{time_text, date_text, object_of, HasLabels};
+ghost use Rattle.message_reader.specs.Lines.{said_by, line_of, message_in};
+ghost use Rattle.message_reader.specs.Queries.{stop_or_station_named};
+ghost use Rattle.message_reader.specs.Spelled.{time_text, date_text, object_of, query_object, HasLabels};
 ghost use Rattle.message_reader.specs.Wires.{IsWire};
+ghost use Rattle.schedule_build.specs.Directory.{Names, day_named, base_of};
 
 /// Every time of day up to 99:59:59 is read from its text.
 pub fn times_are_read_back()
@@ -21,5 +23,17 @@ pub fn dates_are_read_back()
 
 /// Every message with civil dates, times up to 99:59:59 and, for an extra train, two calls, is read from the object that says it.
 pub fn messages_are_read_back()
-    ensures { (w : AWire) → IsWire w → HasLabels w → said_by (object_of w) ≡ Ok (Message w) }
+    ensures { (names : Names) (w : AWire) → IsWire w → HasLabels w → said_by names (object_of w) ≡ Ok (Message w) }
+{}
+
+/// Every query from one stop or station to another, at a time up to 99:59:59 of a loaded day, is read from the object that asks it.
+pub fn queries_are_read_back()
+    ensures { (names : Names) (client from to : List ℕ) (date secs from_stop to_stop day : ℕ) → IsCivil date → secs ≤ 359999
+        → stop_or_station_named names from ≡ Some from_stop → stop_or_station_named names to ≡ Some to_stop → day_named names date ≡ Some day
+        → said_by names (query_object client from to date secs) ≡ Ok (Query client day (record { from_stop = from_stop; to_stop = to_stop; time = base_of day + secs })) }
+{}
+
+/// Whether a line says a message, and which, does not depend on names.
+pub fn messages_need_no_names()
+    ensures { (names others : Names) (bytes : List ℕ) → message_in (line_of names bytes) ≡ message_in (line_of others bytes) }
 {}

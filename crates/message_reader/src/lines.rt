@@ -11,8 +11,10 @@ use crate::connections::connect;
 use crate::events::{cancel, event};
 use crate::fields::{number_at, text_at};
 use crate::kinds::{Kind, kind_named};
+use crate::queries::query;
 use crate::routes::{extra, reroute};
 use crate::wire::{Connect, Line};
+use schedule_build::Directory;
 use serde_json::Value;
 use std::alloc::Global;
 
@@ -48,8 +50,8 @@ fn head(value: &Value) -> Result<Kind, Bad>
 }
 
 #[tactic(auto, unfolding(crate::specs::Lines::message_of))]
-fn message(alloc: Global, kind: Kind, value: &Value) -> Result<Line, Bad>
-    ensures exact { Gives result (message_of kind (view value.now)) }
+fn message(alloc: Global, dir: &Directory, kind: Kind, value: &Value) -> Result<Line, Bad>
+    ensures exact { Gives result (message_of dir.now kind (view value.now)) }
     ensures kept { IfOk result IsLine }
 {
     let wire = match kind {
@@ -61,27 +63,28 @@ fn message(alloc: Global, kind: Kind, value: &Value) -> Result<Line, Bad>
         Kind::Keep => connect(alloc, Connect::Keep, value)?,
         Kind::Drop => connect(alloc, Connect::Drop, value)?,
         Kind::Rule => connect(alloc, Connect::Rule, value)?,
+        Kind::Query => return query(alloc, dir, value),
         Kind::Flush => return Ok(Line::Flush),
     };
     Ok(Line::Message(wire))
 }
 
 #[tactic(auto, unfolding(crate::specs::Lines::said_by))]
-fn said(alloc: Global, value: &Value) -> Result<Line, Bad>
-    ensures exact { Gives result (said_by (view value.now)) }
+fn said(alloc: Global, dir: &Directory, value: &Value) -> Result<Line, Bad>
+    ensures exact { Gives result (said_by dir.now (view value.now)) }
     ensures kept { IfOk result IsLine }
 {
     let kind = head(value)?;
-    message(alloc, kind, value)
+    message(alloc, dir, kind, value)
 }
 
-/// What a line says, or its first fault. Memory may run out at any line.
+/// What a line says by the names of a directory, or its first fault. Only a query asks for names. Memory may run out at any line.
 #[tactic(auto, unfolding(crate::specs::Lines::line_of))]
-pub fn read_line(alloc: Global, bytes: &[u8]) -> Result<Line, Bad>
-    ensures exact { Gives result (line_of bytes.now) }
+pub fn read_line(alloc: Global, bytes: &[u8], dir: &Directory) -> Result<Line, Bad>
+    ensures exact { Gives result (line_of dir.now bytes.now) }
     ensures kept { IfOk result IsLine }
 {
     let text = utf8(bytes)?;
     let value = json(alloc, text)?;
-    said(alloc, &value)
+    said(alloc, dir, &value)
 }

@@ -1,16 +1,24 @@
+use crate::small_timetable::directory;
 use crate::{Bad, Connect, Line, Wire, WireCall, WireRef, read_line};
 use std::alloc::Global;
 use std::test::Fail;
 
+fn read(alloc: Global, line: &[u8]) -> Result<Line, Bad> {
+    match directory(alloc) {
+        Ok(dir) => read_line(alloc, line, &dir),
+        Err(_) => Err(Bad::OutOfMemory),
+    }
+}
+
 fn fault(alloc: Global, line: &[u8]) -> Option<Bad> {
-    match read_line(alloc, line) {
+    match read(alloc, line) {
         Ok(_) => None,
         Err(bad) => Some(bad),
     }
 }
 
 fn message(alloc: Global, line: &[u8]) -> Option<Wire> {
-    match read_line(alloc, line) {
+    match read(alloc, line) {
         Ok(Line::Message(wire)) => Some(wire),
         _ => None,
     }
@@ -214,8 +222,55 @@ fn connections(rt: HostRuntime) {
     assert!(rt; connects(alloc, rule, Connect::Rule));
 }
 
+fn is_query(line: &Line) -> bool {
+    match line {
+        Line::Query { client, day, query } => {
+            client.text() == "c1"
+                && day.get() == 1
+                && query.from_stop.get() == 0
+                && query.to_stop.get() == 1
+                && query.time.seconds() == 86_400 + 28_859
+        }
+        _ => false,
+    }
+}
+
+// A query from a stop to a station on the second day.
+#[test]
+fn query(rt: HostRuntime) {
+    let line =
+        br#"{"v":1,"type":"query","client":"c1","from":"A","to":"B","date":"20260106","time":"8:00:59"}"#;
+    match read(rt.alloc(), line) {
+        Ok(line) => assert!(rt; is_query(&line)),
+        Err(_) => assert!(rt; false),
+    }
+}
+
+// Members come before places, and places before dates and times.
+#[test]
+fn query_faults(rt: HostRuntime) {
+    let alloc = rt.alloc();
+    let no_from = br#"{"v":1,"type":"query","client":"c1","to":"X","date":"2026","time":"8"}"#;
+    assert_eq!(rt; fault(alloc, no_from), Some(Bad::Shape));
+    let no_place =
+        br#"{"v":1,"type":"query","client":"c1","from":"A","to":"X","date":"20260105","time":"8:00:00"}"#;
+    assert_eq!(rt; fault(alloc, no_place), Some(Bad::Stop));
+    let entrance =
+        br#"{"v":1,"type":"query","client":"c1","from":"C","to":"B","date":"2026","time":"8"}"#;
+    assert_eq!(rt; fault(alloc, entrance), Some(Bad::Stop));
+    let no_date =
+        br#"{"v":1,"type":"query","client":"c1","from":"B","to":"A","date":"20260229","time":"8:00:00"}"#;
+    assert_eq!(rt; fault(alloc, no_date), Some(Bad::Time));
+    let no_time =
+        br#"{"v":1,"type":"query","client":"c1","from":"B","to":"A","date":"20260105","time":"8:00"}"#;
+    assert_eq!(rt; fault(alloc, no_time), Some(Bad::Time));
+    let not_loaded =
+        br#"{"v":1,"type":"query","client":"c1","from":"B","to":"A","date":"20260107","time":"8:00:00"}"#;
+    assert_eq!(rt; fault(alloc, not_loaded), Some(Bad::Time));
+}
+
 fn is_flush(alloc: Global, line: &[u8]) -> bool {
-    match read_line(alloc, line) {
+    match read(alloc, line) {
         Ok(Line::Flush) => true,
         _ => false,
     }
@@ -256,7 +311,7 @@ fn texts(rt: HostRuntime) {
         Some(Bad::Shape)
     );
     assert_eq!(rt;
-        fault(alloc, br#"{"v":1,"type":"query"}"#),
+        fault(alloc, br#"{"v":1,"type":"Flush"}"#),
         Some(Bad::Shape)
     );
     assert_eq!(rt; fault(alloc, b"[]"), Some(Bad::Shape));

@@ -1,7 +1,8 @@
 //! What a line says, with the names that stand in it.
 
 use mt_base::names::Name;
-use mt_base::numbers::Label;
+use mt_base::numbers::{Day, Label};
+use mt_base::plans;
 use mt_base::rows::Rows;
 
 /// A call of a rerouted or an extra train.
@@ -110,6 +111,15 @@ pub enum Wire {
 pub enum Line {
     /// A message.
     Message(Wire),
+    /// Asks for the earliest arrival.
+    Query {
+        /// Who asks.
+        client: Name,
+        /// The service day on which the time of the query lies.
+        day: Day,
+        /// Between which stops or stations, and from what time on.
+        query: plans::Query,
+    },
     /// Asks how many messages were accepted so far.
     Flush,
 }

@@ -231,6 +231,19 @@ not_before_query h h1 h2 h3 h4 q (r ∷ rs) at g =
     let n = not_before h h1 h2 h3 h4 r.alight_stop r.alight_time rs q.to_stop at g.2 in
     omega arith
 
+last_ride : (nw : Network) (st : State) (to t : ℕ) → ((r : PlanRide) → IsRide nw st r → is_one_station nw r.alight_stop to ≡ true → t ≤ r.alight_time) → (r : PlanRide) (rs : List PlanRide) (at : ℕ) → IsRide nw st r → GoesOn nw st r.alight_stop r.alight_time rs to at → t ≤ at
+last_ride nw st to t h r [] at i g = grind (arith, h)
+last_ride nw st to t h r (s ∷ rs) at i g = last_ride nw st to t h s rs at g.0 g.2
+
+-- where no ride comes to the destination before a time, no journey from another station does
+pub not_before_rides : (nw : Network) (st : State) (q : Query) (t : ℕ) → is_one_station nw q.from_stop q.to_stop ≡ false → ((r : PlanRide) → IsRide nw st r → is_one_station nw r.alight_stop q.to_stop ≡ true → t ≤ r.alight_time) → (rs : List PlanRide) (at : ℕ) → IsJourney nw st q rs at → t ≤ at
+not_before_rides nw st q t off h [] at g = grind arith
+not_before_rides nw st q t off h (r ∷ rs) at g = last_ride nw st q.to_stop t h r rs at g.0 g.2
+
+-- where both trains end at the destination, at one time, each ride to it arrives then
+pub ends_then : {nw : Network} {st : State} {r : PlanRide} {t1 t2 : Train} {x y z u v : Call} (to t : ℕ) → OneOfFour nw st r t1 t2 x y z u v → is_one_station nw y.stop to ≡ false → event_time nw st (arrival_of 0 t1.route z).key ≡ t → event_time nw st (arrival_of 1 t2.route v).key ≡ t → is_one_station nw r.alight_stop to ≡ true → t ≤ r.alight_time
+ends_then to t rides off first second ends = grind arith
+
 -- a ride to the next call passes no call
 pub passes_none : All StopsAndGoesOn []
 passes_none k call h = absurd (omega arith)

@@ -17,7 +17,7 @@ use Rattle.delay_model.specs.declared.state.Train.{Train}
 use Rattle.delay_model.specs.declared.state.State.{State}
 use Rattle.delay_model.specs.declared.state.Event.{Event}
 use Rattle.delay_model.specs.declared.messages.Message.{Message}
-use Rattle.delay_model.specs.declared.messages.Message.TheVariants.{Forecast, Reroute, Extra, Keep, Drop, Rule}
+use Rattle.delay_model.specs.declared.messages.Message.TheVariants.{Forecast, Reroute, Cancel, Extra, Keep, Drop, Rule}
 use Rattle.delay_model.specs.Overrides.{connection_cmp}
 use Rattle.delay_model.specs.declared.state.Edge.{Edge}
 use Rattle.delay_model.specs.declared.state.EdgeKind.{EdgeKind}
@@ -255,6 +255,16 @@ t2_by board alight =
 
 abbrev pub alone : Train → State
 alone t = record (start opts) { trains = t ∷ [] }
+
+-- the timetable where the first train runs on to D and not to C, and comes there in the second in which the other does
+abbrev pub both_to_d : State
+both_to_d =
+    let to_d = call 0 stop_a (at (clock 8 0 0) false) (at (clock 8 0 0) true) ∷ t1_at_b ∷ call 2 stop_d (at (clock 9 10 0) true) (at (clock 9 10 0) false) ∷ [] in
+    record (start opts) { trains = record t1 { calls = to_d } ∷ t2 ∷ [] }
+
+-- the train 0 calls at D on its way to B, does not run from D to B, and leaves A 33 minutes late
+abbrev pub late_before_a_gap : List Message
+late_before_a_gap = and_d ∷ Cancel 0 3 1 ∷ Forecast (departure 0 0) (clock 8 33 0) ∷ []
 
 -- a train of four calls, from this time on: it runs for ten minutes and stands for one at a time
 abbrev pub regular : ℕ → Train

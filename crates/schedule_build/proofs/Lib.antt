@@ -2,10 +2,10 @@ pub mod CallLemmas
 pub mod DateLemmas
 pub mod FitLemmas
 pub mod GoodTrains
-pub mod LawLemmas
 pub mod NumberLemmas
 pub mod RunLemmas
 pub mod SmallTimes
 pub mod StateLemmas
 pub mod TrainNameLemmas
 pub mod ValidLemmas
+pub mod Words

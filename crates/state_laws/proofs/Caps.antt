@@ -1,29 +1,14 @@
 -- The cap of an event stays where what changes after it is not reported.
-use Rattle.std.proofs.Common.{◌≡◌, ℕ, false, ◌&&◌, cond, nat_eq, is_some, List, [], ◌∷◌, ◌++◌, Option, None, map, refl, sym, ◌∙◌, ap, inl, inr}
-use Rattle.std.specs.List.{All}
-use Rattle.std.proofs.lemmas.Bool.{cond_both, cond-true, cond-false, cases_Bool, eqb-true}
-use Rattle.std.proofs.lemmas.List.Elements.{All-tail, All-head}
-use Rattle.mt_base.specs.declared.keys.Key.{Key}
-use Rattle.mt_base.specs.Order.{is_same}
-use Rattle.delay_model.specs.declared.state.Event.{Event}
-use Rattle.delay_model.specs.Events.{live_report}
-use Rattle.delay_model.specs.Timing.{first_report, after_key, cap}
+use Rattle.state_laws.proofs.Words.{◌≡◌, ℕ, false, ◌&&◌, cond, nat_eq, is_some, List, [], ◌∷◌, ◌++◌, Option, None, map, refl, sym, ◌∙◌, arith, All-tail, All-head, All, is_same, Key}
+use Rattle.state_laws.proofs.Words.{live_report, first_report, after_key, cap, Event}
 use Rattle.delay_model.proofs.AlongTrains.{first_report-passed}
 
 pub All-after_key : (P : Event → Type 0) (k : Key) (es : List Event) → All P es → All P (after_key k es)
 All-after_key P k [] h = h
-All-after_key P k (v ∷ vs) h =
-    let rest = All-tail P v vs h in cond_both (is_same v.key k) vs (after_key k vs) (All P) (λ _. rest) (λ _. All-after_key P k vs rest)
+All-after_key P k (v ∷ vs) h = let rest = All-tail P v vs h in grind (arith, All-after_key P k vs)
 
 abbrev pub report_or : ℕ → Key → Option ℕ → Option ℕ → Option ℕ
 report_or train k o r = cond (nat_eq k.train train && is_some o) o r
-
-report_or-agree : (train : ℕ) (k : Key) (o p r : Option ℕ) → (k.train ≡ train → o ≡ p) → report_or train k o r ≡ report_or train k p r
-report_or-agree train k o p r h =
-    elim (cases_Bool (nat_eq k.train train)) [
-      | inl own ↦ ap (λ o. cond (nat_eq k.train train && is_some o) o r) (h (eqb-true _ _ own))
-      | inr other ↦ ap (λ b. cond (b && is_some o) o r) other ∙ sym (ap (λ b. cond (b && is_some p) p r) other)
-    ]
 
 -- events whose keys stay, and on this train the reports
 pub first_report-mapped : (h : Event → Event) → ((v : Event) → (h v).key ≡ v.key) → (train : ℕ) (es : List Event) → All (λ v. v.key.train ≡ train → live_report (h v) ≡ live_report v) es → first_report train (map h es) ≡ first_report train es
@@ -31,26 +16,19 @@ first_report-mapped h keys train [] same = refl
 first_report-mapped h keys train (v ∷ vs) same =
     let P : Event → Type 0 = λ v. v.key.train ≡ train → live_report (h v) ≡ live_report v in
     let rest = first_report-mapped h keys train vs (All-tail P v vs same) in
-    let o = live_report (h v) in
-    ap (λ k. report_or train k o (first_report train (map h vs))) (keys v)
-    ∙ ap (report_or train v.key o) rest
-    ∙ report_or-agree train v.key o (live_report v) (first_report train vs) (All-head P v vs same)
+    let here = All-head P v vs same in
+    grind (arith, keys v)
 
 pub after_key-mapped : (h : Event → Event) → ((v : Event) → (h v).key ≡ v.key) → (k : Key) (es : List Event) → after_key k (map h es) ≡ map h (after_key k es)
 after_key-mapped h keys k [] = refl
-after_key-mapped h keys k (v ∷ vs) =
-    let here = map h vs in
-    let later = after_key k (map h vs) in
-    ap (λ j. cond (is_same j k) here later) (keys v)
-    ∙ cond_both (is_same v.key k) vs (after_key k vs) (λ ys. cond (is_same v.key k) here later ≡ map h ys) (λ hit. cond-true (is_same v.key k) here later hit)
-    (λ miss. cond-false (is_same v.key k) here later miss ∙ after_key-mapped h keys k vs)
+after_key-mapped h keys k (v ∷ vs) = grind (arith, keys v, after_key-mapped h keys k vs)
 
 -- so the cap stays
 pub cap-mapped : (h : Event → Event) → ((v : Event) → (h v).key ≡ v.key) → (es : List Event) (w : Event) → All (λ v. v.key.train ≡ w.key.train → live_report (h v) ≡ live_report v) es → cap (map h es) w ≡ cap es w
 unfolding cap
 cap-mapped h keys es w same =
-    ap (first_report w.key.train) (after_key-mapped h keys w.key es)
-    ∙ first_report-mapped h keys w.key.train (after_key w.key es) (All-after_key (λ v. v.key.train ≡ w.key.train → live_report (h v) ≡ live_report v) w.key es same)
+    rw (after_key-mapped h keys w.key es)
+    (first_report-mapped h keys w.key.train _ (All-after_key (λ v. v.key.train ≡ w.key.train → live_report (h v) ≡ live_report v) w.key es same))
 
 -- no event among these has a report
 abbrev pub AreSilent : List Event → Type 0
@@ -64,27 +42,16 @@ first_report-silent train (m ∷ ms) ys h =
 
 first_report-swap : (train : ℕ) (xs ms ns ys : List Event) → AreSilent ms → AreSilent ns → first_report train (xs ++ (ms ++ ys)) ≡ first_report train (xs ++ (ns ++ ys))
 first_report-swap train [] ms ns ys h k = first_report-silent train ms ys h ∙ sym (first_report-silent train ns ys k)
-first_report-swap train (x ∷ xs) ms ns ys h k = ap (report_or train x.key (live_report x)) (first_report-swap train xs ms ns ys h k)
+first_report-swap train (x ∷ xs) ms ns ys h k = rw (first_report-swap train xs ms ns ys h k)
 
 pub after_key-skip : (k : Key) (ms ys : List Event) → All (λ v. is_same v.key k ≡ false) ms → after_key k (ms ++ ys) ≡ after_key k ys
 after_key-skip k [] ys h = refl
-after_key-skip k (m ∷ ms) ys h =
-    let P : Event → Type 0 = λ v. is_same v.key k ≡ false in
-    cond-false (is_same m.key k) (ms ++ ys) (after_key k (ms ++ ys)) (All-head P m ms h) ∙ after_key-skip k ms ys (All-tail P m ms h)
+after_key-skip k (m ∷ ms) ys h = let P : Event → Type 0 = λ v. is_same v.key k ≡ false in rw (All-head P m ms h) (after_key-skip k ms ys (All-tail P m ms h))
 
 report-swap : (train : ℕ) (k : Key) (xs ms ns ys : List Event) → AreSilent ms → AreSilent ns → All (λ v. is_same v.key k ≡ false) ms → All (λ v. is_same v.key k ≡ false) ns → first_report train (after_key k (xs ++ (ms ++ ys))) ≡ first_report train (after_key k (xs ++ (ns ++ ys)))
-report-swap train k [] ms ns ys hm hn om on = ap (first_report train) (after_key-skip k ms ys om ∙ sym (after_key-skip k ns ys on))
+report-swap train k [] ms ns ys hm hn om on = rw (after_key-skip k ms ys om, after_key-skip k ns ys on)
 report-swap train k (x ∷ xs) ms ns ys hm hn om on =
-    let olds = xs ++ (ms ++ ys) in
-    let news = xs ++ (ns ++ ys) in
-    elim (cases_Bool (is_same x.key k)) [
-      | inl hit ↦
-          ap (first_report train) (cond-true (is_same x.key k) olds (after_key k olds) hit) ∙ first_report-swap train xs ms ns ys hm hn
-          ∙ sym (ap (first_report train) (cond-true (is_same x.key k) news (after_key k news) hit))
-      | inr miss ↦
-          ap (first_report train) (cond-false (is_same x.key k) olds (after_key k olds) miss) ∙ report-swap train k xs ms ns ys hm hn om on
-          ∙ sym (ap (first_report train) (cond-false (is_same x.key k) news (after_key k news) miss))
-    ]
+    let hit = first_report-swap train xs ms ns ys hm hn in let miss = report-swap train k xs ms ns ys hm hn om on in grind arith
 
 -- the cap stays where events that are not reported stand in place of others, and the event is none of them
 pub cap-swap : (xs ms ns ys : List Event) (w : Event) → AreSilent ms → AreSilent ns → All (λ v. is_same v.key w.key ≡ false) ms → All (λ v. is_same v.key w.key ≡ false) ns → cap (xs ++ (ms ++ ys)) w ≡ cap (xs ++ (ns ++ ys)) w

@@ -1,20 +1,6 @@
 -- What each accepted message leaves, and so the times of the events that it does not touch.
-use Rattle.std.proofs.Common.{◌≡◌, true, None}
-use Rattle.std.proofs.Math.Logic.{◌≢◌}
-use Rattle.std.specs.List.{All, Contains}
-use Rattle.mt_base.specs.Order.{node_of}
-use Rattle.delay_model.specs.declared.network.Network.{Network}
-use Rattle.delay_model.specs.declared.messages.Message.{Message}
-use Rattle.delay_model.specs.declared.messages.Message.TheVariants.{Report, Forecast, Cancel, Reroute, Extra, Keep, Drop, Rule}
-use Rattle.delay_model.specs.declared.state.State.{State}
-use Rattle.delay_model.specs.declared.state.Event.{Event}
-use Rattle.delay_model.specs.Effect.{effect}
-use Rattle.delay_model.specs.Events.{events}
-use Rattle.delay_model.specs.Messages.{IsWellFormed}
-use Rattle.delay_model.specs.Refusals.{refusal}
-use Rattle.delay_model.specs.Timing.{event_time}
-use Rattle.delay_model.specs.Touched.{named, touched}
-use Rattle.delay_model.specs.Valid.{IsValid}
+use Rattle.state_laws.proofs.Words.{◌≡◌, true, None, ◌≢◌, All, Contains, node_of, effect, events, IsWellFormed, refusal, event_time, named, touched, IsValid, Message, Report, Forecast}
+use Rattle.state_laws.proofs.Words.{Cancel, Reroute, Extra, Keep, Drop, Rule, Network, Event, State}
 use Rattle.state_laws.proofs.Stays.{stays-valid}
 use Rattle.state_laws.proofs.Untouched.{IsLeft, untouched-by, time-left}
 use Rattle.state_laws.proofs.Settings.{forecast-left}

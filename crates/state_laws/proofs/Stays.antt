@@ -1,13 +1,5 @@
 -- A valid state stays valid, whichever message is accepted.
-use Rattle.std.proofs.Common.{◌≡◌, None}
-use Rattle.delay_model.specs.declared.network.Network.{Network}
-use Rattle.delay_model.specs.declared.messages.Message.{Message}
-use Rattle.delay_model.specs.declared.messages.Message.TheVariants.{Report, Forecast, Cancel, Reroute, Extra, Keep, Drop, Rule}
-use Rattle.delay_model.specs.declared.state.State.{State}
-use Rattle.delay_model.specs.Effect.{effect}
-use Rattle.delay_model.specs.Messages.{IsWellFormed}
-use Rattle.delay_model.specs.Refusals.{refusal}
-use Rattle.delay_model.specs.Valid.{IsValid}
+use Rattle.state_laws.proofs.Words.{◌≡◌, None, effect, IsWellFormed, refusal, IsValid, Message, Report, Forecast, Cancel, Reroute, Extra, Keep, Drop, Rule, Network, State}
 use Rattle.state_laws.proofs.Values.{report-valid, forecast-valid}
 use Rattle.state_laws.proofs.Choices.{keep-valid, drop-valid, free-valid}
 use Rattle.state_laws.proofs.Cancels.{cancel-valid}

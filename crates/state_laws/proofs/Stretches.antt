@@ -1,31 +1,11 @@
 -- A cancelled stretch takes each departure with the next arrival.
-use Rattle.std.proofs.Common.{◌≡◌, ℕ, Bool, true, false, ◌&&◌, ◌||◌, cond, nat_eq, List, [], ◌∷◌, map, refl, sym, ◌∙◌, ap, subst, inl, inr}
-use Rattle.std.proofs.Math.Logic.{◌≢◌}
-use Rattle.std.specs.List.{All, slice_index_or}
-use Rattle.std.proofs.lemmas.Bool.{cond_both, cond-true, cond-false, and_right, cases_Bool, false_from_ne_true}
-use Rattle.std.proofs.lemmas.List.Elements.{All-cons, All-nil, All-tail, All-head, All-weaker}
-use Rattle.std.proofs.lemmas.List.Folds.{list_any_none}
-use Rattle.mt_base.specs.declared.keys.Node.{Node}
-use Rattle.mt_base.specs.Order.{node_of}
-use Rattle.mt_base.proofs.KeyLemmas.{same_node-is, same_node-itself}
-use Rattle.delay_model.specs.declared.state.EventValues.{EventValues}
-use Rattle.delay_model.specs.declared.state.Call.{Call}
-use Rattle.delay_model.specs.declared.state.Event.{Event}
+use Rattle.state_laws.proofs.Words.{get_or, ◌≡◌, ℕ, Bool, true, false, ◌&&◌, cond, List, [], ◌∷◌, map, ◌∙◌, inl, inr, ◌≢◌, cond_both, arith, is_same_node, common_steps, not, suc, ◌<◌}
+use Rattle.state_laws.proofs.Words.{length, cases_Bool, All-cons, All-nil, All-tail, All-head, list_any_none, All, Node, up_to, node_at, is_call, is_among, killed, events_at, arrival_of}
+use Rattle.state_laws.proofs.Words.{departure_of, is_event, has_call, stands_before, HasDistinctLabels, IsRun, Call, Event}
 use Rattle.delay_model.specs.Cuts as Cuts
-use Rattle.delay_model.specs.Cuts.{after, up_to}
-use Rattle.delay_model.specs.Effect.{node_at, is_call, is_among, killed}
-use Rattle.delay_model.specs.Events.{events_at, arrival_of, departure_of, is_event}
-use Rattle.delay_model.specs.Refusals.{has_call, stands_before}
-use Rattle.delay_model.specs.Valid.{HasDistinctLabels, IsRun}
-use Rattle.state_laws.proofs.Values.{named-at}
 
 pub and-true : (b : Bool) → (b && true) ≡ b
-and-true true = refl
-and-true false = refl
-
-or-true : (b : Bool) → (b || true) ≡ true
-or-true true = refl
-or-true false = refl
+and-true b = grind arith
 
 -- what holds of both events of each call
 pub events_at-each : (P : Event → Type 0) (Q : Call → Type 0) (n route : ℕ) → ((c : Call) → Q c → P (arrival_of n route c) × P (departure_of n route c)) → (cs : List Call) → All Q cs → All P (events_at n route cs)
@@ -35,23 +15,22 @@ events_at-each P Q n route each (c ∷ cs) h =
     All-cons P (arrival_of n route c) (departure_of n route c ∷ events_at n route cs) both.0
     (All-cons P (departure_of n route c) (events_at n route cs) both.1 (events_at-each P Q n route each cs (All-tail Q c cs h)))
 
+pub each-events_at : (P : Event → Type 0) (n route : ℕ) (cs : List Call) → All P (events_at n route cs) → All (λ c. P (arrival_of n route c) × P (departure_of n route c)) cs
+each-events_at P n route [] h = All-nil _
+each-events_at P n route (c ∷ cs) h =
+    All-cons (λ c. P (arrival_of n route c) × P (departure_of n route c)) c cs (h 0 (arrival_of n route c) (omega arith), h 1 (arrival_of n route c) (omega arith))
+    (each-events_at P n route cs (λ k d l. h (suc (suc k)) d (omega arith)))
+
 -- what holds of a list holds of its parts
 pub All-from : {X : Type 0} (P : X → Type 0) (p : X → Bool) (xs : List X) → All P xs → All P (Cuts.from p xs)
 All-from P p [] h = h
-All-from P p (x ∷ xs) h = cond_both (p x) (x ∷ xs) (Cuts.from p xs) (All P) (λ _. h) (λ _. All-from P p xs (All-tail P x xs h))
+All-from P p (x ∷ xs) h = let rest = All-from P p xs (All-tail P x xs h) in grind arith
 
 pub All-up_to : {X : Type 0} (P : X → Type 0) (p : X → Bool) (xs : List X) → All P xs → All P (up_to p xs)
 All-up_to P p [] h = h
 All-up_to P p (x ∷ xs) h =
     let head = All-head P x xs h in
-    cond_both (p x) (x ∷ []) (x ∷ up_to p xs) (All P) (λ _. All-cons P x [] head (All-nil P)) (λ _. All-cons P x (up_to p xs) head (All-up_to P p xs (All-tail P x xs h)))
-
--- an event at another label has not this name
-other-label : (n label : ℕ) (dep : Bool) (v : Event) → v.key.label ≢ label → is_event (node_at n label dep) v ≡ false
-other-label n label dep v ne = false_from_ne_true _ (λ same. ne (ap (λ m. m.label) (same_node-is (node_of v.key) (node_at n label dep) same)))
-
-not-among : (n label : ℕ) (dep : Bool) (es : List Event) → All (λ v. v.key.label ≢ label) es → is_among es (node_at n label dep) ≡ false
-not-among n label dep es h = list_any_none (is_event (node_at n label dep)) es (All-weaker (λ v. v.key.label ≢ label) (λ v. is_event (node_at n label dep) v ≡ false) (λ v ne. other-label n label dep v ne) es h)
+    cond_both (p x) (x ∷ []) (x ∷ up_to p xs) (All P) (λ _. All-cons P x [] head (All-nil P)) (λ _. All-cons P x _ head (All-up_to P p xs (All-tail P x xs h)))
 
 module _ (n route : ℕ) where
   abbrev pub until : ℕ → List Call → List Event
@@ -60,30 +39,38 @@ module _ (n route : ℕ) where
   abbrev pub between : ℕ → ℕ → List Call → List Event
   between from to cs = up_to (is_event (node_at n to false)) (Cuts.from (is_event (node_at n from true)) (events_at n route cs))
 
-  until-step : (to : ℕ) (c : Call) (cs : List Call) → until to (c ∷ cs) ≡ cond (is_call to c) (arrival_of n route c ∷ []) (arrival_of n route c ∷ departure_of n route c ∷ until to cs)
-  until-step to c cs =
-      let u = arrival_of n route c in
-      let v = departure_of n route c in
-      let a : is_event (node_at n to false) u ≡ is_call to c = named-at (node_at n to false) c.label false ∙ and-true (is_call to c) in
-      let d : is_event (node_at n to false) v ≡ false = named-at (node_at n to false) c.label true ∙ and_right (is_call to c) false refl in
-      ap (λ b. cond b (u ∷ []) (u ∷ cond (is_event (node_at n to false) v) (v ∷ []) (v ∷ until to cs))) a
-      ∙ ap (λ b. cond (is_call to c) (u ∷ []) (u ∷ cond b (v ∷ []) (v ∷ until to cs))) d
+  -- a call at another label has no event of this name
+  others : (label : ℕ) (dep : Bool) (cs : List Call) → All (λ d. label ≢ d.label) cs → All (λ v. is_event (node_at n label dep) v ≡ false) (events_at n route cs)
+  unfolding is_same_node
+  others label dep cs h = events_at-each (λ v. is_event (node_at n label dep) v ≡ false) (λ d. label ≢ d.label) n route (λ c ne. grind (arith, common_steps)) cs h
 
-  between-step : (from to : ℕ) (c : Call) (cs : List Call) → between from to (c ∷ cs) ≡ cond (is_call from c) (departure_of n route c ∷ until to cs) (between from to cs)
-  between-step from to c cs =
-      let u = arrival_of n route c in
-      let v = departure_of n route c in
-      let es = events_at n route cs in
-      let stop = up_to (is_event (node_at n to false)) in
-      let rest = Cuts.from (is_event (node_at n from true)) es in
-      let a : is_event (node_at n from true) u ≡ false = named-at (node_at n from true) c.label false ∙ and_right (is_call from c) false refl in
-      let d : is_event (node_at n from true) v ≡ is_call from c = named-at (node_at n from true) c.label true ∙ and-true (is_call from c) in
-      let e : is_event (node_at n to false) v ≡ false = named-at (node_at n to false) c.label true ∙ and_right (is_call to c) false refl in
-      ap (λ b. stop (cond b (u ∷ v ∷ es) (cond (is_event (node_at n from true) v) (v ∷ es) rest))) a
-      ∙ ap (λ b. stop (cond b (v ∷ es) rest)) d
-      ∙ cond_both (is_call from c) (v ∷ es) rest (λ xs. stop xs ≡ cond (is_call from c) (v ∷ until to cs) (between from to cs))
-      (λ hit. ap (λ b. cond b (v ∷ []) (v ∷ until to cs)) e ∙ sym (cond-true (is_call from c) (v ∷ until to cs) (between from to cs) hit))
-      (λ miss. sym (cond-false (is_call from c) (v ∷ until to cs) (between from to cs) miss))
+  not-between : (from to label : ℕ) (dep : Bool) (cs : List Call) → All (λ d. label ≢ d.label) cs → is_among (between from to cs) (node_at n label dep) ≡ false
+  not-between from to label dep cs h =
+      let P : Event → Type 0 = λ v. is_event (node_at n label dep) v ≡ false in
+      list_any_none (is_event (node_at n label dep)) _ (All-up_to P (is_event (node_at n to false)) _ (All-from P (is_event (node_at n from true)) (events_at n route cs) (others label dep cs h)))
+
+  not-until : (to label : ℕ) (dep : Bool) (cs : List Call) → All (λ d. label ≢ d.label) cs → is_among (until to cs) (node_at n label dep) ≡ false
+  not-until to label dep cs h =
+      let P : Event → Type 0 = λ v. is_event (node_at n label dep) v ≡ false in
+      list_any_none (is_event (node_at n label dep)) _ (All-up_to P (is_event (node_at n to false)) (events_at n route cs) (others label dep cs h))
+
+  -- which events of a first call are in the stretch, and which of the other calls
+  until-first : (to : ℕ) (c : Call) (cs : List Call) (dep : Bool) → is_among (until to (c ∷ cs)) (node_at n c.label dep) ≡ not (is_call to c && dep)
+  unfolding is_same_node
+  until-first to c cs dep = grind (arith, common_steps)
+
+  until-rest : (to : ℕ) (c : Call) (cs : List Call) (label : ℕ) (dep : Bool) → c.label ≢ label → is_among (until to (c ∷ cs)) (node_at n label dep) ≡ (not (is_call to c) && is_among (until to cs) (node_at n label dep))
+  unfolding is_same_node
+  until-rest to c cs label dep ne = grind (arith, common_steps)
+
+  between-first : (from to : ℕ) (c : Call) (cs : List Call) (dep : Bool) → All (λ d. c.label ≢ d.label) cs → is_among (between from to (c ∷ cs)) (node_at n c.label dep) ≡ (is_call from c && dep)
+  unfolding is_same_node
+  between-first from to c cs dep apart =
+      let a = not-between from to c.label dep cs apart in let b = not-until to c.label dep cs apart in grind (arith, common_steps)
+
+  between-rest : (from to : ℕ) (c : Call) (cs : List Call) (label : ℕ) (dep : Bool) → c.label ≢ label → is_among (between from to (c ∷ cs)) (node_at n label dep) ≡ is_among (cond (is_call from c) (until to cs) (between from to cs)) (node_at n label dep)
+  unfolding is_same_node
+  between-rest from to c cs label dep ne = grind (arith, common_steps)
 
   -- the test passes those of these calls' events that are among the list
   abbrev pub Agrees : (Node → Bool) → List Event → List Call → Type 0
@@ -92,91 +79,32 @@ module _ (n route : ℕ) where
   abbrev pub kill : (Node → Bool) → Call → Call
   kill K c = record c { arrival = killed (K (node_at n c.label false)) c.arrival; departure = killed (K (node_at n c.label true)) c.departure }
 
-  -- an event of none of these calls does not matter
-  agrees-less : (K : Node → Bool) (v : Event) (es : List Event) (cs : List Call) → All (λ d. v.key.label ≢ d.label) cs → Agrees K (v ∷ es) cs → Agrees K es cs
-  agrees-less K v es cs apart h = λ k d l dep.
-      let c = slice_index_or cs k d in
-      h k d l dep ∙ ap (λ b. b || is_among es (node_at n c.label dep)) (other-label n c.label dep v (apart k d l))
-
-  kills : (b c : Bool) (e : EventValues) → b ≡ c → (killed b e).live ≡ (killed c e).live
-  kills b c e same = ap (λ b. (killed b e).live) same
-
   -- where no call is among them, the run stays
   run-none : (K : Node → Bool) (live : Bool) (cs : List Call) → Agrees K [] cs → IsRun live cs → IsRun live (map (kill K) cs)
   run-none K live [] h run = run
   run-none K live (c ∷ cs) h run =
-      let P : Call → Type 0 = λ d. (dep : Bool) → K (node_at n d.label dep) ≡ is_among [] (node_at n d.label dep) in
-      let here = All-head P c cs h in
-      (kills _ false c.arrival (here false) ∙ run.0, subst (λ b. IsRun b (map (kill K) cs)) (sym (kills _ false c.departure (here true))) (run-none K c.departure.live cs (All-tail P c cs h) run.1))
-
-  labels-of : (label : ℕ) (cs : List Call) → All (λ d. label ≢ d.label) cs → All (λ v. v.key.label ≢ label) (events_at n route cs)
-  labels-of label cs h = events_at-each (λ v. v.key.label ≢ label) (λ d. label ≢ d.label) n route (λ c ne. ((λ e. ne (sym e)), (λ e. ne (sym e)))) cs h
+      (rw (h 0 c (omega arith) false) run.0, rw (h 0 c (omega arith) true) (run-none K c.departure.live cs (λ k d l. h (suc k) d (omega arith)) run.1))
 
   -- within the stretch
   run-within : (K : Node → Bool) (to : ℕ) (live : Bool) (cs : List Call) → HasDistinctLabels cs → has_call to cs ≡ true → Agrees K (until to cs) cs → IsRun live cs → IsRun false (map (kill K) cs)
   run-within K to live [] labels there h run = absurd (cc)
   run-within K to live (c ∷ cs) labels there h run =
-      let u = arrival_of n route c in
-      let v = departure_of n route c in
-      let P : List Event → Call → Type 0 = λ es d. (dep : Bool) → K (node_at n d.label dep) ≡ is_among es (node_at n d.label dep) in
+      let arr = h 0 c (omega arith) false ∙ until-first to c cs false in
+      let dep = h 0 c (omega arith) true ∙ until-first to c cs true in
+      let rest = λ (k : ℕ) (d : Call) (l : k < length cs) (dep : Bool). h (suc k) d (omega arith) dep ∙ until-rest to c cs (get_or cs k d).label dep (labels.0 k d l) in
       elim (cases_Bool (is_call to c)) [
-        | inl last ↦
-            let agrees = subst (λ es. Agrees K es (c ∷ cs)) (until-step to c cs ∙ cond-true (is_call to c) (u ∷ []) (u ∷ v ∷ until to cs) last) h in
-            let here = All-head (P (u ∷ [])) c cs agrees in
-            let arr : K (node_at n c.label false) ≡ true = here false ∙ ap (λ b. b || false) (same_node-itself (node_of u.key)) in
-            let dep : K (node_at n c.label true) ≡ false = here true ∙ ap (λ b. b || false) (named-at (node_at n c.label true) c.label false ∙ and_right (nat_eq c.label c.label) false refl) in (
-              kills _ true c.arrival arr,
-              subst (λ b. IsRun b (map (kill K) cs)) (sym (kills _ false c.departure dep))
-                  (run-none K c.departure.live cs (agrees-less K u [] cs labels.0 (All-tail (P (u ∷ [])) c cs agrees)) run.1),
-            )
-        | inr on ↦
-            let es = until to cs in
-            let agrees = subst (λ es. Agrees K es (c ∷ cs)) (until-step to c cs ∙ cond-false (is_call to c) (u ∷ []) (u ∷ v ∷ es) on) h in
-            let here = All-head (P (u ∷ v ∷ es)) c cs agrees in
-            let arr : K (node_at n c.label false) ≡ true = here false ∙ ap (λ b. b || is_among (v ∷ es) (node_of u.key)) (same_node-itself (node_of u.key)) in
-            let dep : K (node_at n c.label true) ≡ true =
-            here true ∙ ap (λ b. is_event (node_of v.key) u || (b || is_among es (node_of v.key))) (same_node-itself (node_of v.key)) ∙ or-true (is_event (node_of v.key) u)
-            in
-            let later : has_call to cs ≡ true = subst (λ b. (b || has_call to cs) ≡ true) on there in (
-              kills _ true c.arrival arr,
-              subst (λ b. IsRun b (map (kill K) cs)) (sym (kills _ true c.departure dep))
-                  (run-within K to c.departure.live cs labels.1 later (agrees-less K v es cs labels.0 (agrees-less K u (v ∷ es) cs labels.0 (All-tail (P (u ∷ v ∷ es)) c cs agrees))) run.1),
-            )
+        | inl last ↦ (rw (arr, last), rw (dep, last) (run-none K c.departure.live cs (λ k d l e. rw last at (rest k d l e)) run.1))
+        | inr on ↦ (rw (arr, on), rw (dep, on) (run-within K to c.departure.live cs labels.1 (rw on at there) (λ k d l e. rw on at (rest k d l e)) run.1))
       ]
 
   -- from before the stretch on
   pub run-cancelled : (K : Node → Bool) (from to : ℕ) (live : Bool) (cs : List Call) → HasDistinctLabels cs → stands_before from to cs ≡ true → Agrees K (between from to cs) cs → IsRun live cs → IsRun live (map (kill K) cs)
   run-cancelled K from to live [] labels there h run = absurd (cc)
   run-cancelled K from to live (c ∷ cs) labels there h run =
-      let u = arrival_of n route c in
-      let v = departure_of n route c in
-      let P : List Event → Call → Type 0 = λ es d. (dep : Bool) → K (node_at n d.label dep) ≡ is_among es (node_at n d.label dep) in
-      let Stands : Bool → Type 0 = λ b. ((b || has_call from cs) && has_call to (cond b cs (after (is_call from) cs))) ≡ true in
-      let es = events_at n route cs in
-      let apart = labels-of c.label cs labels.0 in
-      let Apart : Event → Type 0 = λ v. v.key.label ≢ c.label in
+      let arr = h 0 c (omega arith) false ∙ between-first from to c cs false labels.0 in
+      let dep = h 0 c (omega arith) true ∙ between-first from to c cs true labels.0 in
+      let rest = λ (k : ℕ) (d : Call) (l : k < length cs) (dep : Bool). h (suc k) d (omega arith) dep ∙ between-rest from to c cs (get_or cs k d).label dep (labels.0 k d l) in
       elim (cases_Bool (is_call from c)) [
-        | inl first ↦
-            let rest = until to cs in
-            let agrees = subst (λ es. Agrees K es (c ∷ cs)) (between-step from to c cs ∙ cond-true (is_call from c) (v ∷ rest) (between from to cs) first) h in
-            let here = All-head (P (v ∷ rest)) c cs agrees in
-            let none = not-among n c.label false rest (All-up_to Apart (is_event (node_at n to false)) es apart) in
-            let other : is_event (node_of u.key) v ≡ false = named-at (node_of u.key) c.label true ∙ and_right (nat_eq c.label c.label) false refl in
-            let arr : K (node_at n c.label false) ≡ false = here false ∙ ap (λ b. b || is_among rest (node_of u.key)) other ∙ none in
-            let dep : K (node_at n c.label true) ≡ true = here true ∙ ap (λ b. b || is_among rest (node_of v.key)) (same_node-itself (node_of v.key)) in (
-              kills _ false c.arrival arr ∙ run.0,
-              subst (λ b. IsRun b (map (kill K) cs)) (sym (kills _ true c.departure dep))
-                  (run-within K to c.departure.live cs labels.1 (subst Stands first there) (agrees-less K v rest cs labels.0 (All-tail (P (v ∷ rest)) c cs agrees)) run.1),
-            )
-        | inr before ↦
-            let rest = between from to cs in
-            let agrees = subst (λ es. Agrees K es (c ∷ cs)) (between-step from to c cs ∙ cond-false (is_call from c) (v ∷ until to cs) rest before) h in
-            let here = All-head (P rest) c cs agrees in
-            let none : (dep : Bool) → is_among rest (node_at n c.label dep) ≡ false =
-            λ dep. not-among n c.label dep rest (All-up_to Apart (is_event (node_at n to false)) (Cuts.from (is_event (node_at n from true)) es) (All-from Apart (is_event (node_at n from true)) es apart))
-            in (
-              kills _ false c.arrival (here false ∙ none false) ∙ run.0,
-              subst (λ b. IsRun b (map (kill K) cs)) (sym (kills _ false c.departure (here true ∙ none true)))
-                  (run-cancelled K from to c.departure.live cs labels.1 (subst Stands before there) (All-tail (P rest) c cs agrees) run.1),
-            )
+        | inl first ↦ (rw (arr, first) run.0, rw (dep, first) (run-within K to c.departure.live cs labels.1 (rw first at there) (λ k d l e. rw first at (rest k d l e)) run.1))
+        | inr sooner ↦ (rw (arr, sooner) run.0, rw (dep, sooner) (run-cancelled K from to c.departure.live cs labels.1 (rw sooner at there) (λ k d l e. rw sooner at (rest k d l e)) run.1))
       ]

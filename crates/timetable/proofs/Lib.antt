@@ -1,3 +1,4 @@
+pub mod Words
 pub mod Late
 pub mod Sized
 pub mod Named
@@ -10,3 +11,4 @@ pub mod Changed
 pub mod Shapes
 pub mod Prepared
 pub mod Stops
+pub mod Retimed

@@ -1,26 +1,8 @@
 -- The live events of a state in the order of their keys.
-use Rattle.std.proofs.Common.{◌≡◌, ℕ, Bool, true, List, ◌∷◌, ◌++◌, Some, get_or, refl, sym, ◌∙◌, ap, subst, inl, inr}
-use Rattle.std.specs.Option.{option_map}
-use Rattle.std.specs.List.{All, AllPairs, Contains, filter}
-use Rattle.std.proofs.lemmas.List.Elements.{All-contains, All-filter, All-contains_itself, filter_passes, Contains-append_cases}
-use Rattle.std.proofs.lemmas.List.Sorted.{Contains-permutation, IsPermutation-sym}
-use Rattle.mt_base.specs.declared.keys.Key.{Key}
-use Rattle.mt_base.specs.declared.keys.Node.{Node}
-use Rattle.mt_base.specs.Order.{is_before, node_of}
-use Rattle.mt_base.proofs.KeyLemmas.{before-itself, before-asymmetric}
-use Rattle.delay_model.specs.declared.network.Network.{Network}
-use Rattle.delay_model.specs.declared.state.State.{State}
-use Rattle.delay_model.specs.declared.state.Event.{Event}
-use Rattle.delay_model.specs.Events.{events, is_live, live_events}
-use Rattle.delay_model.specs.Timing.{event_time}
-use Rattle.delay_model.proofs.Lists.{AllPairs-after, Contains-cases, Contains-filter}
-use Rattle.delay_model.proofs.Ends.{IsLiveAt}
-use Rattle.state_laws.proofs.Changed.{Contains-map}
-use Rattle.state_laws.proofs.Mappings.{contains-unmap}
-use Rattle.train_nodes.specs.Kept.{Kept, time_of, has_time}
-use Rattle.edge_rules.proofs.InLine.{AllPairs-before}
-use Rattle.timetable.specs.LiveTimes.{live_keys, live_time}
-use Rattle.timetable.specs.Settled.{IsOrderOf, HasItsTime}
+use Rattle.timetable.proofs.Words.{◌≡◌, ℕ, Bool, true, List, ◌∷◌, ◌++◌, Some, get_or, refl, sym, ◌∙◌, ap, subst, inl, inr, option_map, All, AllPairs, Contains, filter, All-contains}
+use Rattle.timetable.proofs.Words.{All-contains_itself, Contains-append_cases, Contains-permutation, IsPermutation-sym, Key, Node, is_before, node_of, before-itself, before-asymmetric}
+use Rattle.timetable.proofs.Words.{Network, State, Event, events, is_live, live_events, event_time, AllPairs-after, Contains-cases, Contains-filter, IsLiveAt, Contains-map, contains-unmap}
+use Rattle.timetable.proofs.Words.{Kept, time_of, has_time, live_keys, live_time, IsOrderOf, HasItsTime, arith, elements, All-filter, filter_passes}
 use Rattle.timetable.proofs.Named.{live-event}
 
 -- what an element of a filtered list is
@@ -48,26 +30,18 @@ module _ (es : List Event) (order : List Key) (is : IsOrderOf es order) where
     ascends : AllPairs (λ a b. is_before a b ≡ true) (xs ++ k ∷ ys)
     ascends = subst (AllPairs (λ a b. is_before a b ≡ true)) whole is.ascends
 
-    -- those before a key of the order are before it, and those after it after it
-    pub each-before : All (λ a. is_before a k ≡ true) xs
-    each-before = AllPairs-before (λ a b. is_before a b ≡ true) xs k ys ascends
-
+    -- those after a key of the order are after it
     pub each-after : All (λ b. is_before k b ≡ true) ys
     each-after = AllPairs-after (λ a b. is_before a b ≡ true) xs k ys ascends
 
     -- what is before a key stands before it
     pub stands-before : (q : Key) → IsLiveAt es q → is_before q k ≡ true → Contains xs q
     stands-before q at sooner =
-        elim (Contains-append_cases xs (k ∷ ys) q (subst (λ zs. Contains zs q) whole (live-ordered q at))) [
-          | inl here ↦ here
-          | inr later ↦ elim (Contains-cases k ys q later) [
-            | inl same ↦ let own : is_before k k ≡ true = ap (λ a. is_before a k) same ∙ sooner in let none = before-itself k in absurd (cc)
-            | inr after ↦
-                let less = All-contains (λ b. is_before k b ≡ true) ys q each-after after in
-                let none = before-asymmetric q k sooner in
-                absurd (cc)
-          ]
-        ]
+        let none = before-itself k in
+        let less = before-asymmetric q k sooner in
+        let there = live-ordered q at in
+        let after = each-after in
+        elim (Contains-append_cases xs (k ∷ ys) q (rw whole at there)) [ inl here ↦ here | inr later ↦ grind (arith, elements, Contains-cases k ys q later) ]
 
 -- the kept time of a live event is its time
 pub time-kept : (nw : Network) (st : State) (times : Kept) (order : List Key) (n : Node) → IsOrderOf (events st) order → All (HasItsTime nw st times) order → is_live st n ≡ true → (t : ℕ) × (time_of times n ≡ Some t) × (live_time nw st n ≡ Some t)
@@ -84,4 +58,5 @@ time-kept nw st times order n is kept live =
 pub keys-held : (st : State) (times : Kept) (order : List Key) → IsOrderOf (events st) order → All (λ v. has_time times (node_of v.key) ≡ true) (events st) → All (λ k. has_time times (node_of k) ≡ true) order
 keys-held st times order is held = λ i d l.
     let at = key-live (events st) order is (get_or order i d) (All-contains_itself order i d l) in
-    ap (λ k. has_time times (node_of k)) (sym at.2) ∙ All-contains (λ v. has_time times (node_of v.key) ≡ true) (events st) at.0 held at.1
+    let own = All-contains (λ v. has_time times (node_of v.key) ≡ true) (events st) at.0 held at.1 in
+    grind arith

@@ -1,32 +1,15 @@
 -- The rule at the events of a valid state, one after the other in the order of their keys.
-use Rattle.std.proofs.Common.{◌≡◌, ℕ, suc, ◌+◌, ◌^◌, ◌<◌, ◌≤◌, Bool, true, false, not, nat_eq, is_some, List, [], ◌∷◌, ◌++◌, append_assoc, map, Vec, Global, vec_len, vec_capacity, Option, Some, None, unwrap_or, length, get_or, take, drop, refl, sym, ◌∙◌, ap, subst, arith}
-use Rattle.std.specs.List.{All, Contains, filter}
-use Rattle.std.specs.Option.{option_map, option_map_or}
-use Rattle.std.proofs.lemmas.Bool.{cond-true, cond-false, false_from_ne_true}
+use Rattle.timetable.proofs.Words.{◌≡◌, ◌≢◌, ◌⊎◌, ℕ, suc, ◌+◌, ◌^◌, ◌<◌, ◌≤◌, true, false, not, is_some, List, [], ◌∷◌, ◌++◌, append_assoc, map, Vec, Global, vec_len, vec_capacity, Some}
+use Rattle.timetable.proofs.Words.{unwrap_or, length, get_or, take, drop, refl, sym, ◌∙◌, ap, subst, arith, inl, inr, All, Contains, filter, cases_Bool, false_from_ne_true, eqb-true, eq-eqb}
+use Rattle.timetable.proofs.Words.{take-append-drop, take_more, All-append, All-cons, All-nil, All-contains, All-contains_itself as All-itself, Contains-append_left, Contains-append_right}
+use Rattle.timetable.proofs.Words.{Key, Node, is_before, node_of, is_same_node, before-itself, same_node-is, Event, Edge, events, event_named, is_live, edges, incoming, event_time, IsValid}
+use Rattle.timetable.proofs.Words.{Contains-there, events-unique, IsLiveAt, valid-graph, incoming-leads, time-local, Kept, time_of, has_time, AreSized, edges_to, kept_time, local_at}
+use Rattle.timetable.proofs.Words.{Timetabled, Departure, AreListed, IsRetimed, departing_at, is_departure, IsOrderOf, HasItsTime, has_another}
 use Rattle.std.proofs.Math.Seq.{drop-cons}
-use Rattle.std.proofs.lemmas.List.{take-append-drop, take_more}
-use Rattle.std.proofs.lemmas.List.Elements.{All-append, All-cons, All-nil, All-head, All-tail, All-contains, All-contains_itself as All-itself, Contains-append_left, Contains-append_right}
-use Rattle.mt_base.specs.declared.keys.Key.{Key}
-use Rattle.mt_base.specs.declared.keys.Node.{Node}
-use Rattle.mt_base.specs.Order.{is_before, node_of, is_same_node}
-use Rattle.mt_base.proofs.KeyLemmas.{before-itself, same_node-is}
-use Rattle.delay_model.specs.declared.state.Event.{Event}
-use Rattle.delay_model.specs.declared.state.Edge.{Edge}
-use Rattle.delay_model.specs.Events.{events, event_named, is_live}
-use Rattle.delay_model.specs.Edges.{edges}
-use Rattle.delay_model.specs.Timing.{incoming, local, event_time}
-use Rattle.delay_model.specs.Valid.{IsValid}
-use Rattle.delay_model.proofs.Lists.{Contains-there}
-use Rattle.delay_model.proofs.Apart.{events-unique}
-use Rattle.delay_model.proofs.Ends.{IsLiveAt}
-use Rattle.delay_model.proofs.Solve.{valid-graph, incoming-leads, local-agree, time-local}
+use Rattle.delay_model.proofs.Solve.{local-agree}
 use Rattle.delay_model.proofs.Bounds.{incoming-fit}
-use Rattle.train_nodes.specs.Kept.{Kept, time_of, has_time, AreSized}
-use Rattle.edge_rules.specs.AtEvent.{edges_to, kept_time, local_at}
-use Rattle.edge_rules.specs.Timetabled.{Timetabled}
-use Rattle.timetable.specs.Settled.{IsOrderOf, HasItsTime, has_another}
-use Rattle.timetable.proofs.Named.{event-found, event-live}
-use Rattle.timetable.proofs.Ordered.{key-live, each-before, each-after, stands-before}
+use Rattle.timetable.proofs.{Named.event-found, Named.event-live, Ordered.key-live, Ordered.each-after, Ordered.stands-before, Retimed.listed-there, Retimed.listed-others}
+use Rattle.timetable.proofs.{Retimed.listed-same, Retimed.listed-retimed}
 
 module _ (g : Timetabled) (valid : IsValid g.network g.state) (order : List Key) (is : IsOrderOf (events g.state) order) (times : Kept) (xs : List Key) (k : Key) (ys : List Key) (whole : order ≡ xs ++ k ∷ ys) (done : All (HasItsTime g.network g.state times) xs) where
   abbrev es : List Event
@@ -36,18 +19,18 @@ module _ (g : Timetabled) (valid : IsValid g.network g.state) (order : List Key)
   gs = edges g.network g.state
 
   here : IsLiveAt es k
-  here = key-live es order is k (subst (λ zs. Contains zs k) (sym whole) (Contains-append_right xs (k ∷ ys) k (0, omega arith, refl)))
+  here = key-live es order is k (rw whole (Contains-append_right xs (k ∷ ys) k (0, omega arith, refl)))
 
   -- the event is live
   pub next-live : is_live g.state (node_of k) ≡ true
-  next-live = ap (λ q. is_live g.state (node_of q)) (sym here.2) ∙ event-live g.state here.0 here.1 here.3
+  next-live = rw (← here.2) (event-live g.state here.0 here.1 here.3)
 
   found : event_named g.state (node_of k) ≡ Some here.0
   found = ap (λ q. event_named g.state (node_of q)) (sym here.2) ∙ event-found g.state here.0 valid.trains here.1
 
   -- the edges to it are those to its key
   into : edges_to g (node_of k) ≡ incoming gs here.0.key
-  into = ap (λ o. option_map_or (λ (v : Event). incoming gs v.key) o []) found
+  into = rw found refl
 
   -- the time of each event that feeds it is kept
   origins : All (λ (e : Edge). HasItsTime g.network g.state times e.from) (incoming gs here.0.key)
@@ -59,55 +42,42 @@ module _ (g : Timetabled) (valid : IsValid g.network g.state) (order : List Key)
   agree = λ i d l. ap (λ o. unwrap_or o 0) (origins i d l)
 
   pub next-held : All (λ (e : Edge). has_time times (node_of e.from) ≡ true) (edges_to g (node_of k))
-  next-held = subst (λ hs. All (λ (e : Edge). has_time times (node_of e.from) ≡ true) hs) (sym into) (λ i d l. ap is_some (origins i d l))
+  next-held = rw into (λ i d l. ap is_some (origins i d l))
 
   pub next-fits : All (λ (e : Edge). kept_time times e.from + e.weight < 2 ^ 25) (edges_to g (node_of k))
   unfolding event_time
-  next-fits =
-      subst (λ hs. All (λ (e : Edge). kept_time times e.from + e.weight < 2 ^ 25) hs) (sym into)
-      (incoming-fit es gs (valid-graph g.network g.state valid) valid.small (kept_time times) here.0 here.1 agree)
+  next-fits = rw into (incoming-fit es gs (valid-graph g.network g.state valid) valid.small (kept_time times) here.0 here.1 agree)
 
   -- and the rule gives it its time
   pub next-local : local_at g times (node_of k) ≡ Some (event_time g.network g.state k)
   unfolding event_time
   next-local =
-      let graph = valid-graph g.network g.state valid in
-      ap (option_map (local es gs (kept_time times))) found
-      ∙ ap Some (local-agree es gs (kept_time times) (event_time g.network g.state) here.0 agree)
-      ∙ ap Some (sym (time-local es gs graph here.0 here.1))
-      ∙ ap (λ q. Some (event_time g.network g.state q)) here.2
+      rw (found, local-agree es gs (kept_time times) (event_time g.network g.state) here.0 agree, ← time-local es gs (valid-graph g.network g.state valid) here.0 here.1, here.2) refl
 
-  -- another key of the order is of another event
-  apart : (q : Key) → Contains order q → (q ≡ k → ⊥) → is_same_node (node_of k) (node_of q) ≡ false
-  apart q h differ =
+  -- a key of the order is this one, or of another event
+  pub this-or-other : (q : Key) → Contains order q → (q ≡ k) ⊎ (is_same_node (node_of k) (node_of q) ≡ false)
+  this-or-other q h =
       let at = key-live es order is q h in
-      false_from_ne_true _ (λ same.
-      let one = events-unique g.state valid.trains at.0 here.0 at.1 here.1 (ap node_of at.2 ∙ sym (same_node-is _ _ same) ∙ ap node_of (sym here.2)) in
-      differ (sym at.2 ∙ ap (λ (v : Event). v.key) one ∙ here.2))
+      elim (cases_Bool (is_same_node (node_of k) (node_of q))) [
+        | inl same ↦
+            let one = events-unique g.state valid.trains at.0 here.0 at.1 here.1 (ap node_of at.2 ∙ sym (same_node-is _ _ same) ∙ ap node_of (sym here.2)) in
+            inl (sym at.2 ∙ ap (λ (v : Event). v.key) one ∙ here.2)
+        | inr other ↦ inr other
+      ]
 
-  pub apart-before : All (λ q. is_same_node (node_of k) (node_of q) ≡ false) xs
-  apart-before = λ i d l.
-      let q = get_or xs i d in
-      let less = each-before es order is xs k ys whole i d l in
-      apart q (subst (λ zs. Contains zs q) (sym whole) (Contains-append_left xs (k ∷ ys) q (All-itself xs i d l))) (λ same.
-      let none = before-itself k in let own : is_before k k ≡ true = sym (ap (λ q. is_before q k) same) ∙ less in cc)
-
-  pub apart-after : All (λ q. is_same_node (node_of k) (node_of q) ≡ false) ys
-  apart-after = λ i d l.
-      let q = get_or ys i d in
-      let less = each-after es order is xs k ys whole i d l in
-      apart q (subst (λ zs. Contains zs q) (sym whole) (Contains-append_right xs (k ∷ ys) q (Contains-there k ys q (All-itself ys i d l)))) (λ same.
-      let none = before-itself k in let own : is_before k k ≡ true = sym (ap (is_before k) same) ∙ less in cc)
+  pub differ-after : All (λ q. q ≢ k) ys
+  differ-after = λ i d l same. let less = each-after es order is xs k ys whole i d l in let none = before-itself k in let own = rw same at less in cc
 
 -- part of an evaluation: the times of the first events are kept, and those listed for which another was kept before. There is room
--- for the others
-pub record IsPart (g : Timetabled) (order : List Key) (old : Kept) (before : Vec Node Global) (i : ℕ) (times : Kept) (changed : Vec Node Global) : Type 0 where
+-- for the others. As long as departures are moved, they are listed
+pub record IsPart (g : Timetabled) (order : List Key) (old : Kept) (before : Vec Node Global) (i : ℕ) (times : Kept) (changed : Vec Node Global) (reach : ℕ) (ds : List Departure) : Type 0 where
   pub done : All (HasItsTime g.network g.state times) (take i order)
   pub left : All (λ k. time_of times (node_of k) ≡ time_of old (node_of k)) (drop i order)
   pub listed : changed.items ++ map node_of (filter (has_another g.network g.state old) (drop i order)) ≡ before.items ++ map node_of (filter (has_another g.network g.state old) order)
   pub room : vec_len changed + length (drop i order) ≤ vec_capacity changed
   pub capacity : vec_capacity changed ≡ vec_capacity before
   pub sized : (labels : List ℕ) → AreSized labels old → AreSized labels times
+  pub departures : 0 < reach → AreListed times order ds
 
 -- a list is cut at one of its elements
 pub cut-at : {X : Type 0} (xs : List X) (i : ℕ) (x : X) → i < length xs → x ≡ get_or xs i x → drop i xs ≡ x ∷ drop (i + 1) xs
@@ -115,11 +85,7 @@ cut-at xs i x l is =
     let next : suc i ≡ i + 1 = omega arith in
     drop-cons xs i x l ∙ ap (λ y. y ∷ drop (suc i) xs) (sym is) ∙ ap (λ j. x ∷ drop j xs) next
 
-some-value : (o : Option ℕ) → is_some o ≡ true → (x : ℕ) × (o ≡ Some x)
-some-value None h = absurd (cc)
-some-value (Some x) h = (x, refl)
-
-module _ {g : Timetabled} (valid : IsValid g.network g.state) {order : List Key} (is : IsOrderOf (events g.state) order) {old : Kept} (held : All (λ k. has_time old (node_of k) ≡ true) order) {before : Vec Node Global} {i : ℕ} {times : Kept} {changed : Vec Node Global} (part : IsPart g order old before i times changed) {k : Key} (l : i < length order) (at : k ≡ get_or order i k) {n : Node} (name : n ≡ node_of k) where
+module _ {g : Timetabled} (valid : IsValid g.network g.state) {order : List Key} (is : IsOrderOf (events g.state) order) {old : Kept} (held : All (λ k. has_time old (node_of k) ≡ true) order) {before : Vec Node Global} {i : ℕ} {times : Kept} {changed : Vec Node Global} {reach : ℕ} {ds : List Departure} (part : IsPart g order old before i times changed reach ds) {k : Key} (l : i < length order) (at : k ≡ get_or order i k) {n : Node} (name : n ≡ node_of k) where
   abbrev xs : List Key
   xs = take i order
 
@@ -130,84 +96,121 @@ module _ {g : Timetabled} (valid : IsValid g.network g.state) {order : List Key}
   whole = sym (take-append-drop i order) ∙ ap (λ zs. xs ++ zs) (cut-at order i k l at)
 
   pub part-live : is_live g.state n ≡ true
-  part-live = subst (λ m. is_live g.state m ≡ true) (sym name) (next-live g valid order is times xs k ys whole part.done)
+  part-live = rw name (next-live g valid order is times xs k ys whole part.done)
 
   pub part-held : All (λ (e : Edge). has_time times (node_of e.from) ≡ true) (edges_to g n)
-  part-held =
-      subst (λ m. All (λ (e : Edge). has_time times (node_of e.from) ≡ true) (edges_to g m)) (sym name) (next-held g valid order is times xs k ys whole part.done)
+  part-held = rw name (next-held g valid order is times xs k ys whole part.done)
 
   pub part-fits : All (λ (e : Edge). kept_time times e.from + e.weight < 2 ^ 25) (edges_to g n)
-  part-fits =
-      subst (λ m. All (λ (e : Edge). kept_time times e.from + e.weight < 2 ^ 25) (edges_to g m)) (sym name) (next-fits g valid order is times xs k ys whole part.done)
+  part-fits = rw name (next-fits g valid order is times xs k ys whole part.done)
 
   left-over : length (drop i order) ≡ length ys + 1
-  left-over = let long = ap length (cut-at order i k l at) in omega arith
+  left-over = omega (arith, ap length (cut-at order i k l at))
 
   pub part-room : vec_len changed < vec_capacity changed
-  part-room = let room = part.room in omega (arith, left-over)
+  part-room = omega (arith, part.room, left-over)
 
   rest : All (λ k. time_of times (node_of k) ≡ time_of old (node_of k)) (k ∷ ys)
-  rest = subst (All (λ k. time_of times (node_of k) ≡ time_of old (node_of k))) (cut-at order i k l at) part.left
+  rest = rw (cut-at order i k l at) at part.left
 
   same : time_of times (node_of k) ≡ time_of old (node_of k)
-  same = All-head (λ k. time_of times (node_of k) ≡ time_of old (node_of k)) k ys rest
-
-  was : (x : ℕ) × (time_of old (node_of k) ≡ Some x)
-  was = some-value (time_of old (node_of k)) (subst (λ q. has_time old (node_of q) ≡ true) (sym at) (held i k l))
+  same = rest 0 k (omega arith)
 
   pub part-has : has_time times n ≡ true
-  part-has = ap (has_time times) name ∙ ap is_some (same ∙ was.1)
+  part-has = let had = rw (← at) at (held i k l) in rw name (ap is_some same ∙ had)
 
-  module _ (new : Kept) (result : Bool) (rule : local_at g times n ≡ time_of new n) (others : (m : Node) → is_same_node n m ≡ false → time_of new m ≡ time_of times m) (differs : (x y : ℕ) → time_of times n ≡ Some x → time_of new n ≡ Some y → result ≡ not (nat_eq x y)) (sizes : (labels : List ℕ) → AreSized labels times → AreSized labels new) where
-    settled : HasItsTime g.network g.state new k
-    settled = ap (time_of new) (sym name) ∙ sym rule ∙ ap (local_at g times) name ∙ next-local g valid order is times xs k ys whole part.done
+  module _ (x : ℕ) (earlier : time_of times n ≡ Some x) where
+    -- the time that was kept, until now and before
+    x-kept : kept_time times k ≡ x
+    x-kept = let own = rw name at earlier in rw own refl
 
-    counts : result ≡ has_another g.network g.state old k
-    counts =
-        differs was.0 (event_time g.network g.state k) (ap (time_of times) name ∙ same ∙ was.1) (ap (time_of new) name ∙ settled)
-        ∙ ap (λ x. not (nat_eq x (event_time g.network g.state k))) (sym (ap (λ o. unwrap_or o 0) was.1))
+    x-old : kept_time old k ≡ x
+    x-old = ap (λ o. unwrap_or o 0) (sym same) ∙ x-kept
 
-    first : All (HasItsTime g.network g.state new) (take (i + 1) order)
-    first =
-        subst (All (HasItsTime g.network g.state new)) (sym (take_more order i k l ∙ ap (λ q. xs ++ q ∷ []) (sym at)))
-        (All-append (HasItsTime g.network g.state new) xs (k ∷ [])
-        (λ j d m. others (node_of (get_or xs j d)) (ap (λ m. is_same_node m (node_of (get_or xs j d))) name ∙ apart-before g valid order is times xs k ys whole part.done j d m) ∙ part.done j d m)
-        (All-cons (HasItsTime g.network g.state new) k [] settled (All-nil (HasItsTime g.network g.state new))))
+    -- so its departure is listed at that time, and at no other
+    pub part-there : 0 < reach → k.dep ≡ true → Contains ds (departing_at x k)
+    part-there more departs = rw (← x-kept) (listed-there times order ds (part.departures more) k (i, l, sym at) departs)
 
-    last : All (λ k. time_of new (node_of k) ≡ time_of old (node_of k)) ys
-    last = λ j d m. others (node_of (get_or ys j d)) (ap (λ m. is_same_node m (node_of (get_or ys j d))) name ∙ apart-after g valid order is times xs k ys whole part.done j d m) ∙ All-tail (λ k. time_of times (node_of k) ≡ time_of old (node_of k)) k ys rest j d m
+    pub part-others : 0 < reach → (y : ℕ) → x ≢ y → All (λ d. departing_at y k ≢ d) ds
+    part-others more y differ = listed-others times order ds (part.departures more) k y (λ e. differ (sym x-kept ∙ e))
 
-    abbrev more : List Key → List Node
-    more ks = map node_of (filter (has_another g.network g.state old) ks)
+    module _ (new : Kept) (y : ℕ) (rule : local_at g times n ≡ Some y) (later : time_of new n ≡ Some y) (others : (m : Node) → is_same_node n m ≡ false → time_of new m ≡ time_of times m) (sizes : (labels : List ℕ) → AreSized labels times → AreSized labels new) where
+      settled : HasItsTime g.network g.state new k
+      settled = ap (time_of new) (sym name) ∙ later ∙ sym rule ∙ ap (local_at g times) name ∙ next-local g valid order is times xs k ys whole part.done
 
-    -- one event more, for which another time was kept
-    pub more-changed : (next : Vec Node Global) → result ≡ true → next.items ≡ changed.items ++ node_of k ∷ [] → vec_len next ≡ vec_len changed + 1 → vec_capacity next ≡ vec_capacity changed → IsPart g order old before (i + 1) new next
-    more-changed next r pushed long same =
-        let room = part.room in
-        record {
-          done = first;
-          left = last;
-          listed = ap (λ ns. ns ++ more ys) pushed
-              ∙ append_assoc changed.items (node_of k ∷ []) (more ys)
-              ∙ ap (λ ks. changed.items ++ map node_of ks) (sym (cond-true (has_another g.network g.state old k) (k ∷ filter (has_another g.network g.state old) ys) (filter (has_another g.network g.state old) ys) (sym counts ∙ r)))
-              ∙ ap (λ ks. changed.items ++ more ks) (sym (cut-at order i k l at))
-              ∙ part.listed;
-          room = omega (arith, left-over);
-          capacity = same ∙ part.capacity;
-          sized = λ labels h. sizes labels (part.sized labels h);
-        }
+      y-kept : kept_time new k ≡ y
+      y-kept = let own = rw name at later in rw own refl
 
-    -- and one whose time it was
-    pub more-same : result ≡ false → IsPart g order old before (i + 1) new changed
-    more-same r =
-        let room = part.room in
-        record {
-          done = first;
-          left = last;
-          listed = ap (λ ks. changed.items ++ map node_of ks) (sym (cond-false (has_another g.network g.state old k) (k ∷ filter (has_another g.network g.state old) ys) (filter (has_another g.network g.state old) ys) (sym counts ∙ r)))
-              ∙ ap (λ ks. changed.items ++ more ks) (sym (cut-at order i k l at))
-              ∙ part.listed;
-          room = omega (arith, left-over);
-          capacity = part.capacity;
-          sized = λ labels h. sizes labels (part.sized labels h);
-        }
+      y-time : event_time g.network g.state k ≡ y
+      y-time = ap (λ o. unwrap_or o 0) (sym settled) ∙ y-kept
+
+      counts : x ≢ y → has_another g.network g.state old k ≡ true
+      counts differ = ap not (false_from_ne_true _ (λ e. differ (sym x-old ∙ eqb-true _ _ e ∙ y-time)))
+
+      counts-not : x ≡ y → has_another g.network g.state old k ≡ false
+      counts-not e = ap not (eq-eqb _ _ (x-old ∙ e ∙ sym y-time))
+
+      abbrev IsLeft : Key → Type 0
+      IsLeft q = time_of new (node_of q) ≡ time_of times (node_of q)
+
+      -- the time of each other event of the order is as it was
+      left-or : (q : Key) → Contains order q → (q ≡ k) ⊎ IsLeft q
+      left-or q h = elim (this-or-other g valid order is times xs k ys whole part.done q h) [ inl e ↦ inl e | inr other ↦ inr (others (node_of q) (rw name other)) ]
+
+      first : All (HasItsTime g.network g.state new) (take (i + 1) order)
+      first =
+          rw (take_more order i k l, ← at)
+          (All-append (HasItsTime g.network g.state new) xs (k ∷ [])
+          (λ j d m. elim (left-or (get_or xs j d) (subst (λ zs. Contains zs (get_or xs j d)) (sym whole) (Contains-append_left xs (k ∷ ys) _ (All-itself xs j d m)))) [
+            | inl e ↦ rw e settled
+            | inr left ↦ left ∙ part.done j d m
+          ])
+          (All-cons (HasItsTime g.network g.state new) k [] settled (All-nil (HasItsTime g.network g.state new))))
+
+      last : All (λ k. time_of new (node_of k) ≡ time_of old (node_of k)) ys
+      last = λ j d m.
+          elim (left-or (get_or ys j d) (subst (λ zs. Contains zs (get_or ys j d)) (sym whole) (Contains-append_right xs (k ∷ ys) _ (Contains-there k ys _ (All-itself ys j d m))))) [
+            | inl e ↦ absurd (differ-after g valid order is times xs k ys whole part.done j d m e)
+            | inr left ↦ left ∙ rest (suc j) d (omega arith)
+          ]
+
+      stay : (k.dep ≡ true → x ≡ y) → All (λ q. is_departure q ≡ true → kept_time new q ≡ kept_time times q) order
+      stay h = λ j d m departs.
+          elim (left-or (get_or order j d) (All-itself order j d m)) [ inl e ↦ rw (e, y-kept, x-kept) (sym (h (rw e at departs))) | inr left ↦ rw left refl ]
+
+      abbrev more : List Key → List Node
+      more ks = map node_of (filter (has_another g.network g.state old) ks)
+
+      -- one event more, for which another time was kept. Its departure is moved
+      pub more-changed : (next : Vec Node Global) → x ≢ y → next.items ≡ changed.items ++ node_of k ∷ [] → vec_len next ≡ vec_len changed + 1 → vec_capacity next ≡ vec_capacity changed
+          → (rest : ℕ) (now : List Departure) → (0 < rest → 0 < reach) → (0 < rest → k.dep ≡ true → IsRetimed (departing_at x k) (departing_at y k) ds now) → (k.dep ≡ false → now ≡ ds) → IsPart g order old before (i + 1) new next rest now
+      more-changed next r pushed long same rest now reaches moved stands =
+          let room = part.room in
+          record {
+            done = first;
+            left = last;
+            listed = rw (pushed, append_assoc) (rw (cut-at order i k l at, counts r) at part.listed);
+            room = omega (arith, left-over);
+            capacity = same ∙ part.capacity;
+            sized = λ labels h. sizes labels (part.sized labels h);
+            departures = λ more.
+                let h = part.departures (reaches more) in
+                elim (cases_Bool k.dep) [
+                  | inl departs ↦ listed-retimed times order ds h new k (λ j d m. left-or (get_or order j d) (All-itself order j d m)) now (rw (x-kept, y-kept) (moved more departs))
+                  | inr arrives ↦ subst (AreListed new order) (sym (stands arrives)) (listed-same times order ds h new (stay (λ departs. absurd (cc))))
+                ];
+          }
+
+      -- and one whose time it was
+      pub more-same : x ≡ y → IsPart g order old before (i + 1) new changed reach ds
+      more-same r =
+          let room = part.room in
+          record {
+            done = first;
+            left = last;
+            listed = rw (cut-at order i k l at, counts-not r) at part.listed;
+            room = omega (arith, left-over);
+            capacity = part.capacity;
+            sized = λ labels h. sizes labels (part.sized labels h);
+            departures = λ more. listed-same times order ds (part.departures more) new (stay (λ _. r));
+          }

@@ -1,47 +1,21 @@
 -- What a message leaves of the events that changes the calls of a train, or which of its events take place.
-use Rattle.std.proofs.Common.{◌≡◌, ℕ, zero, suc, ◌+◌, ◌*◌, ◌<◌, ◌≤◌, true, cond, nat_eq, nat_le, nat_lt, List, [], ◌∷◌, ◌++◌, Option, Some, None, map, length, length-append, slice_get, filter, drop, not, Vec, Global, vec_len, vec_capacity, refl, sym, ◌∙◌, ap, subst, arith, inl, inr, ◌⊎◌}
-use Rattle.std.proofs.Math.Logic.{◌≢◌}
-use Rattle.std.specs.Option.{option_map_or}
-use Rattle.std.specs.List.{All, Contains}
-use Rattle.std.proofs.lemmas.Bool.{cond_both, and_parts, not-false, ltb-false, leb-true}
-use Rattle.std.proofs.lemmas.List.{map-append, append-nil}
-use Rattle.std.proofs.lemmas.List.Elements.{All-weaker, All-contains, Contains-append_left, Contains-append_right, Contains-append_cases, filter-append}
-use Rattle.std.proofs.lemmas.List.Sums.{length-filter, count_by-le-length}
-use Rattle.std.proofs.lemmas.Option.{slice_get_within}
-use Rattle.mt_base.specs.declared.keys.Key.{Key}
-use Rattle.mt_base.specs.declared.keys.Node.{Node}
-use Rattle.mt_base.specs.declared.plans.NewCall.{NewCall}
-use Rattle.mt_base.specs.Order.{node_of}
-use Rattle.delay_model.specs.declared.network.Network.{Network}
-use Rattle.delay_model.specs.declared.messages.Message.{Message}
-use Rattle.delay_model.specs.declared.messages.Message.TheVariants.{Report, Forecast, Cancel, Reroute, Extra, Keep, Drop, Rule}
+use Rattle.timetable.proofs.Words.{◌≡◌, ℕ, suc, ◌+◌, ◌*◌, ◌<◌, ◌≤◌, true, nat_eq, nat_le, nat_lt, List, [], ◌∷◌, ◌++◌, Option, Some, None, map, length, length-append, slice_get, filter}
+use Rattle.timetable.proofs.Words.{drop, not, Vec, Global, vec_len, vec_capacity, refl, sym, ◌∙◌, ap, arith, inl, inr, ◌⊎◌, ◌≢◌, option_map_or, All, Contains, and_parts, not-false}
+use Rattle.timetable.proofs.Words.{ltb-false, leb-true, map-append, append-nil, All-contains, Contains-append_left, Contains-append_right, Contains-append_cases, filter-append}
+use Rattle.timetable.proofs.Words.{length-filter, count_by-le-length, slice_get_within, Key, Node, NewCall, node_of, Network, Message, Report, Forecast, Cancel, Reroute, Extra, Keep, Drop}
+use Rattle.timetable.proofs.Words.{Rule, Call, Train, State, Event, effect, change_train, change_calls, kill_in, stretch, new_calls, new_train, rerouted, begin_run, end_run, events}
+use Rattle.timetable.proofs.Words.{events_at, events_of, events_from, calls_of, live_events, is_live, IsWellFormed, IsSmallCall, refusal, refused_if, stands_before, are_at_stops, IsTrain}
+use Rattle.timetable.proofs.Words.{IsValid, events_at-train, IsLiveAt, accepted-by, or-none, refused-none, contains-change, contains-unmap, mapping-events, events-from_each, trains-each}
+use Rattle.timetable.proofs.Words.{events_at-each, Kept, time_of, has_time, no_time, AreSized, blank_times, with_train_times, with_labels, IsShape, next_labels, HasItsTrain, changed_train}
+use Rattle.timetable.proofs.Words.{with_made, without_made}
 use Rattle.delay_model.specs.declared.messages.Refusal.TheVariants.{Full}
 use Rattle.delay_model.specs.declared.messages.Short.TheVariants.{Trains, Calls}
-use Rattle.delay_model.specs.declared.state.Call.{Call}
-use Rattle.delay_model.specs.declared.state.Train.{Train}
-use Rattle.delay_model.specs.declared.state.State.{State}
-use Rattle.delay_model.specs.declared.state.Event.{Event}
-use Rattle.delay_model.specs.Effect.{effect, change_train, change_calls, kill_in, stretch, new_calls, new_train, rerouted, begin_run, end_run}
-use Rattle.delay_model.specs.Events.{events, events_at, events_of, events_from, calls_of, live_events, is_live}
-use Rattle.delay_model.specs.Messages.{IsWellFormed, IsSmallCall}
-use Rattle.delay_model.specs.Refusals.{refusal, refused_if, stands_before, are_at_stops}
-use Rattle.delay_model.specs.Valid.{IsTrain, IsValid}
-use Rattle.delay_model.proofs.Apart.{events_at-train}
-use Rattle.delay_model.proofs.Ends.{IsLiveAt}
-use Rattle.state_laws.proofs.Accepted.{accepted-by, or-none, refused-none}
+use Rattle.train_nodes.proofs.CallPlaces.{length-at}
 use Rattle.state_laws.proofs.Added.{events-push}
 use Rattle.state_laws.proofs.Cancelled.{cancel-mapping}
 use Rattle.state_laws.proofs.Cancels.{kill_at}
-use Rattle.state_laws.proofs.Changed.{contains-change}
 use Rattle.state_laws.proofs.Extras.{IsFreshCall, made, new-fresh}
-use Rattle.state_laws.proofs.Mappings.{contains-unmap, mapping-events}
-use Rattle.state_laws.proofs.Parts.{events-from_each, trains-each}
-use Rattle.state_laws.proofs.Stretches.{events_at-each}
 use Rattle.state_laws.proofs.Swapped.{swap-of}
-use Rattle.train_nodes.specs.Kept.{Kept, time_of, has_time, change_at, no_time, AreSized, blank_times, with_train_times, with_labels, without_labels}
-use Rattle.train_nodes.specs.Kinds.{IsShape}
-use Rattle.timetable.specs.Settled.{next_labels}
-use Rattle.timetable.specs.Shapes.{HasItsTrain, changed_train, with_made, without_made}
 use Rattle.train_nodes.proofs.TimeLemmas.{pushed-old, pushed-new, added-old, added-new, kept-again, popped-again}
 use Rattle.timetable.proofs.Sized.{next_of, sized-trains, sized-at, sized-push, sized-more, labels-kept}
 
@@ -59,26 +33,19 @@ pub record IsReshaped (old new : State) (n : ℕ) (times after : Kept) : Type 0 
   pub kept : (m : Node) → has_time times m ≡ true → time_of after m ≡ time_of times m
 
 pub live-count : (es fs : List Event) → length (live_events (es ++ fs)) ≡ length (live_events es) + length (live_events fs)
-live-count es fs = ap length (filter-append (λ (v : Event). v.live) es fs) ∙ length-append (live_events es) (live_events fs)
+live-count es fs = rw (filter-append, length-append) refl
 
 live-le : (es : List Event) → length (live_events es) ≤ length es
-live-le es = let e = length-filter (λ (v : Event). v.live) es in let l = count_by-le-length (λ (v : Event). v.live) es in omega arith
+live-le es = omega (arith, length-filter (λ (v : Event). v.live) es, count_by-le-length (λ (v : Event). v.live) es)
 
 events-count : (n route : ℕ) (cs : List Call) → length (events_at n route cs) ≡ 2 * length cs
 events-count n route [] = refl
-events-count n route (c ∷ cs) = let e = events-count n route cs in omega arith
+events-count n route (c ∷ cs) = omega (arith, events-count n route cs)
 
 -- where none becomes live, there are no more live events
 fewer-live : (h : Event → Event) → ((v : Event) → (h v).live ≡ true → v.live ≡ true) → (es : List Event) → length (live_events (map h es)) ≤ length (live_events es)
 fewer-live h lives [] = omega arith
-fewer-live h lives (v ∷ vs) =
-    let le = fewer-live h lives vs in
-    let here = live-count (h v ∷ []) (map h vs) in
-    let there = live-count (v ∷ []) vs in
-    let one : length (live_events (h v ∷ [])) ≤ length (live_events (v ∷ [])) =
-    cond_both (h v).live (h v ∷ []) [] (λ es. length es ≤ length (live_events (v ∷ []))) (λ l. subst (λ b. 1 ≤ length (cond b (v ∷ []) [])) (sym (lives v l)) (omega arith)) (λ _. omega arith)
-    in
-    omega arith
+fewer-live h lives (v ∷ vs) = grind (arith, lives v, fewer-live h lives vs)
 
 -- the events of other trains stay
 others-stay : (st : State) (n : ℕ) (f : Train → Train) (v : Event) → Contains (events st) v → v.key.train ≢ n → Contains (events_from 0 (change_train n f st.trains)) v
@@ -98,11 +65,11 @@ cancel-reshaped st n from to times sized =
     let is_new = mapping-events st new n (kill_in es n) h m in
     record {
       known = λ w hw live.
-          let r = contains-unmap h (events st) w (subst (λ vs. Contains vs w) is_new hw) in
+          let r = contains-unmap h (events st) w (rw is_new at hw) in
           inl (r.0, r.1, sym (m.mapped.keys r.0) ∙ ap (λ (v : Event). v.key) r.2, m.mapped.lives r.0 (ap (λ (v : Event). v.live) r.2 ∙ live));
       others = others-stay st n (change_calls (map (kill_in es n)));
       fewer = let le = fewer-live h m.mapped.lives (events st) in let e = ap (λ vs. length (live_events vs)) is_new in omega arith;
-      sized = sized ∙ ap (map (λ l. 2 * l)) (sym (labels-kept n (change_calls (map (kill_in es n))) st.trains (λ t. refl)));
+      sized = rw (labels-kept n (change_calls (map (kill_in es n))) st.trains (λ t. refl)) sized;
       kept = λ m h. refl;
     }
 
@@ -123,7 +90,7 @@ used-below st n t trains got =
     let P : Event → Type 0 = λ v. v.key.train ≡ n → v.key.label < t.next_label in
     events-from_each P 0 st.trains (λ i at u e own.
     let here : (c : Call) → c.label < u.next_label → at ≡ n → c.label < t.next_label =
-    λ c l same. let alike : u ≡ t = let j : i ≡ n = omega arith in let both = ap (slice_get st.trains) j in cc in subst (λ (x : Train). c.label < x.next_label) alike l
+    λ c l same. let j : i ≡ n = omega arith in let own = rw j at own in grind arith
     in
     events_at-each P (λ c. c.label < u.next_label) at u.route (λ c l. (here c l, here c l)) u.calls (trains-each IsTrain st.trains trains i i u (omega arith) own).used)
 
@@ -146,23 +113,19 @@ reroute-reshaped nw st n from to via times valid small h sized =
     let low = t.next_label in
     let high = low + length via in
     let back = s.next ∷ s.rest in
-    let is_made : s.made ≡ events_at n t.route (new_calls low via) = sym s.is_made ∙ ap (λ o. option_map_or (λ (t : Train). events_at n t.route (new_calls t.next_label via)) o []) s.got in
-    let old_live : (w : Event) → w.live ≡ true → Contains (s.front ++ (s.mid ++ back)) w → IsLiveAt (events st) w.key = λ w live c. (w, subst (λ vs. Contains vs w) (sym s.old) c, refl, live) in
+    let is_made : s.made ≡ events_at n t.route (new_calls low via) = rw (← s.is_made, s.got) refl in
+    let old_live : (w : Event) → w.live ≡ true → Contains (s.front ++ (s.mid ++ back)) w → IsLiveAt (events st) w.key = λ w live c. (w, rw s.old c, refl, live) in
     let enough : length via ≤ st.spare_calls = spare-of st.spare_calls (length via) (accepted-by nw st (Reroute n from to via) h).room in
     record {
       known = λ w hw live.
-          elim (Contains-append_cases s.front (s.made ++ back) w (subst (λ vs. Contains vs w) s.new hw)) [
+          elim (Contains-append_cases s.front (s.made ++ back) w (rw s.new at hw)) [
             | inl front ↦ inl (old_live w live (Contains-append_left s.front (s.mid ++ back) w front))
             | inr later ↦ elim (Contains-append_cases s.made back w later) [
               | inl fresh ↦
-                  let f = All-contains (IsWithin n low high) (events_at n t.route (new_calls low via)) w (within-each n low high t.route (new_calls low via) (new-fresh low high via (omega arith) small)) (subst (λ vs. Contains vs w) is_made fresh) in
+                  let f = All-contains (IsWithin n low high) (events_at n t.route (new_calls low via)) w (within-each n low high t.route (new_calls low via) (new-fresh low high via (omega arith) small)) (rw is_made at fresh) in
                   inr (record {
                     unknown = λ v hv same.
-                        let train : v.key.train ≡ n = ap (λ (m : Node). m.train) same ∙ f.train in
-                        let less = All-contains (λ v. v.key.train ≡ n → v.key.label < low) (events st) v (used-below st n t valid.trains s.got) hv train in
-                        let label : v.key.label ≡ w.key.label = ap (λ (m : Node). m.label) same in
-                        let more = f.from in
-                        absurd (omega arith);
+                        grind (arith, All-contains (λ v. v.key.train ≡ n → v.key.label < low) (events st) v (used-below st n t valid.trains s.got) hv, f.train, f.from);
                     blank = added-new n (length via) times (node_of w.key) low f.train (sized-at st times n t sized s.got) f.from f.below;
                   })
               | inr behind ↦ inl (old_live w live (Contains-append_right s.front (s.mid ++ back) w (Contains-append_right s.mid back w behind)))
@@ -170,16 +133,12 @@ reroute-reshaped nw st n from to via times valid small h sized =
           ];
       others = others-stay st n (rerouted from to via);
       fewer =
-          let a = live-count s.front (s.mid ++ back) in
-          let b = live-count s.mid back in
-          let c = live-count s.front (s.made ++ back) in
-          let d = live-count s.made back in
-          let e = live-le s.made in
-          let f = ap (λ vs. length vs) is_made ∙ events-count n t.route (new_calls low via) in
-          let g = length-new low via in
-          let i = ap (λ vs. length (live_events vs)) s.old in
-          let j = ap (λ vs. length (live_events vs)) s.new in
-          omega arith;
+          let made = ap length is_made in
+          let old = ap (λ vs. length (live_events vs)) s.old in
+          let now = ap (λ vs. length (live_events vs)) s.new in
+          let a = live-count s.front (s.mid ++ back) in let b = live-count s.mid back in
+          let c = live-count s.front (s.made ++ back) in let d = live-count s.made back in
+          omega (arith, live-le s.made, events-count n t.route (new_calls low via), length-new low via);
       sized = sized-more st.trains times n (length via) (rerouted from to via) (λ t. refl) sized;
       kept = λ m. added-old n (length via) times m;
     }
@@ -197,9 +156,7 @@ length-end (c ∷ d ∷ ds) = ap suc (length-end (d ∷ ds))
 next-number : (nw : Network) (st : State) (n day route : ℕ) (cs : List NewCall) → refusal nw st (Extra n day route cs) ≡ None → n ≡ length st.trains
 next-number nw st n day route cs h =
     let a = accepted-by nw st (Extra n day route cs) h in
-    let low = leb-true n (length st.trains) (and_parts (nat_le n (length st.trains)) (are_at_stops nw cs) (not-false _ a.known)).0 in
-    let high = ltb-false n (length st.trains) a.new in
-    omega arith
+    omega (arith, leb-true n (length st.trains) (and_parts (nat_le n (length st.trains)) (are_at_stops nw cs) (not-false _ a.known)).0, ltb-false n (length st.trains) a.new)
 
 -- each event is of one of the trains
 numbers-below : (st : State) → All (λ v. v.key.train < length st.trains) (events st)
@@ -207,7 +164,7 @@ unfolding events
 numbers-below st =
     events-from_each (λ v. v.key.train < length st.trains) 0 st.trains (λ i at t e got.
     let less = slice_get_within st.trains i t got in
-    All-weaker (λ v. v.key.train ≡ at) (λ v. v.key.train < length st.trains) (λ v own. omega arith) (events_of at t) (events_at-train at t.route t.calls))
+    λ j d l. let own = events_at-train at t.route t.calls j d l in omega arith)
 
 extra-reshaped : (nw : Network) (st : State) (n day route : ℕ) (cs : List NewCall) (times : Kept) → All IsSmallCall cs → refusal nw st (Extra n day route cs) ≡ None → AreSized (next_labels st) times → IsReshaped st (effect st (Extra n day route cs)) n times (with_train_times (length cs) times)
 unfolding effect events
@@ -216,34 +173,27 @@ extra-reshaped nw st n day route cs times small h sized =
     let at = next-number nw st n day route cs h in
     let es = events st in
     let es_new = events_of n t in
-    let is_new : events_from 0 (st.trains ++ t ∷ []) ≡ es ++ (es_new ++ []) = events-push 0 n st.trains t (omega arith) in
+    let is_new : events_from 0 (st.trains ++ t ∷ []) ≡ es ++ es_new = rw (events-push 0 n st.trains t (omega arith), append-nil) refl in
     let enough : length cs ≤ st.spare_calls = spare-of st.spare_calls (length cs) (or-none (refused_if (nat_eq st.spare_trains 0) (Full Trains)) _ (accepted-by nw st (Extra n day route cs) h).room).1 in
     let long = sized-trains st times sized in
     record {
       known = λ w hw live.
-          elim (Contains-append_cases es (es_new ++ []) w (subst (λ vs. Contains vs w) is_new hw)) [
+          elim (Contains-append_cases es es_new w (rw is_new at hw)) [
             | inl old ↦ inl (w, old, refl, live)
             | inr fresh ↦
-                let f = All-contains (IsWithin n 0 (length cs)) es_new w (within-each n 0 (length cs) route t.calls (made cs small).fresh) (subst (λ vs. Contains vs w) (append-nil es_new) fresh) in
+                let f = All-contains (IsWithin n 0 (length cs)) es_new w (within-each n 0 (length cs) route t.calls (made cs small).fresh) fresh in
                 let own = f.train in
                 inr (record {
-                  unknown = λ v hv same.
-                      let less = All-contains (λ v. v.key.train < length st.trains) es v (numbers-below st) hv in
-                      let train : v.key.train ≡ w.key.train = ap (λ (m : Node). m.train) same in
-                      absurd (omega arith);
+                  unknown = λ v hv same. grind (arith, All-contains (λ v. v.key.train < length st.trains) es v (numbers-below st) hv, f.train);
                   blank = pushed-new (length cs) times (node_of w.key) (omega arith) f.below;
                 })
           ];
-      others = λ v hv _. subst (λ vs. Contains vs v) (sym is_new) (Contains-append_left es (es_new ++ []) v hv);
+      others = λ v hv _. rw is_new (Contains-append_left es es_new v hv);
       fewer =
-          let a = live-count es (es_new ++ []) in
-          let b = ap (λ vs. length (live_events vs)) (append-nil es_new) in
-          let c = live-le es_new in
-          let d = events-count n route t.calls in
-          let e = length-begin (end_run (new_calls 0 cs)) ∙ length-end (new_calls 0 cs) ∙ length-new 0 cs in
-          let i = ap (λ vs. length (live_events vs)) is_new in
-          omega arith;
-      sized = sized-push (next_labels st) times (length cs) sized ∙ ap (map (λ l. 2 * l)) (sym (map-append next_of st.trains (t ∷ [])));
+          let own = ap (λ vs. length (live_events vs)) is_new in
+          let long = length-begin (end_run (new_calls 0 cs)) ∙ length-end (new_calls 0 cs) ∙ length-new 0 cs in
+          omega (arith, live-count es es_new, live-le es_new, events-count n route t.calls);
+      sized = rw (map-append next_of st.trains (t ∷ [])) (sized-push (next_labels st) times (length cs) sized);
       kept = λ m. pushed-old (length cs) times m;
     }
 
@@ -262,11 +212,6 @@ rerouted-there : (nw : Network) (st : State) (n from to : ℕ) (via : List NewCa
 rerouted-there nw st n from to via h =
     train-of (slice_get st.trains n) from to (and_parts (stands_before from to (calls_of st n)) _ (not-false _ (accepted-by nw st (Reroute n from to via) h).known)).0
 
-length-changed : {X : Type 0} (n : ℕ) (f : X → X) (xs : List X) → length (change_at n f xs) ≡ length xs
-length-changed n f [] = refl
-length-changed zero f (x ∷ xs) = refl
-length-changed (suc n) f (x ∷ xs) = ap suc (length-changed n f xs)
-
 -- the train that an accepted message names is there, and first times for the events that it makes can be kept and taken away again
 pub record IsFitting (st : State) (m : Message) (times : Kept) : Type 0 where
   pub there : HasItsTrain (length st.trains) m
@@ -282,23 +227,18 @@ fitting nw st (Cancel n from to) times shape h sized =
 fitting nw st (Reroute n from to via) times shape h sized =
     let r = rerouted-there nw st n from to via h in
     let less = slice_get_within st.trains n r.0 r.1 in
-    let long = length-changed n (λ ts. ts ++ blank_times (length via)) times.trains in
+    let long = length-at n (λ ts. ts ++ blank_times (length via)) times.trains in
     let same = sized-trains st times sized in
     record {
       there = less;
       within = omega arith;
-      undone = ap (λ o. without_labels n (option_map_or next_of o 0) (with_labels n (length via) times)) r.1
-          ∙ kept-again n (length via) r.0.next_label times (sized-at st times n r.0 sized r.1);
+      undone = rw r.1 (kept-again n (length via) r.0.next_label times (sized-at st times n r.0 sized r.1));
     }
 fitting nw st (Extra n day route cs) times shape h sized =
     let at = next-number nw st n day route cs h in
     let long = length-append times.trains (blank_times (length cs) ∷ []) in
     let same = sized-trains st times sized in
-    record {
-      there = tt;
-      within = omega arith;
-      undone = popped-again (length cs) times;
-    }
+    record { there = tt; within = omega arith; undone = popped-again (length cs) times }
 fitting nw st (Report n t) times shape h sized = absurd shape
 fitting nw st (Forecast n t) times shape h sized = absurd shape
 fitting nw st (Keep feeder train) times shape h sized = absurd shape

@@ -1,21 +1,8 @@
 -- How many times are kept for each train, where there are two for each label that it has used.
-use Rattle.std.proofs.Common.{◌≡◌, ℕ, zero, suc, ◌+◌, ◌*◌, ◌<◌, true, false, List, [], ◌∷◌, ◌++◌, Some, map, length, length-append, set, slice_get, refl, sym, ◌∙◌, ap, arith}
-use Rattle.std.specs.Option.{option_map}
-use Rattle.std.specs.List.{All}
-use Rattle.std.proofs.lemmas.List.{length-map, length-replicate, map-append, length-set}
+use Rattle.timetable.proofs.Words.{◌≡◌, ℕ, zero, suc, ◌+◌, ◌*◌, ◌<◌, true, false, List, [], ◌∷◌, ◌++◌, Some, map, length, length-append, set, slice_get, refl, ◌∙◌, ap, arith, option_map}
+use Rattle.timetable.proofs.Words.{All, length-map, length-replicate, map-append, length-set, Node, node_of, Train, State, Event, change_train, node_at, events, IsTrain, events-from_each}
+use Rattle.timetable.proofs.Words.{trains-each, events_at-each, Kept, has_time, with_time, place_of, change_at, no_time, AreSized, blank_times, with_train_times, with_labels, next_labels}
 use Rattle.std.proofs.lemmas.Option.{slice_get-map}
-use Rattle.mt_base.specs.declared.keys.Node.{Node}
-use Rattle.mt_base.specs.Order.{node_of}
-use Rattle.delay_model.specs.declared.state.Train.{Train}
-use Rattle.delay_model.specs.declared.state.State.{State}
-use Rattle.delay_model.specs.declared.state.Event.{Event}
-use Rattle.delay_model.specs.Effect.{change_train, node_at}
-use Rattle.delay_model.specs.Events.{events}
-use Rattle.delay_model.specs.Valid.{IsTrain}
-use Rattle.state_laws.proofs.Parts.{events-from_each, trains-each}
-use Rattle.state_laws.proofs.Stretches.{events_at-each}
-use Rattle.train_nodes.specs.Kept.{Kept, has_time, with_time, place_of, change_at, no_time, AreSized, blank_times, with_train_times, with_labels}
-use Rattle.timetable.specs.Settled.{next_labels}
 use Rattle.train_nodes.proofs.TimeLemmas.{held}
 
 abbrev twice : ℕ → ℕ
@@ -30,52 +17,43 @@ length-blank labels = length-replicate (2 * labels) no_time
 -- there are times for all trains, and of each for all its labels
 pub sized-trains : (st : State) (k : Kept) → AreSized (next_labels st) k → length k.trains ≡ length st.trains
 sized-trains st k sized =
-    sym (length-map k.trains length) ∙ ap length sized ∙ length-map (next_labels st) twice ∙ length-map st.trains next_of
+    let e = ap length sized in
+    grind (arith, length-map k.trains length, length-map (next_labels st) twice, length-map st.trains next_of)
 
 pub sized-at : (st : State) (k : Kept) (n : ℕ) (t : Train) → AreSized (next_labels st) k → slice_get st.trains n ≡ Some t → option_map length (slice_get k.trains n) ≡ Some (2 * t.next_label)
-sized-at st k n t sized got =
-    sym (slice_get-map length k.trains n)
-    ∙ ap (λ ls. slice_get ls n) sized
-    ∙ slice_get-map twice (next_labels st) n
-    ∙ ap (option_map twice) (slice_get-map next_of st.trains n ∙ ap (option_map next_of) got)
+sized-at st k n t sized got = grind (arith, slice_get-map length k.trains n, slice_get-map twice (next_labels st) n, slice_get-map next_of st.trains n)
 
 -- a write of one time changes no number of times
 lengths-set : (n p x : ℕ) (xss : List (List ℕ)) → map length (change_at n (λ xs. set xs p x) xss) ≡ map length xss
 lengths-set n p x [] = refl
-lengths-set zero p x (xs ∷ xss) = ap (λ l. l ∷ map length xss) (length-set xs p x)
-lengths-set (suc n) p x (xs ∷ xss) = ap (λ ls. length xs ∷ ls) (lengths-set n p x xss)
+lengths-set zero p x (xs ∷ xss) = rw length-set refl
+lengths-set (suc n) p x (xs ∷ xss) = rw (lengths-set n p x xss) refl
 
 pub sized-write : (labels : List ℕ) (k : Kept) (n : Node) (x : ℕ) → AreSized labels k → AreSized labels (with_time n x k)
 sized-write labels k n x sized = lengths-set n.train (place_of n) x k.trains ∙ sized
 
 -- a train more, or labels more of a train
 pub sized-push : (labels : List ℕ) (k : Kept) (more : ℕ) → AreSized labels k → AreSized (labels ++ more ∷ []) (with_train_times more k)
-sized-push labels k more sized =
-    map-append length k.trains (blank_times more ∷ [])
-    ∙ ap (λ ls. ls ++ length (blank_times more) ∷ []) sized
-    ∙ ap (λ l. map twice labels ++ l ∷ []) (length-blank more)
-    ∙ sym (map-append twice labels (more ∷ []))
+sized-push labels k more sized = rw (map-append, sized, length-blank, map-append) refl
 
 lengths-more : (n more : ℕ) (xss : List (List ℕ)) → map length (change_at n (λ xs. xs ++ blank_times more) xss) ≡ change_at n (λ l. l + 2 * more) (map length xss)
 lengths-more n more [] = refl
-lengths-more zero more (xs ∷ xss) = ap (λ l. l ∷ map length xss) (length-append xs (blank_times more) ∙ ap (λ l. length xs + l) (length-blank more))
-lengths-more (suc n) more (xs ∷ xss) = ap (λ ls. length xs ∷ ls) (lengths-more n more xss)
+lengths-more zero more (xs ∷ xss) = rw (length-append, length-blank) refl
+lengths-more (suc n) more (xs ∷ xss) = rw (lengths-more n more xss) refl
 
 labels-more : (n more : ℕ) (f : Train → Train) (ts : List Train) → ((t : Train) → (f t).next_label ≡ t.next_label + more) → map twice (map next_of (change_train n f ts)) ≡ change_at n (λ l. l + 2 * more) (map twice (map next_of ts))
 labels-more n more f [] h = refl
-labels-more zero more f (t ∷ ts) h =
-    let e : 2 * (t.next_label + more) ≡ 2 * t.next_label + 2 * more = omega arith in
-    ap (λ l. l ∷ map twice (map next_of ts)) (ap twice (h t) ∙ e)
-labels-more (suc n) more f (t ∷ ts) h = ap (λ ls. twice t.next_label ∷ ls) (labels-more n more f ts h)
+labels-more zero more f (t ∷ ts) h = let e = h t in grind arith
+labels-more (suc n) more f (t ∷ ts) h = rw (labels-more n more f ts h) refl
 
 pub sized-more : (ts : List Train) (k : Kept) (n more : ℕ) (f : Train → Train) → ((t : Train) → (f t).next_label ≡ t.next_label + more) → AreSized (map next_of ts) k → AreSized (map next_of (change_train n f ts)) (with_labels n more k)
-sized-more ts k n more f h sized = lengths-more n more k.trains ∙ ap (change_at n (λ l. l + 2 * more)) sized ∙ sym (labels-more n more f ts h)
+sized-more ts k n more f h sized = rw (lengths-more n more k.trains, sized, labels-more n more f ts h) refl
 
 -- no label more
 pub labels-kept : (n : ℕ) (f : Train → Train) (ts : List Train) → ((t : Train) → (f t).next_label ≡ t.next_label) → map next_of (change_train n f ts) ≡ map next_of ts
 labels-kept n f [] h = refl
-labels-kept zero f (t ∷ ts) h = ap (λ l. l ∷ map next_of ts) (h t)
-labels-kept (suc n) f (t ∷ ts) h = ap (λ ls. t.next_label ∷ ls) (labels-kept n f ts h)
+labels-kept zero f (t ∷ ts) h = rw (h t) refl
+labels-kept (suc n) f (t ∷ ts) h = rw (labels-kept n f ts h) refl
 
 -- there is a time for each event
 pub all-held : (st : State) (k : Kept) → All IsTrain st.trains → AreSized (next_labels st) k → All (λ v. has_time k (node_of v.key) ≡ true) (events st)
@@ -84,7 +62,6 @@ all-held st k trains sized =
     let P : Event → Type 0 = λ v. has_time k (node_of v.key) ≡ true in
     events-from_each P 0 st.trains (λ i at t e got.
     let same : i ≡ at = omega arith in
-    let own : slice_get st.trains at ≡ Some t = ap (slice_get st.trains) (sym same) ∙ got in
-    let long = sized-at st k at t sized own in
+    let long = sized-at st k at t sized (rw same at got) in
     events_at-each P (λ c. c.label < t.next_label) at t.route (λ c l. (held k (node_at at c.label false) t.next_label long l, held k (node_at at c.label true) t.next_label long l)) t.calls
-    (trains-each IsTrain st.trains trains at at t (omega arith) own).used)
+    (trains-each IsTrain st.trains trains at at t (omega arith) (rw same at got)).used)

@@ -1,38 +1,20 @@
 -- Lists in ascending order are unique, by any total order in which elements that tie are one; and so is the order of the keys of events.
-use Rattle.std.proofs.Common.{◌≡◌, ◌≢◌, Bool, true, false, List, [], ◌∷◌, map, get_or, refl, sym, ◌∙◌, ap, subst, arith, inl, inr}
+use Rattle.timetable.proofs.Words.{◌≡◌, ◌≢◌, Bool, true, false, List, [], ◌∷◌, map, get_or, refl, sym, ◌∙◌, ap, subst, arith, inl, inr, IsTotalOrder, All, AllPairs, Contains, IsPermutation}
+use Rattle.timetable.proofs.Words.{IsSorted, is_lt, is_eq, Ordering, Equal, cond_both, All-nil, All-cons, All-head, All-tail, All-weaker, All-contains, All-contains_itself, AllPairs-filter}
+use Rattle.timetable.proofs.Words.{sorted_far, ranks_by, All-permutation, IsPermutation-refl, IsPermutation-sym, IsPermutation-trans, IsPermutation-cons, IsPermutation-middle, Key}
+use Rattle.timetable.proofs.Words.{is_before, node_of, keys_total, exact_keys, State, Event, events, live_events, IsTrain, AllPairs-nil, AllPairs-cons, AllPairs-tail, AllPairs-after}
+use Rattle.timetable.proofs.Words.{Contains-cases, AreApart, events-apart, live_keys, IsOrderOf, placed, in_order, suc, All-map}
 use Rattle.std.specs.Bool.{Decides}
-use Rattle.std.specs.Cmp.{IsTotalOrder}
-use Rattle.std.specs.List.{All, AllPairs, Contains}
-use Rattle.std.specs.List.Sorted.{IsPermutation, IsSorted}
-use Rattle.std.specs.Ordering.{is_lt, is_eq, ordering_reverse}
-use Rattle.std.specs.declared.cmp.Ordering.{Ordering}
-use Rattle.std.specs.declared.cmp.Ordering.TheVariants.{Less, Equal, Greater}
-use Rattle.std.proofs.lemmas.Bool.{cond_both}
 use Rattle.std.proofs.lemmas.Cmp.{tied_itself}
-use Rattle.std.proofs.lemmas.List.Elements.{All-map, All-nil, All-cons, All-head, All-tail, All-weaker, All-contains, All-contains_itself}
-use Rattle.std.proofs.lemmas.List.Kept.{AllPairs-filter}
-use Rattle.std.proofs.lemmas.List.Sorted.{sorted_far, ranks_by, All-permutation, IsPermutation-refl, IsPermutation-sym, IsPermutation-trans, IsPermutation-cons, IsPermutation-middle}
 use Rattle.std.proofs.lemmas.Map.Keys.{IsDistinct-IsPermutation}
 use Rattle.std.proofs.lemmas.Map.Made.{AllPairs-from_IsDistinct, IsDistinct-from_AllPairs}
-use Rattle.mt_base.specs.declared.keys.Key.{Key}
-use Rattle.mt_base.specs.Order.{key_cmp, is_before, node_of}
-use Rattle.mt_base.proofs.KeyLemmas.{keys_total, exact_keys}
-use Rattle.delay_model.specs.declared.state.State.{State}
-use Rattle.delay_model.specs.declared.state.Event.{Event}
-use Rattle.delay_model.specs.Events.{events, live_events}
-use Rattle.delay_model.specs.Valid.{IsTrain}
-use Rattle.delay_model.proofs.Lists.{AllPairs-nil, AllPairs-cons, AllPairs-tail, AllPairs-after, Contains-cases}
-use Rattle.delay_model.proofs.Apart.{AreApart, events-apart}
-use Rattle.timetable.specs.LiveTimes.{live_keys}
-use Rattle.timetable.specs.Settled.{IsOrderOf}
-use Rattle.timetable.specs.Sorted.{placed, in_order}
+use Rattle.mt_base.specs.Order.{key_cmp}
 
 -- what relates the values of each two elements relates each two values
 pub AllPairs-map : {X Y : Type 0} (R : Y → Y → Type 0) (f : X → Y) (xs : List X) → AllPairs (λ a b. R (f a) (f b)) xs → AllPairs R (map f xs)
 AllPairs-map R f [] h = AllPairs-nil R
-AllPairs-map {X} R f (x ∷ xs) h =
-    let S : X → X → Type 0 = λ a b. R (f a) (f b) in
-    AllPairs-cons R (f x) (map f xs) (All-map (R (f x)) f xs (AllPairs-after S [] x xs h)) (AllPairs-map R f xs (AllPairs-tail S x xs h))
+AllPairs-map R f (x ∷ xs) h =
+    AllPairs-cons R (f x) (map f xs) (All-map (R (f x)) f xs (λ j d l. h 0 (suc j) d (omega arith) (omega arith))) (AllPairs-map R f xs (λ i j d l m. h (suc i) (suc j) d (omega arith) (omega arith)))
 
 placed-moves : {X : Type 0} (lt : X → X → Bool) (x : X) (xs : List X) → IsPermutation (x ∷ xs) (placed lt x xs)
 placed-moves lt x [] = IsPermutation-refl (x ∷ [])
@@ -44,26 +26,6 @@ pub in_order-moves : {X : Type 0} (lt : X → X → Bool) (xs : List X) → IsPe
 in_order-moves lt [] = IsPermutation-refl []
 in_order-moves lt (x ∷ xs) = IsPermutation-trans _ _ _ (IsPermutation-cons x _ _ (in_order-moves lt xs)) (placed-moves lt x (in_order lt xs))
 
-lt-Less : (o : Ordering) → is_lt o ≡ true → o ≡ Less
-lt-Less Less h = refl
-lt-Less Equal h = cc
-lt-Less Greater h = cc
-
-eq-Equal : (o : Ordering) → is_eq o ≡ true → o ≡ Equal
-eq-Equal Less h = cc
-eq-Equal Equal h = refl
-eq-Equal Greater h = cc
-
-eq-reverse : (o : Ordering) → is_eq (ordering_reverse o) ≡ is_eq o
-eq-reverse Less = refl
-eq-reverse Equal = refl
-eq-reverse Greater = refl
-
-strict : (o p : Ordering) → p ≡ ordering_reverse o → is_lt p ≡ false → (o ≡ Equal → ⊥) → is_lt o ≡ true
-strict Less p e h n = refl
-strict Equal p e h n = absurd (n refl)
-strict Greater p e h n = let less : is_lt p ≡ true = ap is_lt e in absurd (cc)
-
 module _ {X : Type 0} {cmp : X → X → Ordering} (total : IsTotalOrder cmp) (exact : (a b : X) → cmp a b ≡ Equal → a ≡ b) where
   abbrev less : X → X → Bool
   less a b = is_lt (cmp a b)
@@ -71,24 +33,24 @@ module _ {X : Type 0} {cmp : X → X → Ordering} (total : IsTotalOrder cmp) (e
   abbrev IsLess : X → X → Type 0
   IsLess a b = less a b ≡ true
 
-  less-trans : (a b c : X) → IsLess a b → IsLess b c → IsLess a c
-  less-trans a b c h k = ap is_lt (total.trans a b c (lt-Less (cmp a b) h) (lt-Less (cmp b c) k))
+  pub less-trans : (a b c : X) → IsLess a b → IsLess b c → IsLess a c
+  less-trans a b c h k = grind (arith, total.trans a b c)
 
   pub less-itself : (a : X) → less a a ≡ false
-  less-itself a = ap is_lt (tied_itself total a)
+  less-itself a = grind (arith, tied_itself total a)
 
-  less-asymmetric : (a b : X) → IsLess a b → less b a ≡ false
-  less-asymmetric a b h = ap is_lt (total.antisymm b a ∙ ap ordering_reverse (lt-Less (cmp a b) h))
+  pub less-asymmetric : (a b : X) → IsLess a b → less b a ≡ false
+  less-asymmetric a b h = grind (arith, total.antisymm b a)
 
   -- of two elements the one is less than the other, where the other is not less than it
-  less-other : (a b : X) → less b a ≡ false → a ≢ b → IsLess a b
-  less-other a b h n = strict (cmp a b) (cmp b a) (total.antisymm b a) h (λ e. n (exact a b e))
+  pub less-other : (a b : X) → less b a ≡ false → a ≢ b → IsLess a b
+  less-other a b h n = grind (arith, total.antisymm b a, exact a b)
 
   same-decides : (a b : X) → Decides (is_eq (cmp a b)) (a ≡ b)
-  same-decides a b = (λ e. exact a b (eq-Equal (cmp a b) e), λ e. ap (λ x. is_eq (cmp a x)) (sym e) ∙ ap is_eq (tied_itself total a))
+  same-decides a b = (λ e. grind (arith, exact a b), λ e. rw e (grind (arith, tied_itself total b)))
 
   same-flips : (a b : X) → is_eq (cmp a b) ≡ is_eq (cmp b a)
-  same-flips a b = ap is_eq (total.antisymm a b) ∙ eq-reverse (cmp b a)
+  same-flips a b = grind (arith, total.antisymm a b)
 
   -- elements that differ, once they are sorted
   pub sorted-ascends : (xs ys : List X) → AllPairs (λ a b. a ≢ b) xs → IsPermutation xs ys → IsSorted cmp ys → AllPairs IsLess ys
@@ -96,7 +58,7 @@ module _ {X : Type 0} {cmp : X → X → Ordering} (total : IsTotalOrder cmp) (e
       let apart = AllPairs-from_IsDistinct same-decides ys (IsDistinct-IsPermutation (λ a b. is_eq (cmp a b)) same-flips xs ys moved (IsDistinct-from_AllPairs same-decides xs differ)) in
       λ i j d l m. less-other (get_or ys i d) (get_or ys j d) (sorted_far less (ranks_by total (λ x. x)) ys sorted i j d (omega arith) m) (apart i j d l m)
 
-  placed-ascends : (x : X) (xs : List X) → All (λ y. x ≢ y) xs → AllPairs IsLess xs → AllPairs IsLess (placed less x xs)
+  pub placed-ascends : (x : X) (xs : List X) → All (λ y. x ≢ y) xs → AllPairs IsLess xs → AllPairs IsLess (placed less x xs)
   placed-ascends x [] apart up = AllPairs-cons IsLess x [] (All-nil (IsLess x)) (AllPairs-nil IsLess)
   placed-ascends x (y ∷ ys) apart up =
       let after = AllPairs-after IsLess [] y ys up in
@@ -116,13 +78,9 @@ module _ {X : Type 0} {cmp : X → X → Ordering} (total : IsTotalOrder cmp) (e
   -- what comes after the first of a list in order is in another that begins with it, but not at its beginning
   later-in : (x : X) (xs ys : List X) → AllPairs IsLess (x ∷ xs) → All (Contains (x ∷ ys)) (x ∷ xs) → All (Contains ys) xs
   later-in x xs ys up h = λ i d l.
-      elim (Contains-cases x ys (get_or xs i d) (All-tail (Contains (x ∷ ys)) x xs h i d l)) [
-        | inl same ↦
-            let own : less x x ≡ true = ap (less x) same ∙ AllPairs-after IsLess [] x xs up i d l in
-            let none = less-itself x in
-            absurd (cc)
-        | inr there ↦ there
-      ]
+      let own = up 0 (suc i) d (omega arith) (omega arith) in
+      let none = less-itself x in
+      elim (Contains-cases x ys (get_or xs i d) (h (suc i) d (omega arith))) [ inl same ↦ grind arith | inr there ↦ there ]
 
   -- two lists in order with the same elements are one
   one-order : (xs ys : List X) → AllPairs IsLess xs → AllPairs IsLess ys → All (Contains ys) xs → All (Contains xs) ys → xs ≡ ys
@@ -130,17 +88,10 @@ module _ {X : Type 0} {cmp : X → X → Ordering} (total : IsTotalOrder cmp) (e
   one-order [] (y ∷ ys) up high h i = let l = (All-head (Contains []) y ys i).1 in absurd (omega arith)
   one-order (x ∷ xs) [] up high h i = let l = (All-head (Contains []) x xs h).1 in absurd (omega arith)
   one-order (x ∷ xs) (y ∷ ys) up high h i =
-      let first : x ≡ y = elim (Contains-cases y ys x (All-head (Contains (y ∷ ys)) x xs h)) [
-        | inl same ↦ sym same
-        | inr there ↦ elim (Contains-cases x xs y (All-head (Contains (x ∷ xs)) y ys i)) [
-          | inl same ↦ same
-          | inr later ↦
-              let lower = All-contains (IsLess x) xs y (AllPairs-after IsLess [] x xs up) later in
-              let higher = All-contains (IsLess y) ys x (AllPairs-after IsLess [] y ys high) there in
-              let none = less-asymmetric x y lower in
-              absurd (cc)
-        ]
-      ] in
+      let a = Contains-cases y ys x (h 0 x (omega arith)) in
+      let b = Contains-cases x xs y (i 0 y (omega arith)) in
+      let lower = All-contains (IsLess x) xs y (AllPairs-after IsLess [] x xs up) in
+      let first : x ≡ y = grind (arith, less-asymmetric x y, All-contains (IsLess y) ys x (AllPairs-after IsLess [] y ys high)) in
       ap (λ z. z ∷ xs) first
       ∙ ap (λ zs. y ∷ zs) (one-order xs ys (AllPairs-tail IsLess x xs up) (AllPairs-tail IsLess y ys high)
       (later-in x xs ys up (subst (λ z. All (Contains (z ∷ ys)) (x ∷ xs)) (sym first) h))

@@ -1,5 +1,7 @@
 -- The live departures of a state, each with its time, in the order of their times.
-use Rattle.std.specs.Prelude.{◌≡◌, ℕ, List, Bool, true, nat_le, Contains, filter, map}
+use Rattle.std.specs.Prelude.{◌≡◌, ℕ, List, ◌∷◌, ◌++◌, Bool, true, nat_le, Contains, filter, map}
+use Rattle.std.specs.List.{AllPairs}
+use Rattle.std.specs.List.Sorted.{IsPermutation}
 use Rattle.std.specs.declared.cmp.Ordering.{Ordering}
 use Rattle.std.specs.Ordering.{nat_cmp, ordering_then, is_lt}
 use Rattle.mt_base.specs.declared.keys.Key.{Key}
@@ -22,6 +24,14 @@ departure_cmp a b = ordering_then (nat_cmp a.time b.time) (key_cmp a.key b.key)
 abbrev pub leaves_before : Departure → Departure → Bool
 leaves_before a b = is_lt (departure_cmp a b)
 
+-- each leaves before those after it
+abbrev pub AreInOrder : List Departure → Type 0
+AreInOrder ds = AllPairs (λ a b. leaves_before a b ≡ true) ds
+
+-- the departure of this key at this time
+abbrev pub departing_at : ℕ → Key → Departure
+departing_at time k = record { time = time; key = k }
+
 -- the departure of this key, at its event's time
 abbrev pub departing : Network → State → Key → Departure
 departing nw st k = record { time = event_time nw st k; key = k }
@@ -32,6 +42,19 @@ kept_departure times k = record { time = kept_time times k; key = k }
 
 abbrev pub is_departure : Key → Bool
 is_departure k = k.dep
+
+-- these are the departures among the events of these keys, each at the time that is kept for it, in their order
+pub record AreListed (times : Kept) (keys : List Key) (ds : List Departure) : Type 0 where
+  pub moved : IsPermutation (map (kept_departure times) (filter is_departure keys)) ds
+  pub ascends : AreInOrder ds
+
+-- a departure took another's place among departures, and then its own in their order
+pub record IsRetimed (was is : Departure) (old new : List Departure) : Type 0 where
+  pub before : List Departure
+  pub after : List Departure
+  pub whole : old ≡ before ++ was ∷ after
+  pub moved : IsPermutation (before ++ is ∷ after) new
+  pub ascends : AreInOrder new
 
 -- the live departures of a state, in their order
 unfoldable pub live_departures : Network → State → List Departure

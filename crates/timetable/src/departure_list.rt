@@ -1,14 +1,12 @@
 //! The live departures in the order of their times.
 
-ghost use Rattle.std.specs.Prelude.{◌≡◌, ◌+◌, ◌≤◌, ◌++◌, ◌∷◌, [], None, IsTrue, All, drop, filter, length, map, nat_le, vec_len, vec_capacity};
+ghost use Rattle.std.specs.Prelude.{◌≡◌, ◌+◌, ◌≤◌, ◌++◌, ◌∷◌, [], true, None, IsTrue, All, drop, filter, length, map, nat_le, vec_len, vec_capacity};
 ghost use Rattle.std.specs.Iterator.{YieldsFirst, item_count};
+ghost use Rattle.std.specs.List.{AllPairs};
 ghost use Rattle.std.specs.List.Sorted.{IsNonDecreasingBy};
-ghost use Rattle.mt_base.specs.Order.{node_of};
-ghost use Rattle.delay_model.specs.declared.network.Network.{Network};
-ghost use Rattle.delay_model.specs.declared.state.State.{State};
+ghost use Rattle.mt_base.specs.Order.{is_before, node_of};
 ghost use Rattle.train_nodes.specs.Kept.{has_time};
-ghost use Rattle.timetable.specs.Departures.{is_departure, kept_departure, live_departures};
-ghost use Rattle.timetable.specs.Settled.{IsSettled};
+ghost use Rattle.timetable.specs.Departures.{AreListed, is_departure, kept_departure, leaves_before};
 
 use mt_base::keys::Key;
 use mt_base::numbers::Time;
@@ -24,6 +22,15 @@ pub struct Departure {
 
     /// Its train and call, and when it is scheduled.
     pub key: Key,
+}
+
+impl Departure {
+    /// Whether it leaves before the other: at an earlier time, or at the same time with an earlier key.
+    pub(crate) fn is_before(&self, other: &Departure) -> bool
+        ensures { result ≡ leaves_before self.now other.now }
+    {
+        self.cmp(other).is_lt()
+    }
 }
 
 /// Departures in their order, one after another. It is seen as the list of those that are still to come.
@@ -86,7 +93,7 @@ fn push_departures<L: Ledger>(
     }
 }
 
-/// Puts the live departures, of which these are the settled events, in place of those that were listed.
+/// Puts the departures among these events, which are in the order of their keys, in place of those that were listed.
 pub(crate) fn renew_departures<L: Ledger>(
     departures: &mut Vec<Departure>,
     order: &[Key],
@@ -94,8 +101,9 @@ pub(crate) fn renew_departures<L: Ledger>(
     steps: &mut Steps<L>,
 )
     requires held { All (λ k. IsTrue (has_time times.now (node_of k))) order.now }
+    requires order { AllPairs (λ a b. is_before a b ≡ true) order.now }
     requires room { length order.now ≤ vec_capacity departures.old }
-    ensures departures { (nw : Network) (st : State) → IsSettled nw st times.now order.now → departures.new.items ≡ live_departures nw st }
+    ensures departures { AreListed times.now order.now departures.new.items }
     ensures capacity { vec_capacity departures.old ≤ vec_capacity departures.new }
 {
     departures.clear();

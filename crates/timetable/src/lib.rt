@@ -9,6 +9,7 @@ pub mod faults;
 pub mod laws;
 mod messages;
 mod prepare;
+mod retiming;
 mod settle;
 pub mod timetable;
 

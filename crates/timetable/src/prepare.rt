@@ -1,6 +1,6 @@
 //! Accepted messages applied, with what is known of the live events made ready for the rule.
 
-ghost use Rattle.std.specs.Prelude.{◌≡◌, ◌+◌, ◌<◌, ◌≤◌, ◌++◌, None, OnOk, OnErr, not, length, map, filter, vec_len, vec_capacity};
+ghost use Rattle.std.specs.Prelude.{◌≡◌, ◌+◌, ◌<◌, ◌≤◌, ◌++◌, None, true, IfOk, OnOk, OnErr, not, length, map, filter, vec_len, vec_capacity};
 ghost use Rattle.mt_base.specs.Order.{node_of};
 ghost use Rattle.delay_model.specs.Effect.{effect};
 ghost use Rattle.delay_model.specs.Events.{is_live};
@@ -138,8 +138,8 @@ fn prepare_shape(
 }
 
 /// Applies an accepted message, and makes its events ready for the rule: the live ones are in their order, there is a time for each,
-/// and those that are live no longer are listed. After an error nothing is changed. Only a message that changes the calls of a train,
-/// or which of its events take place, takes memory.
+/// and those that are live no longer are listed. It answers whether the live events are as they were. After an error nothing is
+/// changed. Only a message that changes the calls of a train, or which of its events take place, takes memory.
 pub(crate) fn prepare(
     alloc: Global,
     graph: &mut Graph,
@@ -147,12 +147,14 @@ pub(crate) fn prepare(
     order: &mut Vec<Key>,
     changed: &mut Vec<Node>,
     m: &Msg,
-) -> Result<(), OutOfMemory>
+) -> Result<bool, OutOfMemory>
     requires accepted { refusal graph.old.network graph.old.state m.now ≡ None }
     requires settled { IsSettled graph.old.network graph.old.state times.old order.old.items }
     requires roomy { IsRoomy (length order.old.items) graph.old.state.spare_calls (vec_capacity order.old) (vec_capacity changed.old) }
     ensures effect { OnOk result (graph.new ≡ record graph.old { state = effect graph.old.state m.now }) }
     ensures prepared { OnOk result (IsPrepared graph.old.network graph.old.state (effect graph.old.state m.now) times.new order.new.items changed.new.items (vec_capacity order.new) (vec_capacity changed.new)) }
+    ensures same_order { IfOk result (λ same. same ≡ true → order.new ≡ order.old) }
+    ensures same_times { IfOk result (λ same. same ≡ true → times.new ≡ times.old) }
     ensures graph_kept { OnErr result (graph.new ≡ graph.old) }
     ensures times_kept { OnErr result (times.new ≡ times.old) }
     ensures order_kept { OnErr result (order.new ≡ order.old) }
@@ -162,8 +164,11 @@ pub(crate) fn prepare(
     match kind_of(m) {
         Kind::Value => apply_value(graph, m),
         Kind::Choice => apply_keep(graph, m),
-        Kind::Shape => return prepare_shape(alloc, graph, times, order, changed, m),
+        Kind::Shape => {
+            prepare_shape(alloc, graph, times, order, changed, m)?;
+            return Ok(false);
+        }
     }
     changed.clear();
-    Ok(())
+    Ok(true)
 }

@@ -1,68 +1,116 @@
 //! The rule for times, evaluated at one event after the other.
 
-ghost use Rattle.std.specs.Prelude.{◌≡◌, ◌+◌, ◌<◌, ◌≤◌, ◌^◌, ◌++◌, ℕ, List, IsTrue, Some, All, false, not, nat_eq, length, map, filter, vec_len, vec_capacity};
+ghost use Rattle.std.specs.Prelude.{◌≡◌, ◌+◌, ◌<◌, ◌≤◌, ◌^◌, ◌++◌, ℕ, List, IsTrue, Some, All, true, false, length, map, filter, vec_len, vec_capacity};
 ghost use Rattle.mt_base.specs.declared.keys.Node.{Node as ANode};
 ghost use Rattle.mt_base.specs.Order.{node_of, is_same_node};
 ghost use Rattle.delay_model.specs.Events.{events, is_live};
 ghost use Rattle.delay_model.specs.Valid.{IsValid};
 ghost use Rattle.train_nodes.specs.Kept.{time_of, has_time, AreSized};
 ghost use Rattle.edge_rules.specs.AtEvent.{edges_to, kept_time, local_at};
-ghost use Rattle.timetable.specs.Departures.{live_departures};
+ghost use Rattle.timetable.specs.Departures.{AreListed, live_departures};
 ghost use Rattle.timetable.specs.Settled.{IsOrderOf, IsSettled, HasItsTime, has_another, next_labels};
 
 use crate::departure_list::{Departure, renew_departures};
+use crate::retiming::retime;
 use edge_rules::Graph;
 use mt_base::keys::{Key, Node};
+use mt_base::numbers::Time;
 use std::sync::ledger::{Blank, Ledger};
 use train_nodes::{NodeTimes, Steps};
 
-/// Keeps the time that the rule gives an event, and answers whether another was kept for it.
+/// Keeps the time that the rule gives an event, and answers the one that was kept and this one.
 fn settle_one<L: Ledger>(
     graph: &Graph,
     n: &Node,
     times: &mut NodeTimes,
     steps: &mut Steps<L>,
-) -> bool
+) -> (Time, Time)
     requires live { IsTrue (is_live graph.now.state n.now) }
     requires has { IsTrue (has_time times.old n.now) }
     requires held { All (λ e. IsTrue (has_time times.old (node_of e.from))) (edges_to graph.now n.now) }
     requires fits { All (λ e. kept_time times.old e.from + e.weight < 2 ^ 25) (edges_to graph.now n.now) }
-    ensures rule { local_at graph.now times.old n.now ≡ time_of times.new n.now }
+    ensures rule { local_at graph.now times.old n.now ≡ Some result.1 }
+    ensures before { time_of times.old n.now ≡ Some result.0 }
+    ensures after { time_of times.new n.now ≡ Some result.1 }
     ensures others { (m : ANode) → is_same_node n.now m ≡ false → time_of times.new m ≡ time_of times.old m }
-    ensures changed { (was is : ℕ) → time_of times.old n.now ≡ Some was → time_of times.new n.now ≡ Some is → result ≡ not (nat_eq was is) }
     ensures sized { (labels : List ℕ) → AreSized labels times.old → AreSized labels times.new }
 {
-    let time = graph.local(*n, times, steps);
+    let is = graph.local(*n, times, steps);
     let was = times.read(*n, steps);
-    if was == time {
-        return false;
+    if is == was {
+        return (was, is);
     }
-    times.write(*n, time);
-    true
+    times.write(*n, is);
+    (was, is)
 }
 
 /// Keeps the time of each of these events, which are the live ones in the order of their keys, and lists those for which another was
-/// kept.
+/// kept. Departures that get another time are moved to their places, past `reach` others in all. It answers what is left of the reach:
+/// 0 where the departures are to be listed anew.
+fn settle_each<L: Ledger>(
+    graph: &Graph,
+    order: &[Key],
+    times: &mut NodeTimes,
+    changed: &mut Vec<Node>,
+    departures: &mut [Departure],
+    reach: usize,
+    steps: &mut Steps<L>,
+) -> usize
+    requires valid { IsValid graph.now.network graph.now.state }
+    requires order { IsOrderOf (events graph.now.state) order.now }
+    requires held { All (λ k. IsTrue (has_time times.old (node_of k))) order.now }
+    requires room { vec_len changed.old + length order.now ≤ vec_capacity changed.old }
+    requires listed { 0 < reach → AreListed times.old order.now departures.old }
+    ensures times { All (HasItsTime graph.now.network graph.now.state times.new) order.now }
+    ensures changed { changed.new.items ≡ changed.old.items ++ map node_of (filter (has_another graph.now.network graph.now.state times.old) order.now) }
+    ensures capacity { vec_capacity changed.new ≡ vec_capacity changed.old }
+    ensures sized { (labels : List ℕ) → AreSized labels times.old → AreSized labels times.new }
+    ensures listed { 0 < result → AreListed times.new order.now departures.new }
+{
+    let mut left = reach;
+    for k in order {
+        let (was, is) = settle_one(graph, &k.node(), times, steps);
+        if was != is {
+            changed.push_reserved(k.node());
+            left = retime(departures, k, was, is, left);
+        }
+    }
+    left
+}
+
+/// Keeps the time of each of these events, which are the live ones in the order of their keys, lists those for which another was kept,
+/// and lists the departures. Where departures of these very events are listed at the times that are kept, only those that get another
+/// time are moved, as long as that is less work than to sort all.
 pub(crate) fn settle<L: Ledger>(
     graph: &Graph,
     order: &[Key],
     times: &mut NodeTimes,
     changed: &mut Vec<Node>,
+    departures: &mut Vec<Departure>,
+    are_listed: bool,
     steps: &mut Steps<L>,
 )
     requires valid { IsValid graph.now.network graph.now.state }
     requires order { IsOrderOf (events graph.now.state) order.now }
     requires held { All (λ k. IsTrue (has_time times.old (node_of k))) order.now }
+    requires labels { AreSized (next_labels graph.now.state) times.old }
     requires room { vec_len changed.old + length order.now ≤ vec_capacity changed.old }
-    ensures times { All (HasItsTime graph.now.network graph.now.state times.new) order.now }
+    requires departures_room { length order.now ≤ vec_capacity departures.old }
+    requires listed { are_listed ≡ true → AreListed times.old order.now departures.old.items }
+    ensures settled { IsSettled graph.now.network graph.now.state times.new order.now }
     ensures changed { changed.new.items ≡ changed.old.items ++ map node_of (filter (has_another graph.now.network graph.now.state times.old) order.now) }
     ensures capacity { vec_capacity changed.new ≡ vec_capacity changed.old }
-    ensures sized { (labels : List ℕ) → AreSized labels times.old → AreSized labels times.new }
+    ensures departures { departures.new.items ≡ live_departures graph.now.network graph.now.state }
+    ensures departures_capacity { vec_capacity departures.old ≤ vec_capacity departures.new }
 {
-    for k in order {
-        if settle_one(graph, &k.node(), times, steps) {
-            changed.push_reserved(k.node());
-        }
+    let reach = if are_listed {
+        order.len().saturating_mul(8)
+    } else {
+        0
+    };
+    let left = settle_each(graph, order, times, changed, departures, reach, steps);
+    if left == 0 {
+        renew_departures(departures, order, times, steps);
     }
 }
 
@@ -90,6 +138,5 @@ pub(crate) fn settle_all<L: Ledger>(
     ensures departures_capacity { vec_capacity departures.old ≤ vec_capacity departures.new }
 {
     let mut steps = Steps::<L>::open(blank);
-    settle(graph, order, times, changed, &mut steps);
-    renew_departures(departures, order, times, &mut steps);
+    settle(graph, order, times, changed, departures, false, &mut steps);
 }

@@ -16,7 +16,7 @@ ghost use Rattle.timetable.specs.Running.{stepped};
 ghost use Rattle.timetable.specs.declared.faults.StepFault.TheVariants.{OutOfMemory};
 ghost use Rattle.train_nodes.specs.Kinds.{IsShape};
 
-use crate::departure_list::{Departure, Departures, departures_from, renew_departures};
+use crate::departure_list::{Departure, Departures, departures_from};
 use crate::events::{first_times, key_order};
 use crate::faults::StepFault;
 use crate::messages::check;
@@ -153,7 +153,7 @@ impl Timetable {
         ensures changed { IfOk result (λ n. n ≡ changed_count self.old.network self.old.state m.now) }
     {
         check(&self.graph, m).map_err(StepFault::Refused)?;
-        prepare(
+        let same_events = prepare(
             alloc,
             &mut self.graph,
             &mut self.times,
@@ -166,9 +166,10 @@ impl Timetable {
             &self.order,
             &mut self.times,
             &mut self.changed,
+            &mut self.departures,
+            same_events,
             steps,
         );
-        renew_departures(&mut self.departures, &self.order, &self.times, steps);
         self.count = self.count.saturating_add(1);
         Ok(self.changed.len() as u64)
     }

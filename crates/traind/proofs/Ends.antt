@@ -1,14 +1,13 @@
 -- How a run ends: what a feed holds, and what the lines leave.
-use Rattle.std.proofs.Common.{◌≡◌, ◌∙◌, ℕ, List, [], ◌++◌, Option, Some, None, Result, Ok, Err, sym, subst, ap, true, false}
-use Rattle.std.proofs.KnownBytes.{Appends-nil, Appends-trans}
+use Rattle.std.proofs.Common.{◌≡◌, ◌∙◌, ℕ, List, [], ◌++◌, Option, Some, None, Result, Ok, Err, sym, subst, ap, refl, true, false}
+use Rattle.std.proofs.KnownBytes.{Appends-nil}
 use Rattle.std.proofs.lemmas.List.{append-nil}
 use Rattle.std.proofs.lemmas.Option.{none-some}
-use Rattle.std.specs.Io.KnownBytes.{Appends, Consumes, IsAtEnd}
+use Rattle.std.specs.Io.KnownBytes.{Consumes, IsAtEnd}
 use Rattle.std.specs.Prelude.{IfErr, OnOk}
 use Rattle.std.specs.Result.{IsErrAnd}
 use Rattle.delay_model.specs.declared.network.Network.{Network}
 use Rattle.delay_model.specs.declared.state.State.{State}
-use Rattle.delay_model.specs.After.{after}
 use Rattle.delay_report.specs.Table.{table}
 use Rattle.mt_io.specs.Lines.{Line, lines_of}
 use Rattle.mt_io.specs.Reader.{Reader, IsDone}
@@ -19,9 +18,9 @@ use Rattle.traind.specs.declared.status.Fault.{Fault}
 use Rattle.traind.specs.declared.status.Fault.TheVariants.{Usage, FeedRefused, ReadFault, WriteFault, Memory, TooLong}
 use Rattle.traind.specs.Causes.{WhereLinesStop}
 use Rattle.traind.proofs.Tables.{some-same}
-use Rattle.traind.specs.Lines.{accepted_of, names_after}
-use Rattle.traind.specs.Output.{replies, output}
-use Rattle.traind.specs.Standing.{Standing, Answered}
+use Rattle.traind.specs.Fronts.{Answered, AppendsReplies}
+use Rattle.traind.specs.Output.{IsOutput}
+use Rattle.traind.specs.Standing.{Standing}
 
 -- all bytes were taken where the source is at its end
 pub all_taken : (left now : Option (List ℕ)) (bytes all : List ℕ) → Consumes left now all → IsAtEnd now → left ≡ Some bytes → all ≡ bytes
@@ -30,21 +29,19 @@ all_taken (Some xs) None bytes all source end is = absurd source
 all_taken (Some xs) (Some ys) bytes all source end is =
     sym (append-nil all) ∙ ap (λ (r : List ℕ). all ++ r) (sym end) ∙ sym source ∙ some-same xs bytes is
 
--- at the end of the input the replies and the table are the whole output
-pub whole_output : (first now : Standing) (r : Reader) (left left_now written between written_now : Option (List ℕ)) (all bytes : List ℕ) (lines : List Line)
-    → IsDone r → Answered first now r left left_now written between all lines → Appends between written_now (table now.network now.names now.state) → left ≡ Some bytes
-    → Appends written written_now (output first.network first.names first.state (lines_of true bytes))
-whole_output first now r left left_now written between written_now all bytes lines done a wrote told =
-    let these : lines_of true bytes ≡ lines = ap (lines_of true) (sym (all_taken left left_now bytes all a.source (a.end done.ended) told)) ∙ ends all lines r a.lines_so_far done in
-    subst (λ (ls : List Line). Appends written written_now (output first.network first.names first.state ls)) (sym these)
-    (Appends-trans written between written_now (replies first.network first.names first.state [] lines) (table first.network (names_after first.network first.names first.state lines) (after first.state (accepted_of first.network first.names first.state lines))) a.output
-    (subst (λ (t : Standing). Appends between written_now (table t.network t.names t.state)) a.timetable wrote))
+-- at the end of the input the replies and the table are a whole output
+pub whole_output : {first now : Standing} {r : Reader} {left left_now written between : Option (List ℕ)} {all : List ℕ} {lines : List Line} (bytes : List ℕ)
+    → IsDone r → (a : Answered first now r left left_now written between all lines) → left ≡ Some bytes
+    → IsOutput first.network first.names first.state (lines_of true bytes) (a.output.shown ++ table now.network now.names now.state)
+whole_output {first = first} {r = r} {left = left} {left_now = left_now} {all = all} {lines = lines} bytes done a told =
+    rw (ap (lines_of true) (sym (all_taken left left_now bytes all a.source (a.end done.ended) told)) ∙ ends all lines r a.lines_so_far done)
+    (record { shown = a.output.shown; replies = a.output.replies; all = ap (λ (t : Standing). a.output.shown ++ table t.network t.names t.state) a.timetable })
 
 -- before the first line nothing was taken, and nothing is written
 pub nothing_yet : (nw : Network) (names : Names) (st : State) (left written : Option (List ℕ))
-    → (bytes : List ℕ) × Consumes left left bytes × Appends written written (replies nw names st [] (lines_of false bytes))
-unfolding replies lines_of
-nothing_yet nw names st left written = ([], consumes_none left, Appends-nil written)
+    → (bytes : List ℕ) × Consumes left left bytes × AppendsReplies nw names st (lines_of false bytes) written written
+unfolding lines_of
+nothing_yet nw names st left written = ([], consumes_none left, record { shown = []; replies = refl; written = Appends-nil written })
 
 pub wherever : (T : Type 0) (f : Fault) → T → WhereLinesStop T f
 wherever T Usage t = tt

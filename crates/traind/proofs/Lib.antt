@@ -2,7 +2,6 @@ pub mod Ends
 pub mod Fronts
 pub mod Networks
 pub mod OneMore
-pub mod Rows
 pub mod SameTables
 pub mod StatusFacts
 pub mod Tables

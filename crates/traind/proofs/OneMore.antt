@@ -4,7 +4,7 @@ use Rattle.std.proofs.KnownBytes.{Appends-nil, Appends-trans}
 use Rattle.std.proofs.lemmas.Bool.{cases_Bool}
 use Rattle.std.proofs.lemmas.List.{append-nil}
 use Rattle.std.proofs.lemmas.List.Elements.{filter_map-append}
-use Rattle.std.specs.Io.KnownBytes.{Appends, IsAtEnd}
+use Rattle.std.specs.Io.KnownBytes.{Appends, Consumes, IsAtEnd}
 use Rattle.std.specs.Option.{option_map_or}
 use Rattle.delay_model.specs.declared.messages.Message.{Message}
 use Rattle.delay_model.specs.declared.messages.Refusal.{Refusal}
@@ -18,19 +18,24 @@ use Rattle.delay_report.specs.declared.replies.Reply.{Reply}
 use Rattle.delay_report.specs.Replies.{text_of_reply}
 use Rattle.message_reader.specs.declared.wire.Wire.{Wire}
 use Rattle.message_reader.specs.declared.wire.Line.{Line as Spoken}
-use Rattle.message_reader.specs.declared.wire.Line.TheVariants.{Message as Says, Flush}
+use Rattle.message_reader.specs.declared.bad.Bad.{Bad}
+use Rattle.message_reader.specs.declared.wire.Line.TheVariants.{Message as Says, Query as Asks, Flush}
+use Rattle.message_reader.specs.Lines.{line_of, message_in}
+use Rattle.message_reader.proofs.Unnamed.{same_message}
 use Rattle.message_reader.specs.Resolved.{resolved}
-use Rattle.mt_io.specs.Lines.{Line}
-use Rattle.mt_io.specs.Reader.{Reader, Gives, GivesNext}
-use Rattle.mt_io.specs.Runs.{fresh}
+use Rattle.mt_io.specs.Lines.{Line, short, long}
+use Rattle.mt_io.specs.Reader.{Reader, GivesNext}
+use Rattle.mt_io.specs.Answers.{next_lines, LeavesNext}
+use Rattle.mt_io.specs.declared.lines.Next.{Next}
+use Rattle.mt_io.specs.Runs.{fresh, HasAnswered}
 use Rattle.mt_io.proofs.Gives.{consumes_none, consumes_more, open_ended}
 use Rattle.mt_io.proofs.Runs.{begins, goes_on}
 use Rattle.schedule_build.specs.Directory.{Names}
-use Rattle.traind.specs.Fronts.{AppendsFront, Begun}
+use Rattle.traind.specs.Fronts.{Answered, AppendsFirstReplies, AppendsFront, Begun}
 use Rattle.traind.proofs.Fronts.{front_after}
-use Rattle.traind.specs.Lines.{said_by, message_in, messages_of, names_with, by_names}
-use Rattle.traind.specs.Output.{reply_by_refusal, reply_to_message, reply_to, text_after, replies}
-use Rattle.traind.specs.Standing.{Standing, next_by, next_by_message, next_by_refusal, standing, Answered}
+use Rattle.traind.specs.Lines.{said_by, with_word, message_by, messages_of, names_with, by_names}
+use Rattle.traind.specs.Output.{reply_by_refusal, reply_to_message, IsReply, IsTextAfter, AreReplies}
+use Rattle.traind.specs.Standing.{Standing, next_by, next_by_message, next_by_refusal, standing}
 
 -- where a timetable stands after these messages, one after the other
 abbrev after_each : Standing → List Wire → Standing
@@ -79,43 +84,61 @@ abbrev option_list : Option Wire → List Wire
 option_list None = []
 option_list (Some w) = w ∷ []
 
-last-message : (o : Option Wire) (x : Line) → message_in (said_by x) ≡ o → messages_of (x ∷ []) ≡ option_list o
-last-message None x e = rw e refl
-last-message (Some w) x e = rw e refl
+last-message : (names : Names) (o : Option Wire) (x : Line) → message_by names x ≡ o → messages_of names (x ∷ []) ≡ option_list o
+last-message names None x e = rw e refl
+last-message names (Some w) x e = rw e refl
 
-said-each : (t : Standing) (said : Result Spoken BadLine) → next_by t said ≡ after_each t (option_list (message_in said))
-said-each t (Ok (Says w)) = refl
-said-each t (Ok Flush) = refl
-said-each t (Err b) = refl
+line-each : (t : Standing) (said : Result Spoken Bad) → next_by t (with_word said) ≡ after_each t (option_list (message_in said))
+line-each t (Ok (Says w)) = refl
+line-each t (Ok (Asks client day q)) = refl
+line-each t (Ok Flush) = refl
+line-each t (Err b) = refl
+
+said-each : (t : Standing) (x : Line) → next_by t (said_by t.names x) ≡ after_each t (option_list (message_by t.names x))
+said-each t long = refl
+said-each t (short bytes) = line-each t (line_of t.names bytes)
+
+-- a line says a message by any names
+message-any : (names others : Names) (x : Line) → message_by names x ≡ message_by others x
+message-any names others long = refl
+message-any names others (short bytes) = same_message names others bytes
 
 abbrev start : Network → Names → State → Standing
 start nw names st = record { network = nw; state = st; count = 0; names = names }
 
-standing-each : (nw : Network) (names : Names) (st : State) (lines : List Line) → standing nw names st lines ≡ after_each (start nw names st) (messages_of lines)
-standing-each nw names st lines = ap (with_count (standing nw names st lines)) (omega arith) ∙ sym (each-all (start nw names st) (messages_of lines))
+standing-each : (nw : Network) (names : Names) (st : State) (lines : List Line) → standing nw names st lines ≡ after_each (start nw names st) (messages_of names lines)
+standing-each nw names st lines = ap (with_count (standing nw names st lines)) (omega arith) ∙ sym (each-all (start nw names st) (messages_of names lines))
+
+-- what a line does to where the timetable stands
+abbrev pub next_line : Standing → Line → Standing
+next_line t x = next_by t (said_by t.names x)
 
 -- one more line leaves the timetable as it stands after all of them
-stands : (nw : Network) (names : Names) (st : State) (lines : List Line) (x : Line) → next_by (standing nw names st lines) (said_by x) ≡ standing nw names st (lines ++ x ∷ [])
+stands : (nw : Network) (names : Names) (st : State) (lines : List Line) (x : Line) → next_line (standing nw names st lines) x ≡ standing nw names st (lines ++ x ∷ [])
 stands nw names st lines x =
     let t = start nw names st in
-    ap (λ (s : Standing). next_by s (said_by x)) (standing-each nw names st lines)
-    ∙ said-each (after_each t (messages_of lines)) (said_by x)
-    ∙ ap (after_each (after_each t (messages_of lines))) (sym (last-message (message_in (said_by x)) x refl))
-    ∙ sym (each-append t (messages_of lines) (messages_of (x ∷ [])))
-    ∙ ap (after_each t) (sym (filter_map-append (λ y. message_in (said_by y)) lines (x ∷ [])))
+    let then = after_each t (messages_of names lines) in
+    ap (λ (s : Standing). next_line s x) (standing-each nw names st lines)
+    ∙ said-each then x
+    ∙ ap (λ (o : Option Wire). after_each then (option_list o)) (message-any then.names names x)
+    ∙ ap (after_each then) (sym (last-message names (message_by names x) x refl))
+    ∙ sym (each-append t (messages_of names lines) (messages_of names (x ∷ [])))
+    ∙ ap (after_each t) (sym (filter_map-append (message_by names) lines (x ∷ [])))
     ∙ sym (standing-each nw names st (lines ++ x ∷ []))
 
 -- one more reply
-replies-more : (nw : Network) (names : Names) (st : State) (before lines : List Line) (x : Line) → replies nw names st before (lines ++ x ∷ []) ≡ replies nw names st before lines ++ text_after nw names st (before ++ lines) x
-unfolding replies
-replies-more nw names st before [] x =
-    append-nil (text_after nw names st before x)
-    ∙ ap (λ (b : List Line). text_after nw names st b x) (sym (append-nil before))
-replies-more nw names st before (y ∷ ys) x =
-    let text = text_after nw names st before y in
-    ap (λ (rest : List ℕ). text ++ rest) (replies-more nw names st (before ++ y ∷ []) ys x)
-    ∙ ap (λ (b : List Line). text ++ (replies nw names st (before ++ y ∷ []) ys ++ text_after nw names st b x)) (append_assoc before (y ∷ []) ys)
-    ∙ sym (append_assoc text (replies nw names st (before ++ y ∷ []) ys) (text_after nw names st (before ++ y ∷ ys) x))
+replies-more : (nw : Network) (names : Names) (st : State) (before lines : List Line) (x : Line) (bytes text : List ℕ)
+    → AreReplies nw names st before lines bytes → IsTextAfter nw names st (before ++ lines) x text → AreReplies nw names st before (lines ++ x ∷ []) (bytes ++ text)
+replies-more nw names st before [] x bytes text none one =
+    (text, [], subst (λ (b : List Line). IsTextAfter nw names st b x text) (append-nil before) one, refl, ap (λ (b : List ℕ). b ++ text) none ∙ sym (append-nil text))
+replies-more nw names st before (y ∷ ys) x bytes text all one =
+    let last = subst (λ (b : List Line). IsTextAfter nw names st b x text) (sym (append_assoc before (y ∷ []) ys)) one in (
+      all.0,
+      all.1 ++ text,
+      all.2,
+      replies-more nw names st (before ++ y ∷ []) ys x all.1 text all.3 last,
+      ap (λ (b : List ℕ). b ++ text) all.4 ∙ append_assoc all.0 all.1 text,
+    )
 
 -- the reply to a line that adds a name has no name in it
 answer-text : (t : Standing) (line : ℕ) (w : Wire) (m : Message) (o : Option Refusal) → text_of_reply (next_by_refusal t w m o).names (reply_by_refusal t.network t.names t.state t.count line w m o) ≡ text_of_reply t.names (reply_by_refusal t.network t.names t.state t.count line w m o)
@@ -127,74 +150,92 @@ message-text : (t : Standing) (line : ℕ) (w : Wire) (read : Result Message Ref
 message-text t line w (Ok m) = answer-text t line w m (refusal t.network t.state m)
 message-text t line w (Err r) = refl
 
-said-text : (t : Standing) (line : ℕ) (said : Result Spoken BadLine) → text_of_reply (next_by t said).names (reply_to t.network t.names t.state t.count line said) ≡ text_of_reply t.names (reply_to t.network t.names t.state t.count line said)
-said-text t line (Ok (Says w)) = message-text t line w (resolved t.names w)
-said-text t line (Ok Flush) = refl
-said-text t line (Err b) = refl
+said-text : (t : Standing) (line : ℕ) (said : Result Spoken BadLine) (reply : Reply) → IsReply t.network t.names t.state t.count line said reply → text_of_reply (next_by t said).names reply ≡ text_of_reply t.names reply
+said-text t line (Ok (Says w)) reply is =
+    ap (text_of_reply (next_by_message t w (resolved t.names w)).names) is ∙ message-text t line w (resolved t.names w) ∙ ap (text_of_reply t.names) (sym is)
+said-text t line (Ok (Asks client day q)) reply is = refl
+said-text t line (Ok Flush) reply is = refl
+said-text t line (Err b) reply is = refl
+
+-- this is the reply to the line of this number where the timetable stands so
+abbrev pub IsReplyAt : Standing → ℕ → Line → Reply → Type 0
+IsReplyAt t number x = IsReply t.network t.names t.state t.count number (said_by t.names x)
+
+-- what follows these lines in a timetable that stood so before them
+abbrev pub IsTextBehind : Standing → List Line → Line → List ℕ → Type 0
+IsTextBehind first = IsTextAfter first.network first.names first.state
 
 -- the reply to one line more, by the lines before it
 pub reply_is : (first now next : Standing) (lines : List Line) (x : Line) (number : ℕ) (reply : Reply) → now ≡ standing first.network first.names first.state lines → number ≡ length lines + 1
-    → reply ≡ reply_to now.network now.names now.state now.count number (said_by x) → next ≡ next_by now (said_by x) → text_of_reply next.names reply ≡ text_after first.network first.names first.state lines x
+    → IsReplyAt now number x reply → next ≡ next_line now x → IsTextBehind first lines x (text_of_reply next.names reply)
 reply_is first now next lines x number reply stood is_number is is_next =
-    let after_these = standing first.network first.names first.state lines in
-    ap (λ (t : Standing). text_of_reply t.names reply) is_next
-    ∙ ap (text_of_reply (next_by now (said_by x)).names) is
-    ∙ said-text now number (said_by x)
-    ∙ ap (λ (t : Standing). text_of_reply t.names (reply_to t.network t.names t.state t.count number (said_by x))) stood
-    ∙ ap (λ (n : ℕ). text_of_reply after_these.names (reply_to after_these.network after_these.names after_these.state after_these.count n (said_by x))) is_number
+    record {
+      reply = reply;
+      is_reply = subst (λ (n : ℕ). IsReplyAt (standing first.network first.names first.state lines) n x reply) is_number (subst (λ (t : Standing). IsReplyAt t number x reply) stood is);
+      text = ap (λ (t : Standing). text_of_reply t.names reply) is_next ∙ said-text now number (said_by now.names x) reply is ∙ ap (λ (t : Standing). text_of_reply t.names reply) stood;
+    }
 
--- the source is at its end where the end was read
-at_end : (old new : Reader) (left now : Option (List ℕ)) (bytes : List ℕ) (lines : List Line) → Gives old new left now bytes lines → (old.ended ≡ true → IsAtEnd left) → (old.ended ≡ true → now ≡ left) → new.ended ≡ true → IsAtEnd now
-at_end old new left now bytes lines gives end same ended = elim (cases_Bool old.ended) [
-  | inl was ↦ subst IsAtEnd (sym (same was)) (end was)
-  | inr not_yet ↦ gives.end not_yet ended
-]
+-- bytes that were taken, and the lines of them that were answered
+record IsTaken (r : Reader) (left left_now : Option (List ℕ)) (bytes : List ℕ) (lines : List Line) : Type 0 where
+  source : Consumes left left_now bytes
+  lines_so_far : HasAnswered bytes lines r
+  end : r.ended ≡ true → IsAtEnd left_now
+
+-- a call takes more of them. The source is at its end where the end was read
+taken-more : {first now : Standing} {old new : Reader} {left left_old left_new written written_old : Option (List ℕ)} {bytes : List ℕ} {lines more : List Line}
+    → Answered first now old left left_old written written_old bytes lines → (old.ended ≡ true → left_new ≡ left_old) → GivesNext old new left_old left_new more
+    → (all : List ℕ) × IsTaken new left left_new all (lines ++ more)
+taken-more {old = old} {new = new} {left = left} {left_old = left_old} {left_new = left_new} {bytes = bytes} {lines = lines} {more = more} a same gives = (
+  bytes ++ gives.0,
+  record {
+    source = consumes_more left left_old left_new bytes gives.0 a.source gives.1.source;
+    lines_so_far = goes_on bytes gives.0 lines more old new left_old left_new a.lines_so_far gives.1;
+    end = λ ended. elim (cases_Bool old.ended) [ inl was ↦ subst IsAtEnd (sym (same was)) (a.end was) | inr not_yet ↦ gives.1.end not_yet ended ];
+  },
+)
 
 -- before the first line
 pub nothing_answered : (t : Standing) (budget : ℕ) (r : Reader) (left written : Option (List ℕ)) → r ≡ fresh budget → t.count ≡ 0 → Answered t t r left left written written [] []
-unfolding replies
 nothing_answered t budget r left written new none =
     rw new (record {
       source = consumes_none left;
       lines_so_far = begins budget;
       end = λ is. open_ended false refl is;
-      output = Appends-nil written;
+      output = record { shown = []; replies = refl; written = Appends-nil written };
       timetable = ap (with_count t) none;
     })
 
--- a call that answers no line
-pub none_more : (first now : Standing) (old new : Reader) (left left_old left_new written written_now : Option (List ℕ)) (bytes : List ℕ) (lines : List Line)
-    → Answered first now old left left_old written written_now bytes lines → (old.ended ≡ true → left_new ≡ left_old) → GivesNext old new left_old left_new []
-    → (all : List ℕ) × Answered first now new left left_new written written_now all lines
-none_more first now old new left left_old left_new written written_now bytes lines a same gives =
-    let more = gives.0 in (
-      bytes ++ more,
-      record {
-        source = consumes_more left left_old left_new bytes more a.source gives.1.source;
-        lines_so_far = subst (λ (ls : List Line). Rattle.mt_io.specs.Runs.HasAnswered (bytes ++ more) ls new) (append-nil lines) (goes_on bytes more lines [] old new left_old left_new a.lines_so_far gives.1);
-        end = at_end old new left_old left_new more [] gives.1 a.end same;
-        output = a.output;
-        timetable = a.timetable;
-      },
+-- a call that answers no line, and how it leaves the reader
+pub none_more : {first now : Standing} {old new : Reader} {left left_old left_new written written_now : Option (List ℕ)} {bytes : List ℕ} {lines : List Line} (n m : Next) → n ≡ m → next_lines m ≡ []
+    → Answered first now old left left_old written written_now bytes lines → (old.ended ≡ true → left_new ≡ left_old) → GivesNext old new left_old left_new (next_lines n) × LeavesNext n old new
+    → (all : List ℕ) × Answered first now new left left_new written written_now all lines × LeavesNext m old new
+none_more {old = old} {new = new} {left = left} {left_old = left_old} {left_new = left_new} {lines = lines} n m is none a same gives =
+    let next = taken-more a same (subst (λ (ls : List Line). GivesNext old new left_old left_new ls) (ap next_lines is ∙ none) gives.0) in
+    let taken = subst (IsTaken new left left_new next.0) (append-nil lines) next.1 in (
+      next.0,
+      record { source = taken.source; lines_so_far = taken.lines_so_far; end = taken.end; output = a.output; timetable = a.timetable },
+      subst (λ (k : Next). LeavesNext k old new) is gives.1,
     )
 
 -- a call that answers one line, and its reply
-pub one_line_more : (first now next : Standing) (old new : Reader) (left left_old left_new written written_old written_new : Option (List ℕ)) (bytes : List ℕ) (lines : List Line) (x : Line) (number : ℕ) (reply : Reply)
+pub one_line_more : {first now : Standing} {old new : Reader} {left left_old left_new written written_old written_new : Option (List ℕ)} {bytes : List ℕ} {lines : List Line} (next : Standing) (x : Line) (number : ℕ) (reply : Reply)
     → Answered first now old left left_old written written_old bytes lines → (old.ended ≡ true → left_new ≡ left_old) → GivesNext old new left_old left_new (x ∷ [])
-    → number ≡ length lines + 1 → reply ≡ reply_to now.network now.names now.state now.count number (said_by x) → next ≡ next_by now (said_by x) → Appends written_old written_new (text_of_reply next.names reply)
+    → number ≡ length lines + 1 → IsReplyAt now number x reply → next ≡ next_line now x → Appends written_old written_new (text_of_reply next.names reply)
     → (all : List ℕ) × Answered first next new left left_new written written_new all (lines ++ x ∷ [])
-one_line_more first now next old new left left_old left_new written written_old written_new bytes lines x number reply a same gives is_number is is_next wrote =
-    let more = gives.0 in
-    let says = reply_is first now next lines x number reply a.timetable is_number is is_next in
-    let shown = replies first.network first.names first.state [] lines in (
-      bytes ++ more,
+one_line_more {first = first} {now = now} {written = written} {written_old = written_old} {written_new = written_new} {lines = lines} next x number reply a same gives is_number is is_next wrote =
+    let more = taken-more a same gives in
+    let text = text_of_reply next.names reply in (
+      more.0,
       record {
-        source = consumes_more left left_old left_new bytes more a.source gives.1.source;
-        lines_so_far = goes_on bytes more lines (x ∷ []) old new left_old left_new a.lines_so_far gives.1;
-        end = at_end old new left_old left_new more (x ∷ []) gives.1 a.end same;
-        output = subst (Appends written written_new) (ap (λ (b : List ℕ). shown ++ b) says ∙ sym (replies-more first.network first.names first.state [] lines x))
-            (Appends-trans written written_old written_new shown (text_of_reply next.names reply) a.output wrote);
-        timetable = is_next ∙ ap (λ (t : Standing). next_by t (said_by x)) a.timetable ∙ stands first.network first.names first.state lines x;
+        source = more.1.source;
+        lines_so_far = more.1.lines_so_far;
+        end = more.1.end;
+        output = record {
+          shown = a.output.shown ++ text;
+          replies = replies-more first.network first.names first.state [] lines x a.output.shown text a.output.replies (reply_is first now next lines x number reply a.timetable is_number is is_next);
+          written = Appends-trans written written_old written_new a.output.shown text a.output.written wrote;
+        };
+        timetable = is_next ∙ ap (λ (t : Standing). next_line t x) a.timetable ∙ stands first.network first.names first.state lines x;
       },
     )
 
@@ -209,26 +250,33 @@ few-message t w (Err r) = omega arith
 
 few-said : (t : Standing) (said : Result Spoken BadLine) → (next_by t said).count ≤ t.count + 1
 few-said t (Ok (Says w)) = few-message t w (resolved t.names w)
+few-said t (Ok (Asks client day q)) = omega arith
 few-said t (Ok Flush) = omega arith
 few-said t (Err b) = omega arith
 
-pub counts-one : (t next : Standing) (said : Result Spoken BadLine) → next ≡ next_by t said → next.count ≤ t.count + 1
-counts-one t next said is = omega (arith, ap (λ (r : Standing). r.count) is, few-said t said)
+pub counts-one : (t next : Standing) (x : Line) → next ≡ next_line t x → next.count ≤ t.count + 1
+counts-one t next x is = omega (arith, ap (λ (r : Standing). r.count) is, few-said t (said_by t.names x))
+
+-- a front of the reply to one line more
+pub front_more : {first now : Standing} {r : Reader} {left left_now written written_old written_new : Option (List ℕ)} {bytes : List ℕ} {lines : List Line} (next : Standing) (x : Line) (number : ℕ) (reply : Reply)
+    → Answered first now r left left_now written written_old bytes lines → number ≡ length lines + 1 → IsReplyAt now number x reply → next ≡ next_line now x → AppendsFront written_old written_new (text_of_reply next.names reply)
+    → AppendsFirstReplies first.network first.names first.state (lines ++ x ∷ []) written written_new
+front_more {first = first} {now = now} {written = written} {written_old = written_old} {written_new = written_new} {lines = lines} next x number reply a is_number is is_next f =
+    let text = text_of_reply next.names reply in
+    record {
+      first = lines ++ x ∷ [];
+      later = [];
+      shown = a.output.shown ++ text;
+      split = append-nil (lines ++ x ∷ []);
+      replies = replies-more first.network first.names first.state [] lines x a.output.shown text a.output.replies (reply_is first now next lines x number reply a.timetable is_number is is_next);
+      front = front_after written written_old written_new a.output.shown text a.output.written f;
+    }
 
 -- a call that answers one line, of whose reply a front is written
-pub one_line_begun : (first now : Standing) (old new : Reader) (left left_old left_new written written_old written_new : Option (List ℕ)) (bytes : List ℕ) (lines : List Line) (x : Line)
+pub one_line_begun : {first now : Standing} {old new : Reader} {left left_old left_new written written_old written_new : Option (List ℕ)} {bytes : List ℕ} {lines : List Line} (x : Line)
     → Answered first now old left left_old written written_old bytes lines → (old.ended ≡ true → left_new ≡ left_old) → GivesNext old new left_old left_new (x ∷ [])
-    → AppendsFront written_old written_new (text_after first.network first.names first.state lines x)
+    → AppendsFirstReplies first.network first.names first.state (lines ++ x ∷ []) written written_new
     → (all : List ℕ) × (ls : List Line) × Begun first new left left_new written written_new all ls
-one_line_begun first now old new left left_old left_new written written_old written_new bytes lines x a same gives f =
-    let more = gives.0 in (
-      bytes ++ more,
-      lines ++ x ∷ [],
-      record {
-        source = consumes_more left left_old left_new bytes more a.source gives.1.source;
-        lines_so_far = goes_on bytes more lines (x ∷ []) old new left_old left_new a.lines_so_far gives.1;
-        end = at_end old new left_old left_new more (x ∷ []) gives.1 a.end same;
-        output = subst (AppendsFront written written_new) (sym (replies-more first.network first.names first.state [] lines x))
-            (front_after written written_old written_new (replies first.network first.names first.state [] lines) (text_after first.network first.names first.state lines x) a.output f);
-      },
-    )
+one_line_begun {lines = lines} x a same gives f =
+    let more = taken-more a same gives in
+    (more.0, lines ++ x ∷ [], record { source = more.1.source; lines_so_far = more.1.lines_so_far; end = more.1.end; output = f })

@@ -1,7 +1,7 @@
 -- What a run does, by its words, the tables of its feed, and the bytes of its input and its output.
-use Rattle.std.specs.Prelude.{ℕ, ◌≡◌, ◌<◌, List, [], Some, Ok, Err, true, false, length}
+use Rattle.std.specs.Prelude.{ℕ, ◌≡◌, ◌<◌, List, Some, Ok, Err, true, false, length}
 use Rattle.std.specs.declared.option.Option.{Option}
-use Rattle.std.specs.Io.KnownBytes.{Appends, Consumes}
+use Rattle.std.specs.Io.KnownBytes.{Consumes}
 use Rattle.mt_base.specs.declared.tables.Tables.{Tables}
 use Rattle.delay_model.specs.declared.network.Network.{Network}
 use Rattle.delay_model.specs.declared.state.State.{State}
@@ -10,8 +10,7 @@ use Rattle.gtfs_tables.specs.declared.refusals.FeedRefusal.{FeedRefusal}
 use Rattle.mt_io.specs.Lines.{lines_of}
 use Rattle.schedule_build.specs.Directory.{Names}
 use Rattle.traind.specs.Feeds.{network, Told, tables_in, asked_in}
-use Rattle.traind.specs.Fronts.{AppendsFront}
-use Rattle.traind.specs.Output.{output, replies}
+use Rattle.traind.specs.Fronts.{AppendsReplies, AppendsOutput, AppendsOutputFront}
 
 -- the words ask for a feed that tells its tables and holds this timetable
 pub record Loads (words : List (List ℕ)) (tables : Option Told) (nw : Network) (st : State) (names : Names) : Type 0 where
@@ -32,23 +31,23 @@ pub record IsRefused (words : List (List ℕ)) (tables : Option Told) (why : Fee
   pub told_is : tables ≡ Some told
   pub refused : asked_in told asked ≡ Err why
 
--- what was written is the output for all lines of the input
+-- what was written is an output of all lines of the input
 abbrev pub WritesAll : List (List ℕ) → Option Told → Option (List ℕ) → Option (List ℕ) → Option (List ℕ) → Type 0
 WritesAll words tables left written written_now =
     (nw : Network) (st : State) (names : Names) (bytes : List ℕ) → Loads words tables nw st names → left ≡ Some bytes
-    → Appends written written_now (output nw names st (lines_of true bytes))
+    → AppendsOutput nw names st (lines_of true bytes) written written_now
 
 -- what was written are the replies to the lines that are whole among the bytes taken
 abbrev pub WritesReplies : List (List ℕ) → Option Told → Option (List ℕ) → Option (List ℕ) → Option (List ℕ) → Option (List ℕ) → Type 0
 WritesReplies words tables left left_now written written_now =
     (nw : Network) (st : State) (names : Names) → Loads words tables nw st names
-    → (bytes : List ℕ) × Consumes left left_now bytes × Appends written written_now (replies nw names st [] (lines_of false bytes))
+    → (bytes : List ℕ) × Consumes left left_now bytes × AppendsReplies nw names st (lines_of false bytes) written written_now
 
--- what was written is a front of the output for all lines of the input, however the run ended
+-- what was written is a front of an output of all lines of the input, however the run ended
 abbrev pub WritesFront : List (List ℕ) → Option Told → Option (List ℕ) → Option (List ℕ) → Option (List ℕ) → Type 0
 WritesFront words tables left written written_now =
     (nw : Network) (st : State) (names : Names) (bytes : List ℕ) → Loads words tables nw st names → left ≡ Some bytes
-    → AppendsFront written written_now (output nw names st (lines_of true bytes))
+    → AppendsOutputFront nw names st (lines_of true bytes) written written_now
 
 -- the feed holds a timetable, and the input has fewer bytes than may be taken
 pub record CanEnd (words : List (List ℕ)) (tables : Option Told) (left : Option (List ℕ)) (budget : ℕ) : Type 0 where

@@ -1,26 +1,25 @@
 -- How a line leaves the timetable and its names.
-use Rattle.std.specs.Prelude.{ℕ, ◌≡◌, ◌+◌, List, [], true, Some, None, Result, Ok, Err, length}
+use Rattle.std.specs.Coded.{Coded, code_by, coded×, coded_ℕ}
+use Rattle.std.specs.Prelude.{ℕ, ◌+◌, List, Some, None, Result, Ok, Err, length, refl}
 use Rattle.std.specs.declared.option.Option.{Option}
-use Rattle.std.specs.Io.KnownBytes.{Appends, Consumes, IsAtEnd}
 use Rattle.delay_model.specs.declared.messages.Message.{Message}
 use Rattle.delay_model.specs.declared.messages.Refusal.{Refusal}
 use Rattle.delay_model.specs.declared.network.Network.{Network}
 use Rattle.delay_model.specs.declared.state.State.{State}
+use Rattle.delay_model.specs.contracts.network.Network.{the_row as network_row}
+use Rattle.delay_model.specs.contracts.state.State.{the_row as state_row}
 use Rattle.delay_model.specs.After.{after}
 use Rattle.delay_model.specs.Effect.{effect}
 use Rattle.delay_model.specs.Refusals.{refusal}
 use Rattle.delay_report.specs.declared.replies.BadLine.{BadLine}
 use Rattle.message_reader.specs.declared.wire.Wire.{Wire}
 use Rattle.message_reader.specs.declared.wire.Line.{Line as Spoken}
-use Rattle.message_reader.specs.declared.wire.Line.TheVariants.{Message as Says, Flush}
+use Rattle.message_reader.specs.declared.wire.Line.TheVariants.{Message as Says, Query as Asks, Flush}
 use Rattle.message_reader.specs.Resolved.{resolved}
 use Rattle.mt_io.specs.Lines.{Line}
-use Rattle.mt_io.specs.Reader.{Reader}
-use Rattle.mt_io.specs.Runs.{HasAnswered}
+use Rattle.schedule_build.specs.contracts.directory.Directory.{the_row as directory_row}
 use Rattle.schedule_build.specs.Directory.{Names}
-use Rattle.timetable.specs.Running.{Running}
 use Rattle.traind.specs.Lines.{accepted_of, names_with, names_after}
-use Rattle.traind.specs.Output.{replies}
 
 -- what no message changes, the state of the trains, how many messages were accepted, and the names that are known
 pub record Standing : Type 0 where
@@ -29,9 +28,10 @@ pub record Standing : Type 0 where
   pub count : ℕ
   pub names : Names
 
--- where a timetable with these names stands, whatever events the last message changed
-abbrev pub standing_of : Running → Names → Standing
-standing_of r names = record { network = r.network; state = r.state; count = r.count; names = names }
+-- it is stored as its fields
+abbrev pub standing_code : Coded Standing
+standing_code =
+    code_by (Network × (State × (ℕ × Names))) (coded× network_row.coded (coded× state_row.coded (coded× coded_ℕ directory_row.coded))) (λ t. (t.network, (t.state, (t.count, t.names)))) (λ p. record { network = p.0; state = p.1.0; count = p.1.1.0; names = p.1.1.1 }) (λ _. refl)
 
 -- after a message with this answer
 abbrev pub next_by_refusal : Standing → Wire → Message → Option Refusal → Standing
@@ -46,6 +46,7 @@ next_by_message t w (Err r) = t
 -- after a line that says this
 abbrev pub next_by : Standing → Result Spoken BadLine → Standing
 next_by t (Ok (Says w)) = next_by_message t w (resolved t.names w)
+next_by t (Ok (Asks client day q)) = t
 next_by t (Ok Flush) = t
 next_by t (Err b) = t
 
@@ -54,11 +55,3 @@ abbrev pub standing : Network → Names → State → List Line → Standing
 standing nw names st lines =
     let ms = accepted_of nw names st lines in
     record { network = nw; state = after st ms; count = length ms; names = names_after nw names st lines }
-
--- These lines were taken from the input and answered: their replies are written, and the timetable stands as they leave it.
-pub record Answered (first now : Standing) (r : Reader) (left left_now written written_now : Option (List ℕ)) (bytes : List ℕ) (lines : List Line) : Type 0 where
-  pub source : Consumes left left_now bytes
-  pub lines_so_far : HasAnswered bytes lines r
-  pub end : r.ended ≡ true → IsAtEnd left_now
-  pub output : Appends written written_now (replies first.network first.names first.state [] lines)
-  pub timetable : now ≡ standing first.network first.names first.state lines

@@ -10,33 +10,38 @@ ghost use Rattle.mt_base.specs.declared.tables.Tables.{Tables as ATables};
 ghost use Rattle.traind.specs.Feeds.{network, Told, tables_in, asked_in};
 ghost use Rattle.traind.specs.Networks.{IsSame};
 
+use crate::service::InformationService;
 use command_words::Asked;
 use feed_load::load_feed;
 use gtfs_tables::FeedError;
 use mt_io::Feed;
-use schedule_build::Directory;
 use std::alloc::Global;
 use timetable::Timetable;
 
-/// The timetable that the words ask for, and its names.
+/// The timetable that the words ask for, with its names.
 pub(crate) fn load<F: Feed>(
     alloc: Global,
     asked: &Asked<'_>,
     feed: &mut F,
-) -> Result<(Timetable, Directory), FeedError>
+) -> Result<InformationService, FeedError>
     requires civil { IsCivil asked.now.first }
     requires year { asked.now.first < 21010000 }
     requires days { (1 ≤ asked.now.days) × (asked.now.days ≤ 31) }
     requires options { IsInRange asked.now.opts }
-    ensures exact { (told : Told) → F.tables feed.old ≡ Some told → Yields (λ r. (r.0.state, r.1)) result (asked_in told (asked_view asked.now)) }
-    ensures network { IfOk result (λ r. (told : Told) (rows : ATables) → F.tables feed.old ≡ Some told → tables_in told (asked_view asked.now) ≡ Ok rows
-        → IsSame (network rows asked.now.opts) r.0.network) }
-    ensures new { IfOk result (λ r. r.0.count ≡ 0) }
+    ensures exact { (told : Told) → F.tables feed.old ≡ Some told → Yields (λ s. (s.state, s.names)) result (asked_in told (asked_view asked.now)) }
+    ensures network { IfOk result (λ s. (told : Told) (rows : ATables) → F.tables feed.old ≡ Some told → tables_in told (asked_view asked.now) ≡ Ok rows
+        → IsSame (network rows asked.now.opts) s.network) }
+    ensures new { IfOk result (λ s. s.count ≡ 0) }
     ensures failed { IsErrOf result FeedError.ReadFault → Rose (F.faults feed.old) (F.faults feed.new) }
     ensures later { F.faults feed.old ≤ F.faults feed.new }
 {
     let opts = asked.opts;
     let loaded = load_feed(alloc, feed, asked.folder, asked.first, asked.days, &opts)?;
     let timetable = Timetable::build(alloc, loaded.trains, loaded.changes, loaded.waits, opts)?;
-    Ok((timetable, loaded.directory))
+    let trains = timetable
+        .graph()
+        .trains()
+        .count()
+        .saturating_add(opts.spare_trains);
+    Ok(InformationService::build(alloc, timetable, loaded.directory, trains)?)
 }

@@ -8,16 +8,15 @@ ghost use Rattle.mt_io.specs.Lines.{Line, lines_of};
 ghost use Rattle.mt_io.specs.Reader.{IsDone};
 ghost use Rattle.mt_io.specs.Runs.{fresh};
 ghost use Rattle.traind.specs.Causes.{HasFaultCause, WhereLinesStop, TookAll};
-ghost use Rattle.traind.specs.Fronts.{AppendsFront, Begun};
-ghost use Rattle.traind.specs.Standing.{Answered, standing_of};
+ghost use Rattle.traind.specs.Fronts.{Answered, AppendsFront, Begun};
 
 use crate::replies::reply_to_line;
+use crate::service::InformationService;
 use crate::status::Fault;
 use delay_report::{BadLine, Reply, reply_text};
 use mt_io::{LineReader, Next, Sink, Source, put};
 use schedule_build::Directory;
 use std::alloc::Global;
-use timetable::Timetable;
 
 /// Writes a reply.
 fn write_reply<K: Sink>(
@@ -39,27 +38,26 @@ fn write_reply<K: Sink>(
 /// Answers each line of the input.
 pub(crate) fn answer_lines<S: Source, K: Sink>(
     alloc: Global,
-    timetable: &mut Timetable,
-    directory: &mut Directory,
+    service: &mut InformationService,
     reader: &mut LineReader,
     input: &mut S,
     out: &mut K,
 ) -> Result<(), Fault>
     requires reader { reader.old ≡ fresh reader.old.budget }
-    requires count { timetable.old.count ≡ 0 }
+    requires count { service.old.count ≡ 0 }
     ensures all { OnOk result ((bytes : List ℕ) × (lines : List Line) × IsDone reader.new
-        × Answered (standing_of timetable.old directory.old) (standing_of timetable.new directory.new) reader.new (S.left input.old) (S.left input.new) (K.written out.old) (K.written out.new) bytes lines) }
+        × Answered service.old service.new reader.new (S.left input.old) (S.left input.new) (K.written out.old) (K.written out.new) bytes lines) }
     ensures stopped { IfErr result (WhereLinesStop ((bytes : List ℕ) × (lines : List Line) × (lines_of false bytes ≡ lines)
-        × Answered (standing_of timetable.old directory.old) (standing_of timetable.new directory.new) reader.new (S.left input.old) (S.left input.new) (K.written out.old) (K.written out.new) bytes lines)) }
+        × Answered service.old service.new reader.new (S.left input.old) (S.left input.new) (K.written out.old) (K.written out.new) bytes lines)) }
     ensures begun { IfErr result (λ f. (bytes : List ℕ) × (lines : List Line)
-        × Begun (standing_of timetable.old directory.old) reader.new (S.left input.old) (S.left input.new) (K.written out.old) (K.written out.new) bytes lines) }
+        × Begun service.old reader.new (S.left input.old) (S.left input.new) (K.written out.old) (K.written out.new) bytes lines) }
     ensures fault { IfErr result (HasFaultCause ⊥ (λ why. ⊥) (Rose (S.faults input.old) (S.faults input.new)) (Rose (K.faults out.old) (K.faults out.new))
         (TookAll reader.old.budget (S.left input.old) (S.left input.new))) }
     ensures later { (S.faults input.old ≤ S.faults input.new) × (K.faults out.old ≤ K.faults out.new) }
 {
     for number in 1..u64::MAX {
         let reply = match reader.next(input) {
-            Next::Line(line) => reply_to_line(alloc, timetable, directory, number, line)?,
+            Next::Line(line) => reply_to_line(alloc, service, number, line)?,
             Next::LongLine => Reply::Bad {
                 line: number,
                 bad: BadLine::Long,
@@ -68,7 +66,7 @@ pub(crate) fn answer_lines<S: Source, K: Sink>(
             Next::ReadFault => return Err(Fault::ReadFault),
             Next::Budget => return Err(Fault::TooLong),
         };
-        write_reply(alloc, directory, out, &reply)?;
+        write_reply(alloc, &service.directory, out, &reply)?;
     }
     Err(Fault::Memory)
 }

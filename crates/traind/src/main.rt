@@ -2,10 +2,12 @@
 #![tactic(auto)]
 
 mod feed;
+pub mod laws;
 mod lines;
 mod refusal;
 mod replies;
 pub mod run;
+mod service;
 pub mod status;
 mod table;
 #[cfg(test)]

@@ -3,21 +3,28 @@
 ghost use Rattle.std.specs.Prelude.{◌≡◌, ◌<◌, ◌-◌, ◌^◌, Ok, Err, IfOk, IfErr, OnOk};
 ghost use Rattle.message_reader.specs.declared.wire.Line.TheVariants.{Message as Says};
 ghost use Rattle.message_reader.specs.Lines.{line_of};
-ghost use Rattle.message_reader.specs.Wires.{IsWire};
+ghost use Rattle.message_reader.specs.Resolved.{resolved};
+ghost use Rattle.message_reader.specs.Wires.{IsLine, IsWire};
 ghost use Rattle.traind.specs.Lines.{names_with, with_word};
-ghost use Rattle.traind.specs.Output.{reply_to, reply_to_message, reply_to_refused};
+ghost use Rattle.traind.specs.Output.{reply_to_message, reply_to_refused, IsReply, IsReplyToQuery};
 ghost use Rattle.traind.specs.declared.status.Fault.TheVariants.{Memory};
-ghost use Rattle.traind.specs.Standing.{next_by, next_by_message, standing_of};
+ghost use Rattle.traind.specs.Standing.{next_by, next_by_message};
 
+use crate::service::InformationService;
 use crate::status::Fault;
+use conn_scan::{Found, earliest};
 use delay_model::messages::Refusal;
 use delay_report::{BadLine, Reply};
 use message_reader::{Bad, Line, ResolveFault, Wire, read_line, resolve};
+use mt_base::memory::OutOfMemory;
+use mt_base::numbers::Day;
+use mt_base::plans::{PlanRide, Query};
+use mt_base::rows::Rows;
 use schedule_build::Directory;
 use std::alloc::Global;
 use std::marker::Brand;
 use std::sync::ledger::{Blank, Ledger};
-use timetable::{StepFault, Timetable};
+use timetable::StepFault;
 use train_nodes::{Msg, Steps};
 
 /// Adds the name of the train that an accepted message adds, if it adds one. Where no number is left for a train, that is told as
@@ -69,33 +76,32 @@ fn reply_to_refused(
 /// The reply to a message. It counts no steps.
 fn reply_to_message<L: Ledger>(
     alloc: Global,
-    timetable: &mut Timetable,
-    directory: &mut Directory,
+    service: &mut InformationService,
     number: u64,
     wire: &Wire,
     message: &Msg,
     blank: Blank,
 ) -> Result<Reply, Fault>
-    requires count { timetable.old.count < 2 ^ 64 - 1 }
+    requires count { service.old.count < 2 ^ 64 - 1 }
     requires name { blank.name ≡ L.name }
     requires parts { blank.parts ≡ L.parts }
     requires some { 0 < blank.parts }
-    ensures reply { IfOk result (λ r. r ≡ reply_to_message timetable.old.network directory.old timetable.old.state timetable.old.count number wire.now (Ok message.now)) }
-    ensures next { OnOk result (standing_of timetable.new directory.new ≡ next_by_message (standing_of timetable.old directory.old) wire.now (Ok message.now)) }
+    ensures reply { IfOk result (λ r. r ≡ reply_to_message service.old.network service.old.names service.old.state service.old.count number wire.now (Ok message.now)) }
+    ensures next { OnOk result (service.new ≡ next_by_message service.old wire.now (Ok message.now)) }
     ensures memory { IfErr result (λ f. f ≡ Memory) }
 {
     let mut steps = Steps::<L>::open(blank);
-    match timetable.step(alloc, message, &mut steps) {
+    match service.timetable.step(alloc, message, &mut steps) {
         Ok(changed) => {
-            add_name(alloc, directory, wire)?;
+            add_name(alloc, &mut service.directory, wire)?;
             Ok(Reply::Accepted {
                 line: number,
-                number: timetable.count(),
+                number: service.timetable.count(),
                 changed,
             })
         }
         Err(StepFault::Refused(refusal)) => {
-            reply_to_refused(alloc, directory, number, wire, &refusal)
+            reply_to_refused(alloc, &service.directory, number, wire, &refusal)
         }
         Err(StepFault::OutOfMemory) => Err(Fault::Memory),
     }
@@ -104,22 +110,20 @@ fn reply_to_message<L: Ledger>(
 /// The reply to a message that speaks by names.
 fn reply_to_wire(
     alloc: Global,
-    timetable: &mut Timetable,
-    directory: &mut Directory,
+    service: &mut InformationService,
     number: u64,
     wire: &Wire,
 ) -> Result<Reply, Fault>
     requires kept { IsWire wire.now }
-    requires count { timetable.old.count < 2 ^ 64 - 1 }
-    ensures reply { IfOk result (λ r. r ≡ reply_to timetable.old.network directory.old timetable.old.state timetable.old.count number (Ok (Says wire.now))) }
-    ensures next { OnOk result (standing_of timetable.new directory.new ≡ next_by (standing_of timetable.old directory.old) (Ok (Says wire.now))) }
+    requires count { service.old.count < 2 ^ 64 - 1 }
+    ensures reply { IfOk result (λ r. r ≡ reply_to_message service.old.network service.old.names service.old.state service.old.count number wire.now (resolved service.old.names wire.now)) }
+    ensures next { OnOk result (service.new ≡ next_by service.old (Ok (Says wire.now))) }
     ensures memory { IfErr result (λ f. f ≡ Memory) }
 {
-    match resolve(alloc, wire, directory) {
+    match resolve(alloc, wire, &service.directory) {
         Ok(message) => reply_to_message::<Brand>(
             alloc,
-            timetable,
-            directory,
+            service,
             number,
             wire,
             &message,
@@ -137,6 +141,48 @@ fn reply_to_wire(
     }
 }
 
+/// The same rides once more.
+fn copy_rides(alloc: Global, rides: &[PlanRide]) -> Result<Rows<PlanRide>, OutOfMemory>
+    ensures { IfOk result (λ copy. copy ≡ rides.now) }
+{
+    let mut copy = Vec::with_capacity(alloc, rides.len())?;
+    copy.extend_from_slice(rides)?;
+    Ok(Rows::build(copy))
+}
+
+/// The reply to a query. It counts no steps.
+fn reply_to_query<L: Ledger>(
+    alloc: Global,
+    service: &mut InformationService,
+    number: u64,
+    day: Day,
+    query: &Query,
+    blank: Blank,
+) -> Result<Reply, Fault>
+    requires name { blank.name ≡ L.name }
+    requires parts { blank.parts ≡ L.parts }
+    requires some { 0 < blank.parts }
+    ensures reply { IfOk result (IsReplyToQuery service.old.network service.old.state service.old.count number day query.now) }
+    ensures kept { service.new ≡ service.old }
+    ensures memory { IfErr result (λ f. f ≡ Memory) }
+{
+    let mut steps = Steps::<L>::open(blank);
+    let after = service.timetable.count();
+    match earliest(&service.timetable, query, &mut service.scratch, &mut steps)? {
+        Found::Arrives { at } => Ok(Reply::Journey {
+            line: number,
+            after,
+            day,
+            arrives: at,
+            rides: copy_rides(alloc, service.scratch.rides())?,
+        }),
+        Found::NoWay => Ok(Reply::NoJourney {
+            line: number,
+            after,
+        }),
+    }
+}
+
 /// The reply to a bad line.
 fn reply_to_bad(number: u64, bad: BadLine) -> Reply
     ensures { result ≡ Reply.Bad number bad }
@@ -144,28 +190,51 @@ fn reply_to_bad(number: u64, bad: BadLine) -> Reply
     Reply::Bad { line: number, bad }
 }
 
+/// The reply to what a line says, which may change the timetable and add a name. Who asks a query has no use here.
+fn reply_to_said(
+    alloc: Global,
+    service: &mut InformationService,
+    number: u64,
+    said: &Line,
+) -> Result<Reply, Fault>
+    requires kept { IsLine said.now }
+    requires count { service.old.count < 2 ^ 64 - 1 }
+    ensures reply { IfOk result (IsReply service.old.network service.old.names service.old.state service.old.count number (Ok said.now)) }
+    ensures next { OnOk result (service.new ≡ next_by service.old (Ok said.now)) }
+    ensures memory { IfErr result (λ f. f ≡ Memory) }
+{
+    match said {
+        Line::Message(wire) => reply_to_wire(alloc, service, number, wire),
+        Line::Query {
+            client: _,
+            day,
+            query,
+        } => reply_to_query::<Brand>(alloc, service, number, *day, query, Blank::new(1)),
+        Line::Flush => Ok(Reply::Flush {
+            line: number,
+            count: service.timetable.count(),
+        }),
+    }
+}
+
 /// The reply to a line, which may change the timetable and add a name.
 pub(crate) fn reply_to_line(
     alloc: Global,
-    timetable: &mut Timetable,
-    directory: &mut Directory,
+    service: &mut InformationService,
     number: u64,
     line: &[u8],
 ) -> Result<Reply, Fault>
-    requires count { timetable.old.count < 2 ^ 64 - 1 }
-    ensures reply { IfOk result (λ r. r ≡ reply_to timetable.old.network directory.old timetable.old.state timetable.old.count number (with_word (line_of line.now))) }
-    ensures next { OnOk result (standing_of timetable.new directory.new ≡ next_by (standing_of timetable.old directory.old) (with_word (line_of line.now))) }
+    requires count { service.old.count < 2 ^ 64 - 1 }
+    ensures reply { IfOk result (IsReply service.old.network service.old.names service.old.state service.old.count number (with_word (line_of service.old.names line.now))) }
+    ensures next { OnOk result (service.new ≡ next_by service.old (with_word (line_of service.old.names line.now))) }
     ensures memory { IfErr result (λ f. f ≡ Memory) }
 {
-    match read_line(alloc, line) {
-        Ok(Line::Message(wire)) => reply_to_wire(alloc, timetable, directory, number, &wire),
-        Ok(Line::Flush) => Ok(Reply::Flush {
-            line: number,
-            count: timetable.count(),
-        }),
+    match read_line(alloc, line, &service.directory) {
+        Ok(said) => reply_to_said(alloc, service, number, &said),
         Err(Bad::Utf8) => Ok(reply_to_bad(number, BadLine::Utf8)),
         Err(Bad::Json) => Ok(reply_to_bad(number, BadLine::Json)),
         Err(Bad::Shape) => Ok(reply_to_bad(number, BadLine::Shape)),
+        Err(Bad::Stop) => Ok(reply_to_bad(number, BadLine::Stop)),
         Err(Bad::Time) => Ok(reply_to_bad(number, BadLine::Time)),
         Err(Bad::OutOfMemory) => Err(Fault::Memory),
     }

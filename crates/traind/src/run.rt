@@ -8,8 +8,7 @@ ghost use Rattle.mt_io.specs.Causes.{Rose};
 ghost use Rattle.mt_io.specs.Lines.{lines_of};
 ghost use Rattle.traind.specs.Causes.{HasFaultCause, WhereLinesStop, TookAll};
 ghost use Rattle.traind.specs.Feeds.{Told};
-ghost use Rattle.traind.specs.Fronts.{AppendsFront};
-ghost use Rattle.traind.specs.Output.{output, replies};
+ghost use Rattle.traind.specs.Fronts.{AppendsReplies, AppendsOutput, AppendsOutputFront};
 ghost use Rattle.traind.specs.Runs.{IsRefused, WritesAll, WritesReplies, WritesFront, CanEnd};
 ghost use Rattle.traind.specs.Statuses.{error_line, refusal_line, status_of};
 ghost use Rattle.traind.specs.declared.status.Fault.TheVariants as faults;
@@ -17,40 +16,38 @@ ghost use Rattle.traind.specs.declared.status.Fault.TheVariants as faults;
 use crate::feed::load;
 use crate::lines::answer_lines;
 use crate::refusal::refusal_line;
+use crate::service::InformationService;
 use crate::status::{Fault, Status, status_of};
 use crate::table::write_table;
 use command_words::read_words;
 use gtfs_tables::FeedRefusal;
 use mt_io::{Feed, Gate, LineReader, Sink, Source, put};
-use schedule_build::Directory;
 use std::alloc::Global;
 use std::sync::Wait;
 use std::thread::Threads;
-use timetable::Timetable;
 
 /// Answers all lines of the input, and writes the table.
 fn run_lines<S: Source, K: Sink>(
     alloc: Global,
-    timetable: &mut Timetable,
-    directory: &mut Directory,
+    service: &mut InformationService,
     input: &mut S,
     out: &mut K,
     budget: u64,
 ) -> Result<(), Fault>
-    requires count { timetable.old.count ≡ 0 }
+    requires count { service.old.count ≡ 0 }
     ensures ok { OnOk result ((bytes : List ℕ) → S.left input.old ≡ Some bytes
-        → Appends (K.written out.old) (K.written out.new) (output timetable.old.network directory.old timetable.old.state (lines_of true bytes))) }
+        → AppendsOutput service.old.network service.old.names service.old.state (lines_of true bytes) (K.written out.old) (K.written out.new)) }
     ensures ended { OnOk result (IsAtEnd (S.left input.new)) }
     ensures stopped { IfErr result (WhereLinesStop ((bytes : List ℕ) × Consumes (S.left input.old) (S.left input.new) bytes
-        × Appends (K.written out.old) (K.written out.new) (replies timetable.old.network directory.old timetable.old.state [] (lines_of false bytes)))) }
+        × AppendsReplies service.old.network service.old.names service.old.state (lines_of false bytes) (K.written out.old) (K.written out.new))) }
     ensures front { IfErr result (λ f. (bytes : List ℕ) → S.left input.old ≡ Some bytes
-        → AppendsFront (K.written out.old) (K.written out.new) (output timetable.old.network directory.old timetable.old.state (lines_of true bytes))) }
+        → AppendsOutputFront service.old.network service.old.names service.old.state (lines_of true bytes) (K.written out.old) (K.written out.new)) }
     ensures fault { IfErr result (HasFaultCause ⊥ (λ why. ⊥) (Rose (S.faults input.old) (S.faults input.new)) (Rose (K.faults out.old) (K.faults out.new))
         (TookAll budget (S.left input.old) (S.left input.new))) }
 {
     let mut reader = LineReader::build(alloc, budget)?;
-    answer_lines(alloc, timetable, directory, &mut reader, input, out)?;
-    write_table(alloc, timetable, directory, out)
+    answer_lines(alloc, service, &mut reader, input, out)?;
+    write_table(alloc, service, out)
 }
 
 /// Reads the words, loads the feed that they ask for, and answers the input.
@@ -79,8 +76,8 @@ fn run_words<F: Feed, S: Source, K: Sink>(
     ensures front { WritesFront (map string_bytes words.now) (F.tables feed.old) (S.left input.old) (K.written out.old) (K.written out.new) }
 {
     let asked = read_words(alloc, words)?;
-    let (mut timetable, mut directory) = load(alloc, &asked, feed)?;
-    run_lines(alloc, &mut timetable, &mut directory, input, out, budget)
+    let mut service = load(alloc, &asked, feed)?;
+    run_lines(alloc, &mut service, input, out, budget)
 }
 
 /// Writes why a feed is refused.
@@ -120,8 +117,8 @@ fn tell<E: Sink>(alloc: Global, run: Result<(), Fault>, err: &mut E) -> Status
 }
 
 /// All that the program does for `times`. It reads the tables of the feed, answers each line of the input at once, and at the end of
-/// the input writes the table of all times. It stops where `budget` bytes of the input were taken and no end was read. It waits for
-/// nobody and returns.
+/// the input writes the table of all times. A query is answered by the times after the messages of the lines before it. It stops
+/// where `budget` bytes of the input were taken and no end was read. It waits for nobody and returns.
 pub fn run_times<F: Feed, S: Source, K: Sink, E: Sink>(
     alloc: Global,
     words: &[String],

@@ -137,6 +137,43 @@ const REPLIES: &str = "{\"accepted\":1,\"changed\":4,\"line\":1}
 /// The reply to the forecast where it is the first line.
 const ACCEPTED: &str = "{\"accepted\":1,\"changed\":4,\"line\":1}\n";
 
+/// Asks for the earliest arrival at D from A at 08:00:00.
+const QUERY: &str =
+    r#"{"v":1,"type":"query","client":"c1","from":"A","to":"D","date":"20260105","time":"08:00:00"}"#;
+
+/// T1 arrives at B1 at 08:38:01, which is too late for T2.
+const MISSED: &str =
+    r#"{"v":1,"type":"forecast","trip":"T1","date":"20260105","call":1,"event":"arr","time":"08:38:01"}"#;
+
+/// The replies to the query, to the forecast of T1, and to the query once more.
+const QUERY_REPLIES: &str =
+    "{\"after\":0,\"arrives\":\"09:10:00\",\"line\":1,\"rides\":[{\"alight\":{\"call\":1,\"stop\":\"B1\",\"time\":\"08:30:00\"},\"board\":{\"call\":0,\"stop\":\"A\",\"time\":\"08:00:00\"},\"date\":\"20260105\",\"trip\":\"T1\"},{\"alight\":{\"call\":1,\"stop\":\"D\",\"time\":\"09:10:00\"},\"board\":{\"call\":0,\"stop\":\"B2\",\"time\":\"08:36:00\"},\"date\":\"20260105\",\"trip\":\"T2\"}]}
+{\"accepted\":1,\"changed\":3,\"line\":2}
+{\"after\":1,\"arrives\":null,\"line\":3}
+";
+
+/// All times where T1 arrives at B1 at 08:38:01, and no ride is made faster.
+const MISSED_TIMES: &str = "trip,date,call,stop,event,scheduled,time
+T1,20260105,0,A,dep,08:00:00,08:00:00
+T1,20260105,1,B1,arr,08:30:00,08:38:01
+T1,20260105,1,B1,dep,08:32:00,08:39:01
+T1,20260105,2,C,arr,09:00:00,09:07:01
+T2,20260105,0,B2,dep,08:36:00,08:36:00
+T2,20260105,1,D,arr,09:10:00,09:10:00
+";
+
+/// Queries from a station to its platform, from a place that is not there, and on a day that is not loaded.
+const SHORT_QUERIES: &str =
+    r#"{"v":1,"type":"query","client":"c1","from":"B","to":"B1","date":"20260105","time":"08:00:00"}
+{"v":1,"type":"query","client":"c1","from":"Z","to":"D","date":"20260105","time":"08:00:00"}
+{"v":1,"type":"query","client":"c1","from":"A","to":"D","date":"20260106","time":"08:00:00"}"#;
+
+/// The replies to these queries.
+const SHORT_REPLIES: &str = "{\"after\":0,\"arrives\":\"08:00:00\",\"line\":1,\"rides\":[]}
+{\"bad\":\"stop\",\"line\":2}
+{\"bad\":\"time\",\"line\":3}
+";
+
 /// How the error line begins where stop_times.txt has a fault.
 const REFUSED: &[u8] = b"traind: feed refused: stop_times.txt row ";
 
@@ -244,6 +281,35 @@ fn reports_and_kept_connections(rt: HostRuntime) -> Result<(), Fail> {
     let text = format!(in alloc; "{REPORT}\n{EARLIER}\n{KEEP}\n{flush}")?;
     let want = format!(in alloc; "{REPLIES}{HELD}")?;
     let ended = run(alloc, input(alloc, text.as_str())?, output(alloc)?)?;
+    assert!(rt; is_end(&ended, Status::Ok, want.as_str(), ""));
+    Ok(())
+}
+
+#[test]
+fn query_before_and_after_a_missed_connection(rt: HostRuntime) -> Result<(), Fail> {
+    let alloc = rt.alloc();
+    let mut words = words(alloc)?;
+    for word in ["--slack", "0"] {
+        words.push(String::from_str(alloc, word)?)?;
+    }
+    let text = format!(in alloc; "{QUERY}\n{MISSED}\n{QUERY}\n")?;
+    let want = format!(in alloc; "{QUERY_REPLIES}{MISSED_TIMES}")?;
+    let mut feed = feed(alloc, STOP_TIMES.as_bytes())?;
+    let mut input = input(alloc, text.as_str())?;
+    let mut out = output(alloc)?;
+    let mut err = output(alloc)?;
+    let status = traind(
+        &rt, alloc, &words, &mut feed, &mut input, &mut out, &mut err, &NoGate,
+    );
+    assert!(rt; is_end(&Ended { status, out, err }, Status::Ok, want.as_str(), ""));
+    Ok(())
+}
+
+#[test]
+fn queries_that_take_no_train(rt: HostRuntime) -> Result<(), Fail> {
+    let alloc = rt.alloc();
+    let want = format!(in alloc; "{SHORT_REPLIES}{SCHEDULED}")?;
+    let ended = run(alloc, input(alloc, SHORT_QUERIES)?, output(alloc)?)?;
     assert!(rt; is_end(&ended, Status::Ok, want.as_str(), ""));
     Ok(())
 }

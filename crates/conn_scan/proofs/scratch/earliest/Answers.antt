@@ -17,7 +17,7 @@ returns-in_default-clause-answer g c =
     let nw = c.args.t.now.network in
     let st = c.args.t.now.state in
     let q = c.args.q.now in
-    let access = access_of nw q c.search.new.known.labels in
+    let access = access_of nw q c.search.new.known.accesses in
     (c.clear.ensures.items, none nw st q c.state_is_valid.ensures c.calls_are_at_stops.ensures access (sym c.is_one_station.ensures ∙ c.if-is_one_station.false) (subst (IsAtEnd nw st q access) c.in_default.is c.search.ensures.ended))
 
 pub returns-clause-answer : goal.returns-clause-answer
@@ -25,7 +25,7 @@ returns-clause-answer g c =
     let nw = c.args.t.now.network in
     let st = c.args.t.now.state in
     let q = c.args.q.now in
-    let access = access_of nw q c.search.new.known.labels in
+    let access = access_of nw q c.search.new.known.accesses in
     let last = c.in-Some.last in
     let way = c.in_ok-trace.ensures in
     subst (λ rs. IsEarliest nw st q rs last.alight_time) (sym way.2)

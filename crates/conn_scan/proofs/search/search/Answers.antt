@@ -1,31 +1,21 @@
-use Rattle.std.proofs.Common.{◌≤◌, ◌<◌, List, Option, None, All, length, replicate, sym, ◌∙◌, ap, subst}
+use Rattle.std.proofs.Common.{◌≤◌, Option, None, length, sym, ◌∙◌, ap, subst}
 use Rattle.std.proofs.lemmas.List.{length-replicate}
 use Rattle.mt_base.specs.declared.plans.PlanRide.{PlanRide}
-use Rattle.change_times.specs.declared.change.Change.{Change}
 use Rattle.timetable.specs.Departures.{departures_from}
 use Rattle.conn_scan.specs.Lowered.{lowered, access_of}
-use Rattle.conn_scan.specs.Reached.{Access}
 use Rattle.conn_scan.specs.Scan.{IsAtEnd}
 use Rattle.conn_scan.specs.Scanned.{scanned}
 use Rattle.conn_scan.specs.declared.known.Known.{Known}
-use Rattle.conn_scan.proofs.LoweredLemmas.{length-lowered, reached-within}
+use Rattle.conn_scan.proofs.LoweredLemmas.{length-lowered}
 use Rattle.conn_scan.proofs.ScanEnds.{at-calls, search-ends}
 use Rattle.conn_scan.proofs.search.search.Goals as goal
-
-pub lower-requires : goal.lower-requires
-lower-requires g c =
-    let nw = c.args.t.now.network in
-    let n = length c.args.known.now.labels in
-    let blank : List (Option Access) = replicate n None in
-    subst (λ m. All (λ (d : Change). d.stop < m) c.onward.result.now) (sym (ap length c.clear.ensures ∙ length-replicate n None))
-    (subst (All (λ (d : Change). d.stop < n)) (sym c.onward.ensures) (reached-within nw c.args.q.now.from_stop n c.requires.room))
 
 pub scan-requires-clause-there : goal.scan-requires-clause-there
 scan-requires-clause-there g c = at-calls c.args.t.now.network c.args.t.now.state c.args.q.now c.requires.valid
 
 pub scan-requires-clause-room : goal.scan-requires-clause-room
 scan-requires-clause-room g c =
-    let size = ap length c.lower.ensures ∙ length-lowered c.args.q.now.time None c.onward.result.now c.clear.new.self ∙ ap length c.clear.ensures ∙ length-replicate (length c.args.known.now.labels) None in
+    let size = ap length c.lower.ensures ∙ length-lowered c.args.q.now.time None c.onward.result.now c.clear.new.self ∙ ap length c.clear.ensures ∙ length-replicate (length c.args.known.now.accesses) None in
     subst (λ m. length c.args.t.now.network.stops ≤ m) (sym size) c.requires.room
 
 pub returns-clause-ended : goal.returns-clause-ended
@@ -35,8 +25,8 @@ returns-clause-ended g c =
     let q = c.args.q.now in
     let straight : Option PlanRide = None in
     let first = c.lower.ensures ∙ (λ i. lowered q.time straight (c.onward.ensures i) (c.clear.ensures i)) in
-    let begins = c.scan.ensures.scanned ∙ ap (λ ls. scanned nw st q (departures_from nw st q.time) (record { labels = ls; best = straight })) first in
-    subst (λ (k : Known). IsAtEnd nw st q (access_of nw q k.labels) k.best) (sym begins) (search-ends nw st q c.requires.valid (length c.args.known.now.labels) c.requires.room)
+    let begins = c.scan.ensures.scanned ∙ ap (λ ls. scanned nw st q (departures_from nw st q.time) (record { accesses = ls; best = straight })) first in
+    subst (λ (k : Known). IsAtEnd nw st q (access_of nw q k.accesses) k.best) (sym begins) (search-ends nw st q c.requires.valid (length c.args.known.now.accesses) c.requires.room)
 
 pub returns-clause-room : goal.returns-clause-room
 returns-clause-room g c =
@@ -44,4 +34,4 @@ returns-clause-room g c =
     ∙ ap length c.lower.ensures
     ∙ length-lowered c.args.q.now.time None c.onward.result.now c.clear.new.self
     ∙ ap length c.clear.ensures
-    ∙ length-replicate (length c.args.known.now.labels) None
+    ∙ length-replicate (length c.args.known.now.accesses) None

@@ -3,7 +3,7 @@ use Rattle.conn_scan.proofs.WayBack.{left_of, IsOnWay}
 use Rattle.conn_scan.proofs.search.trace.Given as goal
 
 abbrev pub invariant-loop-before : goal.invariant-loop-before
-invariant-loop-before l = IsOnWay (access_of l.t.network l.q l.labels) l.last l.rides.items l.before
+invariant-loop-before l = IsOnWay (access_of l.t.network l.q l.accesses) l.last l.rides.items l.before
 
 abbrev pub decreases-loop-before : goal.decreases-loop-before
 decreases-loop-before l = left_of l.before

@@ -14,6 +14,6 @@ returns-then-arrival-2-clause-next g c =
     let old = c.args.known.now in
     let now = took nw q (ride_to b a) old in
     next-left nw c.args.t.now.state c.requires.valid q b c.args.label c.requires.there a (sym c.in_ok-arrival.ensures) old c.if-arrival.known (elim c.if-arrival.branch [
-      | then-arrival w ↦ w.known-is ∙ w.take_ride.ensures.taken ∙ ap (λ r. took nw q r old) w.ride_to.ensures ∙ sym (cond-true a.alights now old w.if-arrival.true)
+      | then-arrival w ↦ w.known-is ∙ w.take_ride.ensures ∙ ap (λ r. took nw q r old) w.ride_to.ensures ∙ sym (cond-true a.alights now old w.if-arrival.true)
       | else-arrival w ↦ w.known-is ∙ sym (cond-false a.alights now old w.if-arrival.false)
     ]) c.if-arrival-2.true

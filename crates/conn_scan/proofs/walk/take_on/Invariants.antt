@@ -10,7 +10,6 @@ invariant-loop-next g l =
     (took_all l.t.network l.q (rides_on l.t.network l.t.state l.boarding (calls_after l.t.state l.boarding.train l.label)) l.known
     ≡ took_all l.t.network l.q (rides_on l.t.network l.t.state l.boarding (calls_after l.t.state l.boarding.train l.boarding.label)) l.fn.known)
     × (has_call l.t.state l.boarding.train l.label ≡ true)
-    × (length l.known.labels ≡ length l.fn.known.labels)
 
 abbrev pub decreases-loop-next : goal.decreases-loop-next
 decreases-loop-next g l = length (calls_after l.t.state l.boarding.train l.label)

@@ -3,7 +3,8 @@ use Rattle.std.proofs.lemmas.Result.{on_ok_weaker}
 use Rattle.std.specs.Prelude.{decimal}
 use Rattle.csv.specs.Writing.{fields_written}
 use Rattle.schedule_build.specs.Directory.{trip_of_train, id_of_place}
-use Rattle.delay_report.specs.Replies.{event_word, date_of_train, clock_of_train}
+use Rattle.delay_report.specs.Replies.{event_word}
+use Rattle.delay_report.specs.Trains.{date_of_train, clock_of_train}
 use Rattle.delay_report.specs.Written.{bytes_of}
 use Rattle.delay_report.proofs.RowTexts.{none-yet, one-more, row-ended}
 use Rattle.delay_report.proofs.table.push_event.Goals as goal

@@ -7,17 +7,9 @@ use Rattle.gtfs_tables.proofs.fields.number.Goals as goal
 pub overflow_mul-value : goal.overflow_mul-value
 overflow_mul-value c = let small = tens_small c.loop-byte.byte-index (omega arith) in omega arith
 
-pub returns-in_err-value-clause-value : goal.returns-in_err-value-clause-value
-unfolding digits_after
-returns-in_err-value-clause-value c = grind (arith, common_steps)
+pub overflow_add-value : goal.overflow_add-value
+overflow_add-value c = let small = tens_small c.loop-byte.byte-index (omega arith) in omega (arith, c.in_ok-value.ensures.small)
 
 pub loop-byte-preserved : goal.loop-byte-preserved
 unfolding digits_after
-loop-byte-preserved c = record {
-  spelled = grind (arith, common_steps);
-  small = one_more c.loop-byte.byte-index c.loop-byte.value c.in_ok-value.field-0 c.loop-byte.invariant.small c.in_ok-value.ensures.small;
-}
-
-pub returns-clause-value : goal.returns-clause-value
-unfolding digits_after
-returns-clause-value c = grind (arith, common_steps)
+loop-byte-preserved c = let small = one_more c.loop-byte.byte-index c.loop-byte.value in grind (arith, common_steps, small)

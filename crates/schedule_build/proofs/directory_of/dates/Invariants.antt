@@ -1,5 +1,4 @@
-use Rattle.std.proofs.Common.{◌≡◌, ◌-◌, ◌++◌, length}
-use Rattle.schedule_build.specs.Directory.{dates_from}
+use Rattle.schedule_build.proofs.Words.{◌≡◌, ◌-◌, ◌++◌, length, dates_from}
 use Rattle.schedule_build.proofs.directory_of.dates.Given as goal
 
 -- the dates so far, and those that are left

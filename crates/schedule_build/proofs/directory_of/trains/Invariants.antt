@@ -1,5 +1,4 @@
-use Rattle.std.proofs.Common.{◌≡◌, take, map}
-use Rattle.schedule_build.specs.Directory.{name_of_run}
+use Rattle.schedule_build.proofs.Words.{◌≡◌, take, map, name_of_run}
 use Rattle.schedule_build.proofs.directory_of.trains.Given as goal
 
 -- the names of the trains so far

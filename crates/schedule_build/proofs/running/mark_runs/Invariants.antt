@@ -1,6 +1,4 @@
-use Rattle.std.proofs.Common.{◌≡◌, ℕ, ◌<◌, true, false, if◌then◌else◌, length, get_or, drop}
-use Rattle.std.specs.List.{list_any}
-use Rattle.schedule_build.specs.Services.{runs}
+use Rattle.schedule_build.proofs.Words.{◌≡◌, ℕ, ◌<◌, true, false, if◌then◌else◌, length, get_or, drop, list_any, runs}
 use Rattle.schedule_build.proofs.running.mark_runs.Given as goal
 
 -- what the rest of the rows would mark is what all rows mark

@@ -1,5 +1,4 @@
-use Rattle.std.proofs.Common.{◌≡◌, ◌≤◌, ◌++◌, length, drop}
-use Rattle.schedule_build.specs.Runs.{is_set, day_runs}
+use Rattle.schedule_build.proofs.Words.{◌≡◌, ◌≤◌, ◌++◌, length, drop, is_set, day_runs}
 use Rattle.schedule_build.proofs.runs.add_day.Given as goal
 
 -- what was added and what is left to add is what all trips come to

@@ -1,5 +1,4 @@
-use Rattle.std.proofs.Common.{◌≡◌, ◌≤◌, ◌-◌, ◌++◌, length}
-use Rattle.schedule_build.specs.Runs.{runs_from, all_runs}
+use Rattle.schedule_build.proofs.Words.{◌≡◌, ◌≤◌, ◌-◌, ◌++◌, length, runs_from, all_runs}
 use Rattle.schedule_build.proofs.runs.all_runs.Given as goal
 
 -- what was added and what is left to add is what all days come to

@@ -1,5 +1,4 @@
-use Rattle.std.proofs.Common.{◌≡◌, ◌≤◌, ◌+◌, drop}
-use Rattle.schedule_build.specs.Schedule.{count_calls}
+use Rattle.schedule_build.proofs.Words.{◌≡◌, ◌≤◌, ◌+◌, drop, count_calls}
 use Rattle.schedule_build.proofs.schedule.count_all.Given as goal
 
 abbrev pub invariant-loop-run : goal.invariant-loop-run

@@ -1,5 +1,4 @@
-use Rattle.std.proofs.Common.{◌≡◌, ◌≤◌, ◌+◌, length, drop}
-use Rattle.feed_tables.specs.Calls.{times_of}
+use Rattle.schedule_build.proofs.Words.{◌≡◌, ◌≤◌, ◌+◌, length, drop, times_of}
 use Rattle.schedule_build.proofs.schedule.count_timed.Given as goal
 
 abbrev pub invariant-loop-row : goal.invariant-loop-row

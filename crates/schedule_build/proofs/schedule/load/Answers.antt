@@ -1,8 +1,6 @@
-use Rattle.std.proofs.Common.{◌+◌, ◌-◌, ◌∙◌, [], length, ap, refl, arith, map}
+use Rattle.schedule_build.proofs.Words.{◌+◌, [], length, ap, arith, common_steps, State, pushed}
+use Rattle.schedule_build.proofs.StateLemmas.{pushed-is}
 use Rattle.std.specs.FinMap as finmap
-use Rattle.delay_model.specs.declared.state.State.{State}
-use Rattle.schedule_build.specs.Schedule.{pushed, run_train, count_calls}
-use Rattle.schedule_build.proofs.StateLemmas.{pushed-is, rebuilt-same}
 use Rattle.schedule_build.proofs.schedule.load.Goals as goal
 
 pub returns : goal.returns
@@ -18,7 +16,6 @@ returns c =
       spare_calls = c.args.calls + o.spare_calls;
       spare_overrides = o.overrides;
     } in
-    c.in_ok-push_runs.ensures
-    ∙ ap (pushed all runs) c.in_ok-trains.ensures
-    ∙ pushed-is all runs empty
-    ∙ rebuilt-same empty (map (run_train all) runs) (map (run_train all) runs) (length runs + o.spare_trains - length runs) o.spare_trains (c.args.calls + o.spare_calls - count_calls all runs) o.spare_calls refl (omega arith) (omega (arith, c.requires.count))
+    let filled = pushed-is all runs empty in
+    let started = ap (pushed all runs) c.in_ok-trains.ensures in
+    grind (arith, common_steps, filled, started, c.in_ok-push_runs.ensures, c.requires.count)

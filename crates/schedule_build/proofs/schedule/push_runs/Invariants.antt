@@ -1,5 +1,4 @@
-use Rattle.std.proofs.Common.{◌≡◌, ◌≤◌, length, drop}
-use Rattle.schedule_build.specs.Schedule.{pushed, count_calls}
+use Rattle.schedule_build.proofs.Words.{◌≡◌, ◌≤◌, length, drop, pushed, count_calls}
 use Rattle.schedule_build.proofs.schedule.push_runs.Given as goal
 
 abbrev pub invariant-loop-run : goal.invariant-loop-run

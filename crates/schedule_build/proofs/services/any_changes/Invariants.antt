@@ -1,6 +1,4 @@
-use Rattle.std.proofs.Common.{◌≡◌, drop}
-use Rattle.std.specs.List.{list_any}
-use Rattle.schedule_build.specs.Services.{changes}
+use Rattle.schedule_build.proofs.Words.{◌≡◌, drop, list_any, changes}
 use Rattle.schedule_build.proofs.services.any_changes.Given as goal
 
 abbrev pub invariant-loop-row : goal.invariant-loop-row

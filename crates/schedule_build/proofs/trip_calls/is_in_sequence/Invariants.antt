@@ -1,5 +1,4 @@
-use Rattle.std.proofs.Common.{◌≡◌, drop}
-use Rattle.feed_tables.specs.Calls.{is_rising, sequence}
+use Rattle.schedule_build.proofs.Words.{◌≡◌, drop, is_rising, sequence}
 use Rattle.schedule_build.proofs.trip_calls.is_in_sequence.Given as goal
 
 abbrev pub invariant-loop-row : goal.invariant-loop-row

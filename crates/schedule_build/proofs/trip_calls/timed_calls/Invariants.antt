@@ -1,5 +1,4 @@
-use Rattle.std.proofs.Common.{◌≡◌, ◌++◌, drop}
-use Rattle.schedule_build.specs.TripCalls.{timed_calls}
+use Rattle.schedule_build.proofs.Words.{◌≡◌, ◌++◌, drop, timed_calls}
 use Rattle.schedule_build.proofs.trip_calls.timed_calls.Given as goal
 
 abbrev pub invariant-loop-row : goal.invariant-loop-row

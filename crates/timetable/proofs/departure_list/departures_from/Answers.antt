@@ -1,6 +1,4 @@
-use Rattle.std.proofs.Common.{rules}
-use Rattle.std.proofs.Math.Dec.{ltb}
-use Rattle.std.proofs.lemmas.List.Sorted.{IsPartitionPoint-from_clause, IsPartitionedBy-ltb}
+use Rattle.timetable.proofs.Words.{rules, ltb, IsPartitionPoint-from_clause, IsPartitionedBy-ltb}
 use Rattle.timetable.proofs.Departing.{later-are}
 use Rattle.timetable.proofs.departure_list.departures_from.Goals as goal
 

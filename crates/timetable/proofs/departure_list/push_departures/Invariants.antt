@@ -1,5 +1,5 @@
-use Rattle.timetable.proofs.Departing.{IsListedTo}
 use Rattle.timetable.proofs.departure_list.push_departures.Given as goal
+use Rattle.timetable.proofs.Departing.{IsListedTo}
 
 -- the departures among the events so far are listed
 abbrev pub invariant-loop-k : goal.invariant-loop-k

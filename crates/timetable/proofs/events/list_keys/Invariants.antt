@@ -1,8 +1,6 @@
-use Rattle.std.proofs.Common.{drop}
-use Rattle.delay_model.specs.Events.{events, events_from}
-use Rattle.timetable.specs.LiveTimes.{live_keys}
-use Rattle.timetable.proofs.Listing.{IsListed}
+use Rattle.timetable.proofs.Words.{drop, events, events_from, live_keys}
 use Rattle.timetable.proofs.events.list_keys.Given as goal
+use Rattle.timetable.proofs.Listing.{IsListed}
 
 -- the keys of the live events of the trains so far are listed
 abbrev pub invariant-loop-number : goal.invariant-loop-number

@@ -1,7 +1,6 @@
-use Rattle.delay_model.specs.Events.{train_events}
-use Rattle.timetable.specs.LiveTimes.{live_keys}
-use Rattle.timetable.proofs.Listing.{IsListed}
+use Rattle.timetable.proofs.Words.{train_events, live_keys}
 use Rattle.timetable.proofs.events.push_keys.Given as goal
+use Rattle.timetable.proofs.Listing.{IsListed}
 
 -- the keys of the live events so far are listed
 abbrev pub invariant-loop-event : goal.invariant-loop-event

@@ -1,6 +1,4 @@
-use Rattle.std.proofs.Common.{◌≡◌, drop}
-use Rattle.schedule_build.specs.Directory.{day_named, number_from}
-use Rattle.std.specs.Prelude.{nat_eq}
+use Rattle.schedule_build.proofs.Words.{◌≡◌, drop, day_named, number_from, nat_eq}
 use Rattle.schedule_build.proofs.directory.Directory.day.Given as goal
 
 -- the day is among those that are left

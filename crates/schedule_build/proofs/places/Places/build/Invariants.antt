@@ -1,7 +1,5 @@
-use Rattle.std.proofs.Common.{◌≡◌, take, map}
-use Rattle.schedule_build.specs.Directory.{place_of_row}
-use Rattle.schedule_build.specs.Stored.{IsNumbered, seen_place}
-use Rattle.schedule_build.specs.declared.places.StoredPlace.{StoredPlace}
+use Rattle.schedule_build.proofs.Words.{◌≡◌, take, map, place_of_row, seen_place, StoredPlace}
+use Rattle.schedule_build.specs.Stored.{IsNumbered}
 use Rattle.schedule_build.proofs.places.Places.build.Given as goal
 
 -- the places of the rows so far, and their numbers

@@ -1,26 +1,19 @@
-use Rattle.std.proofs.Common.{◌≡◌, ◌∙◌, Some, None, sym, ap, rules}
-use Rattle.std.specs.BTreeMap.{get}
-use Rattle.schedule_build.specs.Stored.{number_of_name, number_of_train}
-use Rattle.schedule_build.specs.StoredTrains.{key_cmp}
-use Rattle.schedule_build.proofs.TrainNameLemmas.{train-found, train-missing, train-below}
+use Rattle.schedule_build.proofs.Words.{bytes_eq, nat_eq, ◌&&◌, arith, common_steps}
+use Rattle.delay_model.specs.Names.{TrainName}
+use Rattle.schedule_build.proofs.NumberLemmas.{is_found}
+use Rattle.schedule_build.proofs.TrainNameLemmas.{train-found, train-missing}
 use Rattle.schedule_build.proofs.train_names.TrainNames.find.Goals as goal
 
 pub returns-in_err-trip-clause-number : goal.returns-in_err-trip-clause-number
 returns-in_err-trip-clause-number c =
     let a = c.self.inside in
-    let trip = c.args.trip.now in
-    let none : number_of_name a.trips trip ≡ None = search rules in
-    let gives : c.from_residual.result ≡ None = search rules in
-    gives ∙ sym (train-missing a.trips a.trains.items trip c.args.day c.self.invariant.has_trips none) ∙ ap (λ ts. number_of_train ts trip c.args.day) c.self.view_is
+    rw (← c.self.view_is) (grind (arith, common_steps, train-missing a.trips a.trains.items c.args.trip.now c.args.day c.self.invariant.has_trips))
 
 pub returns-clause-number : goal.returns-clause-number
 returns-clause-number c =
     let a = c.self.inside in
-    let trip = c.args.trip.now in
-    let found : number_of_name a.trips trip ≡ Some c.in_ok-trip.trip = search rules in
-    let gives : c.copied.result ≡ get key_cmp a.numbers (c.in_ok-trip.trip, c.args.day) = search rules in
-    gives ∙ c.self.invariant.numbered.found c.in_ok-trip.trip c.args.day
-    ∙ sym (train-found a.trips a.trains.items trip c.args.day c.in_ok-trip.trip c.self.invariant.has_trips found) ∙ ap (λ ts. number_of_train ts trip c.args.day) c.self.view_is
+    let trip = c.in_ok-trip.trip in
+    rw (← c.self.view_is) (grind (arith, common_steps, train-found a.trips a.trains.items c.args.trip.now c.args.day trip c.self.invariant.has_trips, c.self.invariant.numbered.found trip c.args.day))
 
 pub returns-clause-there : goal.returns-clause-there
-returns-clause-there c = train-below c.args.self.now c.args.trip.now c.args.day c.copied.result (returns-clause-number c)
+returns-clause-there c = grind (arith, returns-clause-number c, is_found (λ (t : TrainName). bytes_eq t.trip c.args.trip.now && nat_eq t.day c.args.day) 0 c.args.self.now)
