@@ -23,16 +23,8 @@ pub(crate) fn check_cancel(g: &Graph, train: TrainNo, from: Label, to: Label) ->
     if !g.trains().stands_before(train, from, to) {
         return Err(Refusal::Unknown);
     }
-    let departure = Node {
-        train,
-        label: from,
-        dep: true,
-    };
-    let arrival = Node {
-        train,
-        label: to,
-        dep: false,
-    };
+    let departure = Node::departure(train, from);
+    let arrival = Node::arrival(train, to);
     check_stretch(g, &departure, &arrival)
 }
 

@@ -27,7 +27,7 @@ fn is_stop(g: &Graph, stop: StopNo) -> bool
     ensures { result ≡ is_stop g.now.network.stops stop }
 {
     match g.changes().kind(stop) {
-        Some(kind) => kind == 0,
+        Some(kind) => kind.is_platform(),
         None => false,
     }
 }

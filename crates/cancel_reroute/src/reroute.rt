@@ -37,16 +37,8 @@ pub(crate) fn check_reroute(
     if !trains.stands_before(train, from, to) {
         return Err(Refusal::Unknown);
     }
-    let departure = Node {
-        train,
-        label: from,
-        dep: true,
-    };
-    let arrival = Node {
-        train,
-        label: to,
-        dep: false,
-    };
+    let departure = Node::departure(train, from);
+    let arrival = Node::arrival(train, to);
     if !trains.live(departure) || !trains.live(arrival) || !are_at_stops(g, via) {
         return Err(Refusal::Unknown);
     }
@@ -84,16 +76,8 @@ fn check_rerouted(
         (train_events (effect g.now.state (Reroute train from to via.now)) train))) }
 {
     let mut check = RankCheck { last: None };
-    let departure = Node {
-        train,
-        label: from,
-        dep: true,
-    };
-    let arrival = Node {
-        train,
-        label: to,
-        dep: false,
-    };
+    let departure = Node::departure(train, from);
+    let arrival = Node::arrival(train, to);
     check_front(g, &mut check, &departure)?;
     check_new(g, &mut check, train, via)?;
     check_back(g, &mut check, &arrival)

@@ -1,73 +1,64 @@
 //! The messages that change which calls a train makes, or which of its events take place.
 
-ghost use Rattle.std.specs.Prelude.{◌≡◌, None, OnErr, OnOk};
+ghost use Rattle.std.specs.Prelude.{◌≡◌, None};
 ghost use Rattle.delay_model.specs.Effect.{effect};
 ghost use Rattle.delay_model.specs.Messages.{IsWellFormed};
 ghost use Rattle.delay_model.specs.Refusals.{refusal};
 ghost use Rattle.graph_edit.specs.Values.{Answers};
-ghost use Rattle.train_nodes.specs.Kinds.{IsShape};
+ghost use Rattle.train_nodes.specs.Kinds.{HasFewCalls, message_of_shape};
 
 use crate::cancel::check_cancel;
 use crate::extra::check_extra;
 use crate::reroute::check_reroute;
-use delay_model::messages::{Message, Refusal};
+use delay_model::messages::Refusal;
 use edge_rules::Graph;
-use mt_base::memory::OutOfMemory;
-use std::alloc::Global;
-use train_nodes::Msg;
+use train_nodes::kinds::Shape;
 
 /// Whether a cancellation, a rerouting or an extra train is accepted, or why it is refused.
-pub fn check_shape(g: &Graph, m: &Msg) -> Result<(), Refusal>
-    requires kind { IsShape m.now }
-    ensures { Answers result (refusal g.now.network g.now.state m.now) }
+pub fn check_shape(g: &Graph, s: &Shape<'_>) -> Result<(), Refusal>
+    requires well_formed { IsWellFormed (message_of_shape s.now) }
+    requires few { HasFewCalls (message_of_shape s.now) }
+    ensures { Answers result (refusal g.now.network g.now.state (message_of_shape s.now)) }
 {
-    match m.message() {
-        Message::Cancel { train, from, to } => check_cancel(g, *train, *from, *to),
-        Message::Reroute {
+    match s {
+        Shape::Cancel { train, from, to } => check_cancel(g, *train, *from, *to),
+        Shape::Reroute {
             train,
             from,
             to,
             via,
-        } => check_reroute(g, *train, *from, *to, via.as_slice()),
-        Message::Extra {
+        } => check_reroute(g, *train, *from, *to, via),
+        Shape::Extra {
             train,
             route,
             calls,
             ..
-        } => check_extra(g, *train, *route, calls.as_slice()),
-        _ => unreachable!(),
+        } => check_extra(g, *train, *route, calls),
     }
 }
 
-/// Changes the graph as an accepted cancellation, rerouting or extra train says. After an error nothing is changed.
+/// Changes the graph as an accepted cancellation, rerouting or extra train says. It takes no memory.
 #[tactic(auto, unfolding(delay_model::specs::Effect::effect, delay_model::specs::Refusals::refusal))]
-pub fn apply_shape(alloc: Global, g: &mut Graph, m: &Msg) -> Result<(), OutOfMemory>
-    requires kind { IsShape m.now }
-    requires accepted { refusal g.old.network g.old.state m.now ≡ None }
-    ensures effect { OnOk result (g.new ≡ record g.old { state = effect g.old.state m.now }) }
-    ensures kept { OnErr result (g.new ≡ g.old) }
-    ensures well_formed { IsWellFormed m.now }
+pub fn apply_shape(g: &mut Graph, s: &Shape<'_>)
+    requires well_formed { IsWellFormed (message_of_shape s.now) }
+    requires accepted { refusal g.old.network g.old.state (message_of_shape s.now) ≡ None }
+    ensures { g.new ≡ record g.old { state = effect g.old.state (message_of_shape s.now) } }
 {
-    match m.message() {
-        Message::Cancel { train, from, to } => {
-            g.cancel(*train, *from, *to);
-            Ok(())
-        }
-        Message::Reroute {
+    match s {
+        Shape::Cancel { train, from, to } => g.cancel(*train, *from, *to),
+        Shape::Reroute {
             train,
             from,
             to,
             via,
-        } => g.reroute(alloc, *train, *from, *to, via.as_slice()),
-        Message::Extra {
+        } => g.reroute(*train, *from, *to, via),
+        Shape::Extra {
             day,
             route,
             calls,
             ..
         } => {
-            g.add_train(*day, *route, calls.as_slice());
-            Ok(())
+            g.add_train(*day, *route, calls);
         }
-        _ => unreachable!(),
     }
 }

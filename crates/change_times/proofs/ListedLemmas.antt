@@ -3,11 +3,13 @@ use Rattle.std.proofs.Common.{◌≡◌, ℕ, ◌<◌, ◌≤◌, List, [], Bool
 use Rattle.std.proofs.lemmas.Bool.{cases_lt, cond_both}
 use Rattle.std.proofs.lemmas.List.Elements.{All-contains}
 use Rattle.std.proofs.lemmas.Option.{slice_get-get_or}
-use Rattle.std.specs.Prelude.{if◌then◌else◌, nat_eq, unwrap_or}
+use Rattle.std.specs.Prelude.{if◌then◌else◌, unwrap_or}
 use Rattle.std.specs.List.{Contains, filter_map}
 use Rattle.std.specs.List.Sorted.{IsStrictlyIncreasing}
 use Rattle.std.specs.Option.{option_map, option_map_or}
+use Rattle.mt_base.specs.declared.places.PlaceKind.TheVariants.{Platform}
 use Rattle.mt_base.specs.declared.tables.StopRow.{StopRow}
+use Rattle.mt_base.specs.Places.{is_platform}
 use Rattle.delay_model.specs.Changes.{station, station_by, is_stop, is_looked_at, change}
 use Rattle.change_times.specs.declared.change.Change.{Change}
 use Rattle.change_times.specs.declared.near.Direction.{Direction}
@@ -24,7 +26,7 @@ use Rattle.change_times.proofs.WalkLemmas.{walk-same, nothing, cases-option}
 
 -- past the locations there is no stop
 no-stop : (t : ChangeTables) (a : ℕ) → length t.stops ≤ a → is_stop t.stops a ≡ false
-no-stop t a l = past-none t.stops (λ o. option_map_or (λ kind. nat_eq kind 0) (option_map (λ (row : StopRow). row.kind) o) false) a l
+no-stop t a l = past-none t.stops (λ o. option_map_or is_platform (option_map (λ (row : StopRow). row.kind) o) false) a l
 
 -- a stop is one of the locations
 stop-within : (t : ChangeTables) (a : ℕ) → is_stop t.stops a ≡ true → a < length t.stops
@@ -88,9 +90,9 @@ unwrap-within n a (Some p) l h = h
 -- the station of a location is a location
 station-within : (t : ChangeTables) (a : ℕ) → IsKept t → a < length t.stops → station t.stops a < length t.stops
 station-within t a h l =
-    let d : StopRow = record { id = []; kind = 0; parent = None } in
+    let d : StopRow = record { id = []; kind = Platform; parent = None } in
     let row = get_or t.stops a d in
-    let by : station_by a row < length t.stops = cond_both (nat_eq row.kind 0) (unwrap_or row.parent a) a (λ s. s < length t.stops) (λ _. unwrap-within (length t.stops) a row.parent l (h.parents a d l)) (λ _. l) in
+    let by : station_by a row < length t.stops = cond_both (is_platform row.kind) (unwrap_or row.parent a) a (λ s. s < length t.stops) (λ _. unwrap-within (length t.stops) a row.parent l (h.parents a d l)) (λ _. l) in
     subst (λ o. option_map_or (station_by a) o a < length t.stops) (sym (slice_get-get_or t.stops a d l)) by
 
 -- the end of a row is a location, so it does not belong to what is none

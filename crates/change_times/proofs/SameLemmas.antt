@@ -1,22 +1,24 @@
 -- Tables with the same change times have as many pairs.
-use Rattle.std.proofs.Common.{◌≡◌, ℕ, Option, None, false, nat_eq, length, refl, sym, ◌∙◌, ap}
+use Rattle.std.proofs.Common.{◌≡◌, ℕ, Option, None, false, length, refl, sym, ◌∙◌, ap}
 use Rattle.std.proofs.lemmas.List.{length-map}
-use Rattle.std.specs.Prelude.{nat_le, if◌then◌else◌}
+use Rattle.std.specs.Prelude.{if◌then◌else◌}
 use Rattle.std.specs.List.{filter, filter_map, range_with_len, sum_by}
 use Rattle.std.specs.Option.{option_map, option_map_or}
+use Rattle.mt_base.specs.declared.places.PlaceKind.{PlaceKind}
+use Rattle.mt_base.specs.Places.{is_platform, is_platform_or_station}
 use Rattle.delay_model.specs.Changes.{kind_of, change}
 use Rattle.change_times.specs.declared.change.Change.{Change}
 use Rattle.change_times.specs.ChangeTables.{ChangeTables, HaveSameChanges, without_id}
 use Rattle.change_times.specs.Reach.{pairs, reached}
 
-change-if : ℕ → Option ℕ → Option ℕ → Option Change
+change-if : ℕ → Option PlaceKind → Option ℕ → Option Change
 change-if b kind seconds =
-    if option_map_or (λ k. nat_eq k 0) kind false then option_map (λ s. record { stop = b; seconds = s }) seconds else None
+    if option_map_or is_platform kind false then option_map (λ s. record { stop = b; seconds = s }) seconds else None
 
--- the pairs by the types of the locations, the change times, and how many locations there are
-pairs-by : (ℕ → Option ℕ) → (ℕ → ℕ → Option ℕ) → ℕ → ℕ
+-- the pairs by the kinds of the locations, the change times, and how many locations there are
+pairs-by : (ℕ → Option PlaceKind) → (ℕ → ℕ → Option ℕ) → ℕ → ℕ
 pairs-by kind seconds n =
-    sum_by (λ a. length (filter_map (λ b. change-if b (kind b) (seconds a b)) (range_with_len 0 n))) (filter (λ a. option_map_or (λ k. nat_le k 1) (kind a) false) (range_with_len 0 n))
+    sum_by (λ a. length (filter_map (λ b. change-if b (kind b) (seconds a b)) (range_with_len 0 n))) (filter (λ a. option_map_or is_platform_or_station (kind a) false) (range_with_len 0 n))
 
 pairs-is : (t : ChangeTables) → pairs t ≡ pairs-by (kind_of t.stops) (change t.stops t.transfers t.default) (length t.stops)
 unfolding pairs reached pairs-by change-if

@@ -9,9 +9,12 @@ use Rattle.std.specs.Prelude.{slice_get, if◌then◌else◌, nat_le}
 use Rattle.std.specs.List.{filter}
 use Rattle.std.specs.List.Sorted.{IsPermutation}
 use Rattle.std.specs.Option.{option_map, option_map_or, option_or}
+use Rattle.mt_base.specs.declared.places.PlaceKind.{PlaceKind}
+use Rattle.mt_base.specs.declared.places.PlaceKind.TheVariants.{Platform, Station}
 use Rattle.mt_base.specs.declared.tables.StopRow.{StopRow}
 use Rattle.mt_base.specs.declared.tables.Tables.{Tables}
 use Rattle.mt_base.specs.declared.tables.TransferRow.{TransferRow}
+use Rattle.mt_base.specs.Places.{is_platform_or_station}
 use Rattle.delay_model.specs.Changes.{kind_of, station, station_by, is_looked_at, is_row_of, is_stop_or_station, first_row, deciding_row, change_by, change}
 use Rattle.feed_tables.specs.Lawful.{IsLawful, IsLocation, HasKind}
 use Rattle.change_times.specs.ChangeTables.{ChangeTables, tables_of, without_id, HaveSameChanges}
@@ -43,7 +46,7 @@ place-within : (stops : List StopRow) (a : ℕ) → is_stop_or_station stops a �
 place-within stops a h =
     elim (cases_lt a (length stops)) [
       | inl l ↦ l
-      | inr l ↦ let n = past-none stops (λ o. option_map_or (λ kind. nat_le kind 1) (option_map (λ (row : StopRow). row.kind) o) false) a l in absurd (cc)
+      | inr l ↦ let n = past-none stops (λ o. option_map_or is_platform_or_station (option_map (λ (row : StopRow). row.kind) o) false) a l in absurd (cc)
     ]
 
 -- the ends of a row that is looked at are locations
@@ -138,14 +141,14 @@ same-changes stops rows kept all default e same h =
           ∙ ap (λ g. change-with (first_row stops rows) g default a b) at ∙ sym (change-is stops rows default a b);
     }
 
-within : (stops : List StopRow) (kind n : ℕ) → HasKind stops kind n → n < length stops
+within : (stops : List StopRow) (kind : PlaceKind) (n : ℕ) → HasKind stops kind n → n < length stops
 within [] kind n h = absurd h
 within (row ∷ stops) kind zero h = omega arith
 within (row ∷ stops) kind (suc n) h = omega (arith, within stops kind n h)
 
-parent-within : (stops : List StopRow) (o : Option ℕ) (P : ℕ → Type 0) → IfSome o (λ n. P n × HasKind stops 1 n) → IfSome o (λ n. n < length (map without_id stops))
+parent-within : (stops : List StopRow) (o : Option ℕ) (P : ℕ → Type 0) → IfSome o (λ n. P n × HasKind stops Station n) → IfSome o (λ n. n < length (map without_id stops))
 parent-within stops None P h = tt
-parent-within stops (Some n) P h = subst (λ k. n < k) (sym (length-map stops without_id)) (within stops 1 n h.1)
+parent-within stops (Some n) P h = subst (λ k. n < k) (sym (length-map stops without_id)) (within stops Station n h.1)
 
 is-kept : (stops : List StopRow) (rows kept all : List TransferRow) (default : ℕ) → length stops ≤ 100000 → All (IsLocation stops) stops → kept ≡ filter (is_looked_at (map without_id stops)) rows → IsPermutation kept all → IsKept (record { stops = map without_id stops; transfers = all; default = default })
 is-kept stops rows kept all default few lawful e moved =
@@ -154,7 +157,7 @@ is-kept stops rows kept all default few lawful e moved =
     record {
       few = omega (arith, few, length-map stops without_id);
       rows = All-permutation Looked kept all moved (subst (All Looked) (sym e) (filter_passes (is_looked_at blank) rows));
-      parents = All-map (λ (row : StopRow). IfSome row.parent (λ n. n < length blank)) without_id stops (All-weaker (IsLocation stops) (λ (row : StopRow). IfSome row.parent (λ n. n < length blank)) (λ row l. parent-within stops row.parent (λ n. row.kind ≡ 0) l.parent) stops lawful);
+      parents = All-map (λ (row : StopRow). IfSome row.parent (λ n. n < length blank)) without_id stops (All-weaker (IsLocation stops) (λ (row : StopRow). IfSome row.parent (λ n. n < length blank)) (λ row l. parent-within stops row.parent (λ n. row.kind ≡ Platform) l.parent) stops lawful);
     }
 
 -- what a table is made of

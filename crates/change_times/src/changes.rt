@@ -14,6 +14,7 @@ use crate::table::Table;
 use feed_tables::FeedTables;
 use mt_base::memory::OutOfMemory;
 use mt_base::numbers::StopNo;
+use mt_base::places::PlaceKind;
 use std::alloc::Global;
 use std::marker::Model;
 
@@ -106,8 +107,8 @@ impl Changes {
         self.table.places().len() as u32
     }
 
-    /// The `location_type` of a location. None exactly where there is no such location.
-    pub fn kind(&self, a: StopNo) -> Option<u32>
+    /// The kind of a location. None exactly where there is no such location.
+    pub fn kind(&self, a: StopNo) -> Option<PlaceKind>
         ensures { result ≡ kind_of self.now.stops a }
     {
         self.table.places().kind(a)

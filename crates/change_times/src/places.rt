@@ -6,14 +6,15 @@ ghost use Rattle.change_times.specs.ChangeTables.{without_id};
 
 use mt_base::memory::OutOfMemory;
 use mt_base::numbers::StopNo;
+use mt_base::places::PlaceKind;
 use mt_base::tables::StopRow;
 use std::alloc::Global;
 use std::marker::Model;
 
-/// A location: its `location_type` and its `parent_station`.
+/// A location: its kind and its `parent_station`.
 #[derive(Clone, Copy)]
 pub(crate) struct Place {
-    kind: u32,
+    kind: PlaceKind,
     parent: Option<StopNo>,
 }
 
@@ -67,8 +68,8 @@ impl Places {
         self.places.len()
     }
 
-    /// The `location_type` of a location. None exactly where there is no such location.
-    pub(crate) fn kind(&self, a: StopNo) -> Option<u32>
+    /// The kind of a location. None exactly where there is no such location.
+    pub(crate) fn kind(&self, a: StopNo) -> Option<PlaceKind>
         ensures { result ≡ kind_of self.now a }
     {
         match self.places.get(a.get() as usize) {
@@ -83,7 +84,7 @@ impl Places {
     {
         match self.kind(a) {
             None => false,
-            Some(kind) => kind == 0,
+            Some(kind) => kind.is_platform(),
         }
     }
 
@@ -93,7 +94,7 @@ impl Places {
     {
         match self.kind(a) {
             None => false,
-            Some(kind) => kind <= 1,
+            Some(kind) => kind.is_platform_or_station(),
         }
     }
 
@@ -104,7 +105,7 @@ impl Places {
         match self.places.get(a.get() as usize) {
             None => a,
             Some(place) => {
-                if place.kind == 0 {
+                if place.kind.is_platform() {
                     place.parent.unwrap_or(a)
                 } else {
                     a

@@ -44,17 +44,9 @@ fn next_arrival<L: Ledger>(
 {
     let trains = t.graph().trains();
     let label = trains.next_call(train, label)?;
-    let arrival = Node {
-        train,
-        label,
-        dep: false,
-    };
+    let arrival = Node::arrival(train, label);
     let time = t.time(arrival, steps)?;
-    let departure = Node {
-        train,
-        label,
-        dep: true,
-    };
+    let departure = Node::departure(train, label);
     Some(Arrival {
         label,
         stop: trains.stop(train, label),
@@ -92,11 +84,7 @@ fn board_at<L: Ledger>(
     if !trains.boards(train, label) {
         return None;
     }
-    let departure = Node {
-        train,
-        label,
-        dep: true,
-    };
+    let departure = Node::departure(train, label);
     let time = t.time(departure, steps)?;
     Some(Boarding {
         train,

@@ -57,7 +57,7 @@ events_at-label P train route (c ∷ cs) h =
     All-cons Q (arrival_of train route c) (departure_of train route c ∷ events_at train route cs) p
     (All-cons Q (departure_of train route c) (events_at train route cs) p (events_at-label P train route cs (All-tail (λ (c : Call). P c.label) c cs h)))
 
-events_at-apart : (train route : ℕ) (cs : List Call) → HasDistinctLabels cs → AllPairs AreApart (events_at train route cs)
+pub events_at-apart : (train route : ℕ) (cs : List Call) → HasDistinctLabels cs → AllPairs AreApart (events_at train route cs)
 events_at-apart train route [] h = AllPairs-nil AreApart
 events_at-apart train route (c ∷ cs) h =
     let u = arrival_of train route c in
@@ -70,12 +70,15 @@ events_at-apart train route (c ∷ cs) h =
     AllPairs-cons AreApart u (v ∷ rest) (All-cons (AreApart u) v rest (λ e. let two : false ≡ true = ap (λ n. n.dep) e in cc) (apart u refl))
     (AllPairs-cons AreApart v rest (apart v refl) (events_at-apart train route cs h.1))
 
--- each two events of a state differ by name
-pub events-apart : (st : State) → All IsTrain st.trains → AllPairs AreApart (events st)
+-- each two events of a state differ by name, where no two calls of a train have one label
+pub labels-apart : (st : State) → All (λ t. HasDistinctLabels t.calls) st.trains → AllPairs AreApart (events st)
 unfolding events
-events-apart st trains =
+labels-apart st labels =
     events_from-pairs AreApart (λ u v less e. let same : u.key.train ≡ v.key.train = ap (λ n. n.train) e in omega arith) 0 st.trains
-    (All-weaker IsTrain (λ t. (number : ℕ) → AllPairs AreApart (events_of number t)) (λ t train number. events_at-apart number t.route t.calls train.labels) st.trains trains)
+    (All-weaker (λ t. HasDistinctLabels t.calls) (λ t. (number : ℕ) → AllPairs AreApart (events_of number t)) (λ t labels number. events_at-apart number t.route t.calls labels) st.trains labels)
+
+pub events-apart : (st : State) → All IsTrain st.trains → AllPairs AreApart (events st)
+events-apart st trains = labels-apart st (λ i d l. (trains i d l).labels)
 
 -- an event of a state is known by its name
 pub events-unique : (st : State) → All IsTrain st.trains → (u v : Event) → Contains (events st) u → Contains (events st) v → node_of u.key ≡ node_of v.key → u ≡ v

@@ -1,16 +1,20 @@
 -- The latest of what the edges to an event ask for, and how late an event can be.
-use Rattle.std.proofs.Common.{◌≡◌, ℕ, ◌+◌, ◌^◌, ◌<◌, ◌≤◌, true, List, [], ◌∷◌, Option, Some, None, max, unwrap_or, sym, ◌∙◌, ap, arith}
+use Rattle.std.proofs.Common.{◌≡◌, ℕ, ◌+◌, ◌-◌, ◌^◌, ◌<◌, ◌≤◌, true, List, [], ◌∷◌, Option, max, unwrap_or, sym, ◌∙◌, ap, arith}
 use Rattle.std.specs.Option.{IfSome}
 use Rattle.std.specs.List.{All, Contains, fold}
 use Rattle.std.proofs.lemmas.Bool.{cond_both}
 use Rattle.std.proofs.lemmas.List.Elements.{All-cons, All-nil, All-head, All-tail, All-weaker, All-contains, All-contains_itself}
 use Rattle.mt_base.specs.declared.keys.Key.{Key}
+use Rattle.delay_model.specs.declared.network.Network.{Network}
+use Rattle.delay_model.specs.declared.state.State.{State}
 use Rattle.delay_model.specs.declared.state.Event.{Event}
 use Rattle.delay_model.specs.declared.state.Edge.{Edge}
-use Rattle.delay_model.specs.Timing.{incoming, cap, floor_of, counts, later, capped, local, time}
-use Rattle.delay_model.specs.Valid.{IsSmall}
+use Rattle.delay_model.specs.Events.{events}
+use Rattle.delay_model.specs.Edges.{edges}
+use Rattle.delay_model.specs.Timing.{incoming, cap, floor_of, counts, later, capped, local, time, event_time}
+use Rattle.delay_model.specs.Valid.{IsSmall, IsValid}
 use Rattle.delay_model.proofs.Ends.{IsLiveAt}
-use Rattle.delay_model.proofs.Solve.{IsGraph, incoming-leads, local-agree, spread, time-local}
+use Rattle.delay_model.proofs.Solve.{IsGraph, valid-graph, incoming-leads, local-agree, spread, time-local}
 
 -- if the edge counts, it asks for no more than m
 abbrev pub AsksUpTo : (Key → ℕ) → ℕ → Edge → Type 0
@@ -72,52 +76,42 @@ time-kept es fs gs hs g h v w hv hw report floor cap_same there back times =
     ∙ local-same es fs gs hs (time fs hs) v w report floor cap_same there back
     ∙ sym (time-local fs hs h w hw)
 
-unwrap_or-le : (o : Option ℕ) (x b m : ℕ) → IfSome o (λ t. t < b) → b ≤ m → x ≤ m → unwrap_or o x ≤ m
-unwrap_or-le None x b m h k l = l
-unwrap_or-le (Some t) x b m h k l = omega arith
+small-or : (o : Option ℕ) (x m : ℕ) → IfSome o (λ t. t < 2 ^ 24) → 2 ^ 24 ≤ m + 1 → x ≤ m → unwrap_or o x ≤ m
+small-or o x m h k l = grind arith
 
 capped-le : (o : Option ℕ) (x m : ℕ) → x ≤ m → capped o x ≤ m
-capped-le None x m h = h
-capped-le (Some c) x m h = omega arith
+capped-le o x m h = grind arith
 
-floor-le : (v : Event) → IsSmall v → floor_of v ≤ v.key.time + 2 ^ 24
-floor-le v h =
-    let m = v.key.time + 2 ^ 24 in
-    let f : unwrap_or v.forecast 0 ≤ m = unwrap_or-le v.forecast 0 (2 ^ 24) m h.forecast (omega arith) (omega arith) in
-    let g : unwrap_or v.forecast v.key.time ≤ m = unwrap_or-le v.forecast v.key.time (2 ^ 24) m h.forecast (omega arith) (omega arith) in
-    cond_both v.key.dep (max v.key.time (unwrap_or v.forecast 0)) (unwrap_or v.forecast v.key.time) (λ x. x ≤ m) (λ _. omega arith) (λ _. g)
+floor-le : (v : Event) (m : ℕ) → IsSmall v → v.key.time + 2 ^ 24 ≡ m + 1 → floor_of v ≤ m
+floor-le v m h e = grind (arith, h.forecast, h.scheduled, small-or v.forecast 0 m h.forecast, small-or v.forecast v.key.time m h.forecast)
 
-local-le : (es : List Event) (gs : List Edge) (t : Key → ℕ) (v : Event) → IsSmall v → All (λ e. t e.from + e.weight ≤ v.key.time + 2 ^ 24) (incoming gs v.key) → local es gs t v ≤ v.key.time + 2 ^ 24
+local-le : (es : List Event) (gs : List Edge) (t : Key → ℕ) (v : Event) (m : ℕ) → IsSmall v → v.key.time + 2 ^ 24 ≡ m + 1 → All (λ e. t e.from + e.weight ≤ m) (incoming gs v.key) → local es gs t v ≤ m
 unfolding local
-local-le es gs t v small h =
-    let m = v.key.time + 2 ^ 24 in
-    unwrap_or-le v.report _ (2 ^ 24) m small.report (omega arith)
-    (capped-le (cap es v) _ m
-    (fold-le t m (incoming gs v.key) (floor_of v) (floor-le v small)
-    (All-weaker (λ e. t e.from + e.weight ≤ m) (AsksUpTo t m) (λ e l _. l) (incoming gs v.key) h)))
+local-le es gs t v m small e h =
+    small-or v.report _ m small.report (omega arith)
+    (capped-le (cap es v) _ m (fold-le t m (incoming gs v.key) (floor_of v) (floor-le v m small e) (λ i d l _. h i d l)))
 
 module _ (es : List Event) (gs : List Edge) (graph : IsGraph es gs) (small : All IsSmall es) where
-  late-by : (v : Event) → Contains es v → All (λ e. time es gs e.from ≤ e.from.time + 2 ^ 24) (incoming gs v.key) → time es gs v.key ≤ v.key.time + 2 ^ 24
+  late-by : (v : Event) → Contains es v → All (λ e. time es gs e.from < e.from.time + 2 ^ 24) (incoming gs v.key) → time es gs v.key < v.key.time + 2 ^ 24
   late-by v h before =
       let rule = time-local es gs graph v h in
-      let most : local es gs (time es gs) v ≤ v.key.time + 2 ^ 24 =
-      local-le es gs (time es gs) v (All-contains IsSmall es v small h) (λ k d l.
+      let most = local-le es gs (time es gs) v (v.key.time + 16777215) (All-contains IsSmall es v small h) (omega arith) (λ k d l.
       let room = (incoming-leads es gs graph v.key k d l).room in let late = before k d l in omega arith)
       in
       omega arith
 
-  -- the event with a live event's key is no later than its schedule by more than 2^24 seconds
-  pub live-le : (k : Key) → IsLiveAt es k → time es gs k ≤ k.time + 2 ^ 24
-  live-le k at = spread es gs graph (λ k. time es gs k ≤ k.time + 2 ^ 24) (λ v h _ before. late-by v h before) k at
+  -- the event with a live event's key is later than its schedule by less than 2^24 seconds
+  pub live-late : (k : Key) → IsLiveAt es k → time es gs k < k.time + 2 ^ 24
+  live-late k at = spread es gs graph (λ k. time es gs k < k.time + 2 ^ 24) (λ v h _ before. late-by v h before) k at
 
-  -- no event is later than its schedule by more than 2^24 seconds
-  pub time-le : (v : Event) → Contains es v → time es gs v.key ≤ v.key.time + 2 ^ 24
-  time-le v h = late-by v h (λ k d l. live-le _ (incoming-leads es gs graph v.key k d l).from_end)
+  -- so is each event
+  pub time-late : (v : Event) → Contains es v → time es gs v.key < v.key.time + 2 ^ 24
+  time-late v h = late-by v h (λ k d l. live-late _ (incoming-leads es gs graph v.key k d l).from_end)
 
-  -- each event's time is below 2^25
-  pub time-small : (v : Event) → Contains es v → time es gs v.key < 2 ^ 25
+  -- each event's time is below 2^25 - 1
+  pub time-small : (v : Event) → Contains es v → time es gs v.key < 2 ^ 25 - 1
   time-small v h =
-      let late = time-le v h in
+      let late = time-late v h in
       let scheduled : v.key.time < 2 ^ 24 = (All-contains IsSmall es v small h).scheduled in
       omega arith
 
@@ -127,7 +121,7 @@ module _ (es : List Event) (gs : List Edge) (graph : IsGraph es gs) (small : All
       let eq = same k d l in
       let le = incoming-leads es gs graph v.key k d l in
       let room = le.room in
-      let late = live-le _ le.from_end in
+      let late = live-late _ le.from_end in
       let scheduled : v.key.time < 2 ^ 24 = (All-contains IsSmall es v small h).scheduled in
       omega arith
 
@@ -140,4 +134,9 @@ greatest-below f m (v ∷ vs) a h k =
 pub greatest-small : (es : List Event) (gs : List Edge) → IsGraph es gs → All IsSmall es → fold (λ b v. max b (time es gs v.key)) 0 es < 2 ^ 25
 greatest-small es gs graph small =
     let Small : Event → Type 0 = λ v. time es gs v.key < 2 ^ 25 in
-    greatest-below (λ v. time es gs v.key) (2 ^ 25) es 0 (omega arith) (All-weaker (Contains es) Small (λ v h. time-small es gs graph small v h) es (All-contains_itself es))
+    greatest-below (λ v. time es gs v.key) (2 ^ 25) es 0 (omega arith) (All-weaker (Contains es) Small (λ v h. let less = time-small es gs graph small v h in omega arith) es (All-contains_itself es))
+
+-- the time of an event of a valid state is below 2^25 - 1
+pub event_time-small : (nw : Network) (st : State) → IsValid nw st → (v : Event) → Contains (events st) v → event_time nw st v.key < 2 ^ 25 - 1
+unfolding event_time
+event_time-small nw st valid v h = time-small (events st) (edges nw st) (valid-graph nw st valid) valid.small v h

@@ -119,7 +119,7 @@ module _ (es : List Event) (gs : List Edge) (graph : IsGraph es gs) (small : All
       (incoming-fit es gs graph small (time_at (map (timed_by (time es gs)) (take i order))) (get_or order i d) here kept-is)
 
   small-here : time es gs (get_or order i d).key < 2 ^ 25
-  small-here = time-small es gs graph small (get_or order i d) here
+  small-here = omega (arith, time-small es gs graph small (get_or order i d) here)
 
 abbrev row_of : Key → ℕ → Timed
 row_of k x = record { key = k; time = x }

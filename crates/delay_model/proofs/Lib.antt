@@ -7,3 +7,5 @@ pub mod Solve
 pub mod Bounds
 pub mod AlongTrains
 pub mod InOrder
+pub mod OneEdge
+pub mod WindowLemmas

@@ -1,5 +1,5 @@
 -- The state after a list of messages, and which messages of a list of lines are accepted.
-use Rattle.std.specs.Prelude.{◌≡◌, List, [], ◌∷◌, Option, Some, None, if◌then◌else◌, is_none}
+use Rattle.std.specs.Prelude.{◌≡◌, ℕ, ◌+◌, List, [], ◌∷◌, Option, Some, None, if◌then◌else◌, is_none}
 use Rattle.std.specs.Prelude.{Result, Ok, Err}
 use Rattle.std.specs.Option.{option_map_or}
 use Rattle.delay_model.specs.declared.network.Network.{Network}
@@ -49,3 +49,18 @@ known_after nw reading st names [] = names
 known_after nw reading st names (x ∷ xs) =
     option_map_or (λ m. known_after nw reading (effect st m) (reading.known names x) xs)
     (accepted_message nw st (reading.message names x)) (known_after nw reading st names xs)
+
+-- what lines leave: the state, the names that are known, and the number of accepted messages
+pub record Progress (N : Type 0) : Type 0 where
+  pub state : State
+  pub names : N
+  pub count : ℕ
+
+abbrev pub after_accepted : {N : Type 0} → Progress N → N → Option Message → Progress N
+after_accepted p names None = p
+after_accepted p names (Some m) = record { state = effect p.state m; names = names; count = p.count + 1 }
+
+-- what one more line leaves
+abbrev pub after_line : {X N : Type 0} → Network → Reading X N → Progress N → X → Progress N
+after_line nw reading p x =
+    after_accepted p (reading.known p.names x) (accepted_message nw p.state (reading.message p.names x))

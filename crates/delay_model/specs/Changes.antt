@@ -1,23 +1,25 @@
 -- Change times between stops, by stops.txt and transfers.txt.
 use Rattle.std.specs.Prelude.{ℕ, max, List, Bool, false, ◌&&◌, nat_eq, nat_le, if◌then◌else◌, Option, Some, None, unwrap_or, slice_get, find}
 use Rattle.std.specs.Option.{option_map, option_map_or, option_or}
+use Rattle.mt_base.specs.declared.places.PlaceKind.{PlaceKind}
 use Rattle.mt_base.specs.declared.tables.StopRow.{StopRow}
 use Rattle.mt_base.specs.declared.tables.TransferRow.{TransferRow}
+use Rattle.mt_base.specs.Places.{is_platform, is_platform_or_station}
 
--- the location type of a place (GTFS Schedule, stops.txt): 0 a stop or platform, 1 a station, 2 to 4 others
-abbrev pub kind_of : List StopRow → ℕ → Option ℕ
+-- what kind of place it is (GTFS Schedule, stops.txt: location_type)
+abbrev pub kind_of : List StopRow → ℕ → Option PlaceKind
 kind_of stops a = option_map (λ (row : StopRow). row.kind) (slice_get stops a)
 
 -- the place is a stop or platform, where trains call
 abbrev pub is_stop : List StopRow → ℕ → Bool
-is_stop stops a = option_map_or (λ kind. nat_eq kind 0) (kind_of stops a) false
+is_stop stops a = option_map_or is_platform (kind_of stops a) false
 
 -- the place is a stop or a station, from which a journey may start
 abbrev pub is_stop_or_station : List StopRow → ℕ → Bool
-is_stop_or_station stops a = option_map_or (λ kind. nat_le kind 1) (kind_of stops a) false
+is_stop_or_station stops a = option_map_or is_platform_or_station (kind_of stops a) false
 
 abbrev pub station_by : ℕ → StopRow → ℕ
-station_by a row = if nat_eq row.kind 0 then unwrap_or row.parent a else a
+station_by a row = if is_platform row.kind then unwrap_or row.parent a else a
 
 -- the station of a place: of a platform its parent_station, of any other location itself (GTFS Schedule, stops.txt)
 abbrev pub station : List StopRow → ℕ → ℕ

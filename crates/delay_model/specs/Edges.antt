@@ -1,6 +1,6 @@
 -- The edges of the dependency graph (Mueller-Hannemann and Schnee, 2009): travelling and standing along each train,
 -- and transfers between trains.
-use Rattle.std.specs.Prelude.{ℕ, ◌+◌, ◌-◌, ◌*◌, ◌/◌, min, List, [], ◌∷◌, ◌++◌, Bool, ◌&&◌, not, nat_eq, nat_le, nat_lt, if◌then◌else◌, Option, Some, None, flat_map}
+use Rattle.std.specs.Prelude.{◌≡◌, ◌≢◌, ℕ, ◌+◌, ◌-◌, ◌*◌, ◌/◌, min, List, [], ◌∷◌, ◌++◌, Bool, ◌&&◌, not, nat_eq, nat_le, nat_lt, if◌then◌else◌, Option, Some, None, flat_map}
 use Rattle.std.specs.FinMap.{get}
 use Rattle.mt_base.specs.declared.options.Opts.{Opts}
 use Rattle.mt_base.specs.Order.{node_of}
@@ -100,3 +100,7 @@ transfer_edges nw choices es = flat_map (transfers_from nw choices es) es
 
 unfoldable pub edges : Network → State → List Edge
 edges nw st = train_edges nw.opts 0 st.trains ++ transfer_edges nw (override_of st) (events st)
+
+-- the two edges do not lead from one event to one event
+abbrev pub DifferInEnds : Edge → Edge → Type 0
+DifferInEnds d e = node_of d.from ≡ node_of e.from → node_of d.to ≢ node_of e.to

@@ -1,5 +1,5 @@
 -- Why a message is refused: the first cause that holds. A message that meets none is accepted.
-use Rattle.std.specs.Prelude.{ℕ, ◌+◌, List, [], ◌∷◌, Bool, true, false, ◌&&◌, ◌||◌, not, nat_eq, nat_lt, nat_le, if◌then◌else◌, Option, Some, None, is_none, length, find}
+use Rattle.std.specs.Prelude.{◌≡◌, ℕ, ◌+◌, List, [], ◌∷◌, Bool, true, false, ◌&&◌, ◌||◌, not, nat_eq, nat_lt, nat_le, if◌then◌else◌, Option, Some, None, is_none, length, find}
 use Rattle.std.specs.List.{list_any, list_all}
 use Rattle.std.specs.Option.{option_map, option_map_or, option_or, option_and_then}
 use Rattle.mt_base.specs.declared.keys.Node.{Node}
@@ -144,6 +144,13 @@ shortage st (Extra train day route calls) =
 shortage st (Keep feeder train) = overrides_short st feeder train
 shortage st (Drop feeder train) = overrides_short st feeder train
 shortage st _ = None
+
+-- none of the causes holds that come before the order of keys
+pub record ComesToRank (nw : Network) (st : State) (m : Message) : Type 0 where
+  pub known : is_unknown nw st m ≡ false
+  pub new : is_known st m ≡ false
+  pub connection : has_no_connection nw st m ≡ false
+  pub agrees : contradiction st m ≡ None
 
 -- the answer to a message: the first refusal that holds, or None where it is accepted
 unfoldable pub refusal : Network → State → Message → Option Refusal

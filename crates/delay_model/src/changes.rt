@@ -6,9 +6,10 @@ ghost use Rattle.delay_model.specs.Waits.{is_empty_or, is_rule_for, wait};
 
 use crate::network::Network;
 use mt_base::numbers::{RouteNo, StopNo};
+use mt_base::places::PlaceKind;
 use mt_base::tables::{RuleRow, StopRow, TransferRow};
 
-fn kind_of(stops: &[StopRow], a: StopNo) -> Option<u32>
+fn kind_of(stops: &[StopRow], a: StopNo) -> Option<PlaceKind>
     ensures { result ≡ kind_of stops.now a }
 {
     match stops.get(a.get() as usize) {
@@ -22,7 +23,7 @@ fn is_stop_or_station(stops: &[StopRow], a: StopNo) -> bool
 {
     match kind_of(stops, a) {
         None => false,
-        Some(kind) => kind <= 1,
+        Some(kind) => kind.is_platform_or_station(),
     }
 }
 
@@ -33,7 +34,7 @@ pub fn station(stops: &[StopRow], a: StopNo) -> StopNo
     match stops.get(a.get() as usize) {
         None => a,
         Some(row) => {
-            if row.kind == 0 {
+            if row.kind.is_platform() {
                 row.parent.unwrap_or(a)
             } else {
                 a

@@ -1,14 +1,14 @@
 //! Laws of the event times: what holds in every valid state, proved once for all that show or use them.
 
-ghost use Rattle.std.specs.Prelude.{◌≡◌, ◌≢◌, ℕ, ◌+◌, ◌^◌, ◌<◌, ◌≤◌, true, false, All, Contains};
+ghost use Rattle.std.specs.Prelude.{◌≡◌, ◌≢◌, ℕ, ◌+◌, ◌-◌, ◌^◌, ◌<◌, ◌≤◌, true, false, All, Contains};
 ghost use Rattle.std.specs.List.{AllPairs};
 ghost use Rattle.mt_base.specs.declared.keys.Key.{Key as AKey};
 ghost use Rattle.mt_base.specs.Order.{is_before, node_of};
 ghost use Rattle.delay_model.specs.declared.state.Event.{Event as AnEvent};
 ghost use Rattle.delay_model.specs.declared.state.Edge.{Edge as AnEdge};
 ghost use Rattle.delay_model.specs.Events.{events};
-ghost use Rattle.delay_model.specs.Edges.{edges, train_edges};
-ghost use Rattle.delay_model.specs.Timing.{local, event_time, IsTiming};
+ghost use Rattle.delay_model.specs.Edges.{edges, train_edges, DifferInEnds};
+ghost use Rattle.delay_model.specs.Timing.{local, incoming, event_time, IsTiming};
 ghost use Rattle.delay_model.specs.Valid.{IsTrain, IsValid};
 
 use crate::network::Network;
@@ -34,11 +34,12 @@ pub fn earlier_events_decide(nw: &Network, st: &State)
         → t v.key ≡ event_time nw.now st.now v.key }
 {}
 
-/// No event is later than its schedule by more than 2^24 seconds, which is 194 days, so each time is below 2^25.
+/// Each event is later than its schedule by less than 2^24 seconds, which is 194 days, so each time is below 2^25 - 1,
+/// the time that is kept for an event which was never settled.
 pub fn event_times_are_small(nw: &Network, st: &State)
     requires { IsValid nw.now st.now }
-    ensures small { All (λ v. event_time nw.now st.now v.key < 2 ^ 25) (events st.now) }
-    ensures late { All (λ v. event_time nw.now st.now v.key ≤ v.key.time + 2 ^ 24) (events st.now) }
+    ensures small { All (λ v. event_time nw.now st.now v.key < 2 ^ 25 - 1) (events st.now) }
+    ensures late { All (λ v. event_time nw.now st.now v.key < v.key.time + 2 ^ 24) (events st.now) }
 {}
 
 /// Along a train edge the time does not fall: a train does not leave a stop before it has arrived there, nor arrive before it has
@@ -61,4 +62,11 @@ pub fn keys_are_distinct(st: &State)
     ensures apart { AllPairs (λ u v. node_of u.key ≢ node_of v.key) (events st.now) }
     ensures known { (u v : AnEvent) → Contains (events st.now) u → Contains (events st.now) v
         → node_of u.key ≡ node_of v.key → u ≡ v }
+{}
+
+/// From one event to one event there is no more than one edge, also among those that lead to one event.
+pub fn no_edge_comes_twice(nw: &Network, st: &State)
+    requires { All IsTrain st.now.trains }
+    ensures all { AllPairs DifferInEnds (edges nw.now st.now) }
+    ensures incoming { (k : AKey) → AllPairs DifferInEnds (incoming (edges nw.now st.now) k) }
 {}

@@ -12,3 +12,4 @@ pub mod messages;
 pub mod network;
 pub mod overrides;
 pub mod state;
+pub mod window_laws;

@@ -13,8 +13,8 @@ use crate::network::Network;
 use crate::state::State;
 
 /// The accepted messages of a list of lines are accepted without the other lines too. The accepted messages of more lines begin
-/// with those of the first lines, and the rest depends on the first lines only by the state and the names that they left. Two lists
-/// with the same messages leave the same state. Lines are of type `X`, and what is known of names is of type `N`.
+/// with those of the first lines, and the rest depends on the first lines only by the state and the names that they left. Lines
+/// are of type `X`, and what is known of names is of type `N`.
 pub fn accepted_messages_decide<X, N>(nw: &Network, st: &State)
     ensures accepted { (reading : Reading X N) (names : N) (lines : List X) →
         AreAccepted nw.now st.now (accepted nw.now reading st.now names lines) }
@@ -22,8 +22,6 @@ pub fn accepted_messages_decide<X, N>(nw: &Network, st: &State)
         accepted nw.now reading st.now names (lines ++ others)
         ≡ accepted nw.now reading st.now names lines
         ++ accepted nw.now reading (after st.now (accepted nw.now reading st.now names lines)) (known_after nw.now reading st.now names lines) others }
-    ensures alone { (ms ns : List AMessage) → AreAccepted nw.now st.now ms → AreAccepted nw.now st.now ns → ms ≡ ns →
-        after st.now ms ≡ after st.now ns }
 {}
 
 /// Where the names of all trains stand in the order of their numbers, an extra train is known already exactly where a train

@@ -16,12 +16,11 @@ use Rattle.delay_model.specs.declared.state.State.{State}
 use Rattle.delay_model.specs.declared.state.Event.{Event}
 use Rattle.delay_model.specs.Events.{event_named, is_event, events_of, train_events, live_events}
 use Rattle.delay_model.specs.Timing.{event_time}
-use Rattle.delay_model.proofs.Apart.{AreApart, events_at-train}
+use Rattle.delay_model.proofs.Apart.{AreApart, events_at-train, events_at-apart}
 use Rattle.delay_model.proofs.Lists.{AllPairs-tail, AllPairs-after}
 use Rattle.edge_rules.specs.Held.{HasOwnLabels}
 use Rattle.edge_rules.proofs.InLine.{not-then}
 use Rattle.edge_rules.proofs.Neighbours.{own-labels}
-use Rattle.edge_rules.proofs.Own.{train-apart}
 use Rattle.schedule_build.specs.Directory.{Names}
 use Rattle.timetable.specs.LiveTimes.{live_event, live_time}
 use Rattle.delay_report.specs.Table.{row, fields, rows_of_events}
@@ -88,7 +87,7 @@ live-found n (e ∷ es) v apart h =
 live-at : (st : State) (n : Node) (v : Event) (o : Option Train) → All HasOwnLabels st.trains → slice_get st.trains n.train ≡ o → find (is_event n) (option_map_or (events_of n.train) o []) ≡ Some v → find (λ v. is_event n v && v.live) (option_map_or (events_of n.train) o []) ≡ cond v.live (Some v) None
 live-at st n v None trains e h = absurd (cc)
 live-at st n v (Some t) trains e h =
-    live-found n (events_of n.train t) v (train-apart n.train t.route t.calls (own-labels st.trains n.train t trains e)) h
+    live-found n (events_of n.train t) v (events_at-apart n.train t.route t.calls (own-labels st.trains n.train t trains e)) h
 
 -- the live event of a name is the event of that name, if it is live
 live-named : (st : State) (n : Node) (v : Event) → All HasOwnLabels st.trains → event_named st n ≡ Some v → live_event st n ≡ cond v.live (Some v) None
@@ -135,7 +134,7 @@ named-in : (st : State) (train : ℕ) (o : Option Train) → All HasOwnLabels st
 named-in st train None labels e = All-nil (λ (v : Event). event_named st (node_of v.key) ≡ Some v)
 named-in st train (Some t) labels e =
     let es = events_of train t in
-    let own = self-found es (train-apart train t.route t.calls (own-labels st.trains train t labels e)) in
+    let own = self-found es (events_at-apart train t.route t.calls (own-labels st.trains train t labels e)) in
     λ k d l.
     let v = get_or es k d in
     ap (λ n. find (is_event (node_of v.key)) (train_events st n)) (events_at-train train t.route t.calls k d l)

@@ -6,6 +6,7 @@ use Rattle.delay_model.specs.declared.state.Call.{Call}
 use Rattle.delay_model.specs.declared.state.Event.{Event}
 use Rattle.delay_model.specs.Cuts.{before, after}
 use Rattle.delay_model.specs.Effect.{is_call}
+use Rattle.delay_model.specs.Events.{arrival_of, departure_of, events_at}
 use Rattle.train_nodes.specs.Calls.{first_label, last_label}
 use Rattle.train_nodes.proofs.Numbered.{nat_eq-from}
 
@@ -69,3 +70,8 @@ live-step false l r e o h k = k h
 pub found-of-live : (p : Event → Bool) (es : List Event) → list_any (λ v. p v && v.live) es ≡ true → is_some (find p es) ≡ true
 found-of-live p [] h = absurd (cc)
 found-of-live p (e ∷ es) h = live-step (p e) e.live (list_any (λ v. p v && v.live) es) e (find p es) h (found-of-live p es)
+
+-- the events of calls that follow one another
+pub events-append : (t route : ℕ) (cs ds : List Call) → events_at t route (cs ++ ds) ≡ events_at t route cs ++ events_at t route ds
+events-append t route [] ds = refl
+events-append t route (c ∷ cs) ds = ap (λ es. arrival_of t route c ∷ departure_of t route c ∷ es) (events-append t route cs ds)

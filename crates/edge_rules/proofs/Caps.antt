@@ -1,6 +1,6 @@
 -- The cap of an event is the next report along its train.
 use Rattle.std.proofs.Common.{◌≡◌, ℕ, zero, suc, ◌+◌, ◌≤◌, cond, ◌&&◌, nat_eq, List, [], ◌∷◌, ◌++◌, append_assoc, Some, None, find, is_some, slice_get, refl, sym, ◌∙◌, ap, subst, arith}
-use Rattle.std.specs.List.{All, AllPairs}
+use Rattle.std.specs.List.{All}
 use Rattle.std.specs.Option.{option_map_or}
 use Rattle.std.proofs.lemmas.Bool.{cond_both, and_parts}
 use Rattle.std.proofs.lemmas.List.Elements.{All-append, All-nil, All-head, All-tail, All-weaker}
@@ -12,13 +12,12 @@ use Rattle.delay_model.specs.Cuts.{before, after}
 use Rattle.delay_model.specs.Events.{events, events_from, events_of, event_named, is_event, live_report, train_events}
 use Rattle.delay_model.specs.Timing.{cap, first_report}
 use Rattle.delay_model.proofs.AlongTrains.{cap-at}
-use Rattle.delay_model.proofs.Apart.{AreApart, events_at-train, events_from-pairs}
+use Rattle.delay_model.proofs.Apart.{events_at-train, labels-apart}
 use Rattle.train_nodes.specs.Reports.{report_after}
 use Rattle.train_nodes.proofs.Numbered.{nat_eq-from}
 use Rattle.edge_rules.specs.Held.{HasOwnLabels}
 use Rattle.edge_rules.proofs.Beside.{cut-at}
 use Rattle.edge_rules.proofs.Neighbours.{named-at, named-is}
-use Rattle.edge_rules.proofs.Own.{train-apart}
 
 later-trains : (first : ℕ) (ts : List Train) → All (λ v. first ≤ v.key.train) (events_from first ts)
 later-trains first [] = All-nil (λ (v : Event). first ≤ v.key.train)
@@ -68,12 +67,6 @@ among first (suc i) n (s ∷ ts) t at e =
       others = r.others;
     }
 
-pub all-apart : (st : State) → All HasOwnLabels st.trains → AllPairs AreApart (events st)
-unfolding events
-all-apart st h =
-    events_from-pairs AreApart (λ u v less e. let same : u.key.train ≡ v.key.train = ap (λ n. n.train) e in omega arith) 0 st.trains
-    (All-weaker HasOwnLabels (λ t. (number : ℕ) → AllPairs AreApart (events_of number t)) (λ t own number. train-apart number t.route t.calls own) st.trains h)
-
 -- an event among all: what stands before it, and after it
 pub record IsThere (st : State) (n : Node) (v : Event) : Type 0 where
   pub earlier : List Event
@@ -104,6 +97,6 @@ there st n v named =
 pub cap-is : (st : State) (n : Node) (v : Event) → All HasOwnLabels st.trains → event_named st n ≡ Some v → cap (events st) v ≡ report_after st n
 cap-is st n v labels named =
     let r = there st n v named in
-    cap-at (events st) r.earlier v r.later r.whole (all-apart st labels)
+    cap-at (events st) r.earlier v r.later r.whole (labels-apart st labels)
     ∙ ap (λ (m : Node). first_report m.train r.later) (named-is st n v named)
     ∙ r.report

@@ -7,3 +7,4 @@ pub mod Caps
 pub mod LocalRule
 pub mod TransferLemmas
 pub mod TrainByTrain
+pub mod EachOnce

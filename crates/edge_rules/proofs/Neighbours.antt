@@ -20,16 +20,15 @@ use Rattle.delay_model.specs.Events.{events_of, events_at, event_named, is_event
 use Rattle.delay_model.specs.Edges.{train_edges, edges_along, edge_on}
 use Rattle.delay_model.specs.Timing.{incoming}
 use Rattle.delay_model.specs.Valid.{HasDistinctLabels}
-use Rattle.delay_model.proofs.Apart.{AreApart}
+use Rattle.delay_model.proofs.Apart.{AreApart, events_at-apart}
 use Rattle.train_nodes.specs.Calls.{has_event, first_label, last_label}
 use Rattle.train_nodes.proofs.EventLemmas.{event_of_call, found_event}
-use Rattle.train_nodes.proofs.ReportLemmas.{events-append}
 use Rattle.edge_rules.specs.AtEvent.{outgoing, along_to, along_from}
 use Rattle.edge_rules.specs.Held.{HasOwnLabels}
 use Rattle.edge_rules.specs.Neighbours.{previous_of, previous_by, next_of, next_by}
 use Rattle.edge_rules.proofs.InLine.{find-own, along-into, along-out, edge_before, edge_before-last}
-use Rattle.edge_rules.proofs.Own.{own-train, train-apart}
-use Rattle.edge_rules.proofs.Beside.{cut-at, label-of-found, last-is, last-none, first-is, first-none, found-of-live}
+use Rattle.edge_rules.proofs.Own.{own-train}
+use Rattle.edge_rules.proofs.Beside.{cut-at, events-append, label-of-found, last-is, last-none, first-is, first-none, found-of-live}
 
 -- where an event of a name stands: its train and its call
 pub record IsAt (o : Option Train) (n : Node) (v : Event) : Type 0 where
@@ -101,7 +100,7 @@ module _ (o : Opts) (st : State) (labels : All HasOwnLabels st.trains) where
   -- the edges at an event at which the events of its train are cut
   module _ (t : Train) (xs : List Event) (v : Event) (ys : List Event) (there : slice_get st.trains v.key.train ≡ Some t) (whole : events_of v.key.train t ≡ xs ++ v ∷ ys) where
     apart : AllPairs AreApart (xs ++ v ∷ ys)
-    apart = subst (λ zs. AllPairs AreApart zs) whole (train-apart v.key.train t.route t.calls (own-labels st.trains v.key.train t labels there))
+    apart = subst (λ zs. AllPairs AreApart zs) whole (events_at-apart v.key.train t.route t.calls (own-labels st.trains v.key.train t labels there))
 
     cut-named : event_named st (node_of v.key) ≡ Some v
     cut-named =

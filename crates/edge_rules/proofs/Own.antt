@@ -1,18 +1,15 @@
 -- Of the edges along trains those at an event are the ones of its train.
-use Rattle.std.proofs.Common.{◌≡◌, ℕ, zero, suc, ◌+◌, ◌≤◌, Bool, true, false, List, [], ◌∷◌, ◌++◌, refl, sym, ◌∙◌, ap, arith, Some, slice_get}
+use Rattle.std.proofs.Common.{◌≡◌, ℕ, zero, suc, ◌+◌, ◌≤◌, Bool, true, false, List, [], ◌∷◌, ◌++◌, refl, ◌∙◌, ap, arith, Some, slice_get}
 use Rattle.std.proofs.Math.Logic.{◌≢◌}
-use Rattle.std.specs.List.{All, AllPairs, filter}
-use Rattle.std.proofs.lemmas.List.Elements.{All-cons, All-nil, All-tail, All-head, All-weaker, filter-append}
+use Rattle.std.specs.List.{All, filter}
+use Rattle.std.proofs.lemmas.List.Elements.{All-nil, All-tail, All-weaker, filter-append}
 use Rattle.mt_base.specs.declared.options.Opts.{Opts}
-use Rattle.delay_model.specs.declared.state.Call.{Call}
 use Rattle.delay_model.specs.declared.state.Train.{Train}
 use Rattle.delay_model.specs.declared.state.Event.{Event}
 use Rattle.delay_model.specs.declared.state.Edge.{Edge}
-use Rattle.delay_model.specs.Events.{events_of, events_at, arrival_of, departure_of}
+use Rattle.delay_model.specs.Events.{events_of}
 use Rattle.delay_model.specs.Edges.{train_edges, edges_along}
-use Rattle.delay_model.specs.Valid.{HasDistinctLabels}
-use Rattle.delay_model.proofs.Lists.{AllPairs-nil, AllPairs-cons}
-use Rattle.delay_model.proofs.Apart.{AreApart, events_at-train}
+use Rattle.delay_model.proofs.Apart.{events_at-train}
 use Rattle.edge_rules.proofs.InLine.{filter-none, append-none, not-then, along-to, along-from}
 
 -- the edges along a train join events of it
@@ -61,25 +58,3 @@ own-train o n (suc i) first (s ∷ ts) t p only e at =
     filter-append p (edges_along o (events_of first s)) (train_edges o (first + 1) ts)
     ∙ ap (λ gs. gs ++ filter p (train_edges o (first + 1) ts)) (others o n first s p only (λ same. omega arith))
     ∙ own-train o n i (first + 1) ts t p only (omega arith) at
-
-labels : (P : ℕ → Type 0) (train route : ℕ) (cs : List Call) → All (λ (c : Call). P c.label) cs → All (λ (v : Event). P v.key.label) (events_at train route cs)
-labels P train route [] h = All-nil (λ (v : Event). P v.key.label)
-labels P train route (c ∷ cs) h =
-    let Q : Event → Type 0 = λ v. P v.key.label in
-    let p = All-head (λ (c : Call). P c.label) c cs h in
-    All-cons Q (arrival_of train route c) (departure_of train route c ∷ events_at train route cs) p
-    (All-cons Q (departure_of train route c) (events_at train route cs) p (labels P train route cs (All-tail (λ (c : Call). P c.label) c cs h)))
-
--- each two events of a train differ by name
-pub train-apart : (train route : ℕ) (cs : List Call) → HasDistinctLabels cs → AllPairs AreApart (events_at train route cs)
-train-apart train route [] h = AllPairs-nil AreApart
-train-apart train route (c ∷ cs) h =
-    let u = arrival_of train route c in
-    let v = departure_of train route c in
-    let rest = events_at train route cs in
-    let further = labels (λ l. c.label ≢ l) train route cs h.0 in
-    let apart : (w : Event) → w.key.label ≡ c.label → All (AreApart w) rest =
-    λ w at. All-weaker (λ x. c.label ≢ x.key.label) (AreApart w) (λ x differ e. differ (sym at ∙ ap (λ n. n.label) e)) rest further
-    in
-    AllPairs-cons AreApart u (v ∷ rest) (All-cons (AreApart u) v rest (λ e. let two : false ≡ true = ap (λ n. n.dep) e in cc) (apart u refl))
-    (AllPairs-cons AreApart v rest (apart v refl) (train-apart train route cs h.1))

@@ -24,7 +24,7 @@ use Rattle.delay_model.specs.Overrides.{connection, connection_cmp}
 use Rattle.delay_model.specs.Timing.{incoming}
 use Rattle.delay_model.specs.Waits.{wait}
 use Rattle.delay_model.proofs.Lists.{AllPairs-after, All-flat_map}
-use Rattle.delay_model.proofs.Apart.{AreApart}
+use Rattle.delay_model.proofs.Apart.{AreApart, labels-apart}
 use Rattle.train_nodes.proofs.Numbered.{nat_eq-from}
 use Rattle.edge_rules.specs.AtEvent.{outgoing, edges_to, edges_from, along_to, along_from}
 use Rattle.edge_rules.specs.Held.{HasOwnLabels}
@@ -32,7 +32,7 @@ use Rattle.edge_rules.specs.Timetabled.{Timetabled}
 use Rattle.edge_rules.specs.Transfers.{transfer_between, transfer_with}
 use Rattle.edge_rules.proofs.InLine.{filter-none, append-none, AllPairs-before, apart-left}
 use Rattle.edge_rules.proofs.Neighbours.{named-is}
-use Rattle.edge_rules.proofs.Caps.{IsThere, all-apart, there}
+use Rattle.edge_rules.proofs.Caps.{IsThere, there}
 
 -- ---- lists made of pieces
 
@@ -145,7 +145,7 @@ module _ (g : Timetabled) (n : Node) (v : Event) (labels : All HasOwnLabels g.st
   at = there g.state n v named
 
   apart : AllPairs AreApart (at.earlier ++ v ∷ at.later)
-  apart = subst (λ zs. AllPairs AreApart zs) at.whole (all-apart g.state labels)
+  apart = subst (λ zs. AllPairs AreApart zs) at.whole (labels-apart g.state labels)
 
   -- where the pieces of all others are empty, that of the event is all
   piece : {X : Type 0} (f : Event → List X) → ((u : Event) → AreApart u v → f u ≡ []) → flat_map f es ≡ f v

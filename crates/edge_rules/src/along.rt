@@ -1,8 +1,10 @@
 //! The edges along the trains, found by the events beside an event.
 
-ghost use Rattle.std.specs.Prelude.{◌≡◌, [], ◌∷◌, IsTrue, All};
+ghost use Rattle.std.specs.Prelude.{◌≡◌, [], ◌∷◌, IsTrue, Some, All};
 ghost use Rattle.std.specs.Option.{option_to_list};
+ghost use Rattle.mt_base.specs.Order.{node_of};
 ghost use Rattle.delay_model.specs.Edges.{edge_on, minimum_between};
+ghost use Rattle.delay_model.specs.Events.{event_named};
 ghost use Rattle.train_nodes.specs.Calls.{has_event};
 ghost use Rattle.edge_rules.specs.AtEvent.{along_to, along_from};
 ghost use Rattle.edge_rules.specs.Held.{HasOwnLabels};
@@ -19,19 +21,11 @@ fn previous(trains: &Trains, n: &Node) -> Option<Node>
     ensures { result ≡ previous_of trains.now n.now }
 {
     if n.dep {
-        return Some(Node {
-            train: n.train,
-            label: n.label,
-            dep: false,
-        });
+        return Some(Node::arrival(n.train, n.label));
     }
     match trains.prev_call(n.train, n.label) {
         None => None,
-        Some(before) => Some(Node {
-            train: n.train,
-            label: before,
-            dep: true,
-        }),
+        Some(before) => Some(Node::departure(n.train, before)),
     }
 }
 
@@ -41,19 +35,11 @@ fn next(trains: &Trains, n: &Node) -> Option<Node>
     ensures { result ≡ next_of trains.now n.now }
 {
     if !n.dep {
-        return Some(Node {
-            train: n.train,
-            label: n.label,
-            dep: true,
-        });
+        return Some(Node::departure(n.train, n.label));
     }
     match trains.next_call(n.train, n.label) {
         None => None,
-        Some(after) => Some(Node {
-            train: n.train,
-            label: after,
-            dep: false,
-        }),
+        Some(after) => Some(Node::arrival(n.train, after)),
     }
 }
 
@@ -90,27 +76,25 @@ pub(crate) fn edge_between(opts: &Opts, from: &Event, to: &Event) -> Option<Edge
 }
 
 /// The edge along its train that leads to an event, if there is one.
-pub(crate) fn edge_into(trains: &Trains, opts: &Opts, n: &Node) -> Option<Edge>
+pub(crate) fn edge_into(trains: &Trains, opts: &Opts, at: &Event) -> Option<Edge>
     requires labels { All HasOwnLabels trains.now.trains }
-    requires there { IsTrue (has_event trains.now n.now) }
-    ensures { option_to_list result ≡ along_to opts.now trains.now n.now }
+    requires there { event_named trains.now (node_of at.now.key) ≡ Some at.now }
+    ensures { option_to_list result ≡ along_to opts.now trains.now (node_of at.now.key) }
 {
-    let at = trains.event(*n);
-    match previous(trains, n) {
+    match previous(trains, &at.key.node()) {
         None => None,
-        Some(before) => edge_between(opts, &trains.event(before), &at),
+        Some(before) => edge_between(opts, &trains.event(before), at),
     }
 }
 
 /// The edge along its train that leaves an event, if there is one.
-pub(crate) fn edge_out(trains: &Trains, opts: &Opts, n: &Node) -> Option<Edge>
+pub(crate) fn edge_out(trains: &Trains, opts: &Opts, at: &Event) -> Option<Edge>
     requires labels { All HasOwnLabels trains.now.trains }
-    requires there { IsTrue (has_event trains.now n.now) }
-    ensures { option_to_list result ≡ along_from opts.now trains.now n.now }
+    requires there { event_named trains.now (node_of at.now.key) ≡ Some at.now }
+    ensures { option_to_list result ≡ along_from opts.now trains.now (node_of at.now.key) }
 {
-    let at = trains.event(*n);
-    match next(trains, n) {
+    match next(trains, &at.key.node()) {
         None => None,
-        Some(after) => edge_between(opts, &at, &trains.event(after)),
+        Some(after) => edge_between(opts, at, &trains.event(after)),
     }
 }

@@ -1,22 +1,21 @@
 //! The graph over the trains.
 
-ghost use Rattle.std.specs.Prelude.{◌≡◌, ◌+◌, ◌++◌, [], ◌∷◌, ◌&&◌, nat_eq, ◌<◌, ◌≤◌, ◌^◌, true, false, IsTrue, Some, All, IfOk, OnOk, OnErr, map, flat_map, length, not, if◌then◌else◌};
+ghost use Rattle.std.specs.Prelude.{◌≡◌, ◌+◌, ◌++◌, [], ◌∷◌, ◌&&◌, nat_eq, ◌<◌, ◌≤◌, ◌^◌, true, false, IsTrue, Some, All, IfOk, map, flat_map, length, not, if◌then◌else◌};
 ghost use Rattle.std.specs.Option.{option_to_list};
 ghost use Rattle.std.specs.FinMap as finmap;
+ghost use Rattle.std.specs.List.{AllPairs};
 ghost use Rattle.std.specs.List.Sorted.{IsPermutation};
 ghost use Rattle.mt_base.specs.Options.{IsInRange};
 ghost use Rattle.mt_base.specs.Order.{node_of};
-ghost use Rattle.delay_model.specs.declared.state.Event.{Event as AnEvent};
-ghost use Rattle.delay_model.specs.Edges.{change_between, edge_by_change, edge_on, is_planned, override_of, transfer_kind, wait_between};
+ghost use Rattle.delay_model.specs.Edges.{DifferInEnds, change_between, edge_by_change, edge_on, is_planned, override_of, transfer_kind, wait_between};
 ghost use Rattle.delay_model.specs.Effect.{effect, with_event, forecasted, reported, has_override, with_override, without_override};
 ghost use Rattle.delay_model.specs.Events.{calls_of, events, event_named, is_live};
 ghost use Rattle.delay_model.specs.Overrides.{connection};
 ghost use Rattle.delay_model.specs.Refusals.{stands_before};
 ghost use Rattle.delay_model.specs.declared.messages.Message.TheVariants as messages;
-ghost use Rattle.train_nodes.specs.Calls.{has_event};
-ghost use Rattle.train_nodes.specs.Kept.{has_time};
+ghost use Rattle.train_nodes.specs.Times.{has_time};
 ghost use Rattle.waiting_rules.specs.WaitTable.{parent_station};
-ghost use Rattle.edge_rules.specs.AtEvent.{edges_to, edges_from, given, kept_time, local_at};
+ghost use Rattle.edge_rules.specs.AtEvent.{edges_to, edges_from, stored_time, local_at};
 ghost use Rattle.edge_rules.specs.Held.{network_of, HasOwnLabels};
 ghost use Rattle.edge_rules.specs.Transfers.{transfer_between, transfer_with};
 
@@ -24,11 +23,10 @@ use crate::all_events::AllEvents;
 use crate::along::{edge_between, edge_into, edge_out};
 use crate::connections::{is_planned, may_connect};
 use crate::edges::Edges;
-use crate::edges_at::EdgesAt;
 use crate::rule::{by_reports, floor, later};
 use change_times::Changes;
 use delay_model::overrides::Override;
-use delay_model::state::{Edge as ModelEdge, EdgeKind, Event};
+use delay_model::state::{Edge, EdgeKind, Event};
 use mt_base::keys::Node;
 use mt_base::memory::OutOfMemory;
 use mt_base::numbers::{Day, Label, RouteNo, Time, TrainNo};
@@ -112,35 +110,35 @@ impl Graph {
     /// The edges that lead to an event, each once, in no order that is promised.
     pub fn incoming(&self, n: Node) -> Edges<'_>
         requires { IsTrue (is_live self.now.state n) }
-        ensures { IsPermutation result (map given (edges_to self.now n)) }
+        ensures edges { IsPermutation result (edges_to self.now n) }
+        ensures once { AllPairs DifferInEnds result }
     {
-        Edges {
-            edges: self.edges_to(&n),
-        }
+        let _ = &self.trains;
+        self.edges_to(&self.live_event(&n))
     }
 
     /// The edges that leave an event, each once, in no order that is promised.
     pub fn outgoing(&self, n: Node) -> Edges<'_>
         requires { IsTrue (is_live self.now.state n) }
-        ensures { IsPermutation result (map given (edges_from self.now n)) }
+        ensures edges { IsPermutation result (edges_from self.now n) }
+        ensures once { AllPairs DifferInEnds result }
     {
-        Edges {
-            edges: self.edges_from(&n),
-        }
+        let _ = &self.trains;
+        self.edges_from(&self.live_event(&n))
     }
 
-    /// The time of an event by the rule, in seconds from the base of day 0, from the kept times of the events that feed it. For each
-    /// edge to it one of these is read, which takes a step, and nothing else takes one.
+    /// The time of an event by the rule, in seconds from the base of day 0, from the stored times of the events that feed it. For
+    /// each edge to it one of these is read, which takes a step, and nothing else takes one.
     pub fn local<L: Ledger>(&self, n: Node, times: &NodeTimes, steps: &mut Steps<L>) -> Time
         requires live { IsTrue (is_live self.now.state n) }
         requires held { All (λ e. IsTrue (has_time times.now (node_of e.from))) (edges_to self.now n) }
-        requires fits { All (λ e. kept_time times.now e.from + e.weight < 2 ^ 25) (edges_to self.now n) }
+        requires fits { All (λ e. stored_time times.now e.from + e.weight < 2 ^ 25) (edges_to self.now n) }
         ensures rule { local_at self.now times.now n ≡ Some result }
         ensures cost { steps.new ≡ steps.old + length (edges_to self.now n) }
     {
-        let event = self.trains.event(n);
+        let event = self.live_event(&n);
         let mut time = floor(&event);
-        for edge in self.edges_to(&n) {
+        for edge in self.edges_to(&event) {
             let asked = times.read(edge.from.node(), steps).seconds() + edge.weight;
             time = later(&edge, time, asked);
         }
@@ -191,23 +189,14 @@ impl Graph {
     }
 
     /// Between two of its calls a train makes these calls, and not those that it made so far, for which what was chosen goes with them.
-    /// After an error nothing is changed.
-    pub fn reroute(
-        &mut self,
-        alloc: Global,
-        t: TrainNo,
-        from: Label,
-        to: Label,
-        via: &[NewCall],
-    ) -> Result<(), OutOfMemory>
+    /// It takes no memory.
+    pub fn reroute(&mut self, t: TrainNo, from: Label, to: Label, via: &[NewCall])
         requires stand { stands_before from to (calls_of self.old.state t) ≡ true }
         requires spare { length via.now ≤ self.old.state.spare_calls }
-        ensures ok { OnOk result (self.new ≡ record self.old { state = effect self.old.state (messages.Reroute t from to via.now) }) }
-        ensures err { OnErr result (self.new ≡ self.old) }
+        ensures { self.new ≡ record self.old { state = effect self.old.state (messages.Reroute t from to via.now) } }
     {
-        let done = self.trains.reroute(alloc, t, from, to, via);
+        self.trains.reroute(t, from, to, via);
         self.trains.labels_are_distinct();
-        done
     }
 
     /// One more train runs. It gets the next number, which is given back. It takes no memory.
@@ -224,7 +213,7 @@ impl Graph {
     }
 
     /// The edge along a train from an event to the next one, if both are live.
-    pub fn edge_along(&self, from: &Event, to: &Event) -> Option<ModelEdge>
+    pub fn edge_along(&self, from: &Event, to: &Event) -> Option<Edge>
         ensures { option_to_list result ≡ edge_on self.now.network.opts from.now (to.now ∷ []) }
     {
         edge_between(&self.opts, from, to)
@@ -238,41 +227,49 @@ impl Graph {
         kind && !(self.waits.is_empty() && self.trains.has_no_overrides())
     }
 
-    /// The edges that lead to an event. Edges between trains lead to departures.
-    fn edges_to(&self, n: &Node) -> EdgesAt<'_>
+    /// A live event by its name.
+    fn live_event(&self, n: &Node) -> Event
         requires { IsTrue (is_live self.now.state n.now) }
-        ensures { result ≡ edges_to self.now n.now }
+        ensures named { node_of result.key ≡ n.now }
+        ensures there { event_named self.now.state (node_of result.key) ≡ Some result }
     {
-        let along = edge_into(&self.trains, &self.opts, n);
-        self.edges_at(n, along, self.has_transfers(n.dep))
+        self.trains.event(*n)
+    }
+
+    /// The edges that lead to an event. Edges between trains lead to departures.
+    fn edges_to(&self, at: &Event) -> Edges<'_>
+        requires there { event_named self.now.state (node_of at.now.key) ≡ Some at.now }
+        ensures { result ≡ edges_to self.now (node_of at.now.key) }
+    {
+        let along = edge_into(&self.trains, &self.opts, at);
+        self.edges_at(at, along, self.has_transfers(at.key.dep))
     }
 
     /// The edges that leave an event. Edges between trains leave arrivals.
-    fn edges_from(&self, n: &Node) -> EdgesAt<'_>
-        requires { IsTrue (is_live self.now.state n.now) }
-        ensures { result ≡ edges_from self.now n.now }
+    fn edges_from(&self, at: &Event) -> Edges<'_>
+        requires there { event_named self.now.state (node_of at.now.key) ≡ Some at.now }
+        ensures { result ≡ edges_from self.now (node_of at.now.key) }
     {
-        let along = edge_out(&self.trains, &self.opts, n);
-        self.edges_at(n, along, self.has_transfers(!n.dep))
+        let along = edge_out(&self.trains, &self.opts, at);
+        self.edges_at(at, along, self.has_transfers(!at.key.dep))
     }
 
     /// The given edge along a train at an event, and the edges between trains there if they are wanted.
-    fn edges_at(&self, n: &Node, along: Option<ModelEdge>, transfers: bool) -> EdgesAt<'_>
-        requires { IsTrue (has_event self.now.state n.now) }
-        ensures { (v : AnEvent) → event_named self.now.state n.now ≡ Some v
-            → result ≡ option_to_list along ++ (if transfers then flat_map (transfer_with self.now v) (events self.now.state) else []) }
+    fn edges_at(&self, at: &Event, along: Option<Edge>, transfers: bool) -> Edges<'_>
+        ensures { result ≡ option_to_list along
+            ++ (if transfers then flat_map (transfer_with self.now at.now) (events self.now.state) else []) }
     {
         let first = if transfers { 0 } else { self.trains.count() };
-        EdgesAt {
+        Edges {
             graph: self,
-            at: self.trains.event(*n),
+            at: *at,
             along,
             others: AllEvents::starting_at(&self.trains, first),
         }
     }
 
     /// The edge between two trains from one event to another, if there is one.
-    pub(crate) fn transfer(&self, from: &Event, to: &Event) -> Option<ModelEdge>
+    pub(crate) fn transfer(&self, from: &Event, to: &Event) -> Option<Edge>
         ensures { option_to_list result ≡ transfer_between self.now from.now to.now }
     {
         if !may_connect(from, to) {
@@ -286,13 +283,13 @@ impl Graph {
     }
 
     /// The edge between two trains from an arrival to a departure, where a change is possible.
-    fn edge_by_change(&self, from: &Event, to: &Event) -> Option<ModelEdge>
+    fn edge_by_change(&self, from: &Event, to: &Event) -> Option<Edge>
         ensures { option_to_list result ≡ edge_by_change self.now.network (override_of self.now.state from.now to.now) from.now to.now
             (change_between self.now.network from.now to.now) }
     {
         let weight = self.changes.change(from.stop, to.stop)?;
         let kind = self.transfer_kind(from, to, weight)?;
-        Some(ModelEdge {
+        Some(Edge {
             from: from.key,
             to: to.key,
             weight,

@@ -7,9 +7,8 @@ mod all_events;
 mod along;
 mod connections;
 pub mod edges;
-mod edges_at;
 pub mod graph;
 mod rule;
 
-pub use edges::{Edge, Edges};
+pub use edges::Edges;
 pub use graph::Graph;

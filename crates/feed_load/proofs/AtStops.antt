@@ -5,7 +5,9 @@ use Rattle.std.specs.Option.{option_map, option_map_or, IsSomeAnd}
 use Rattle.std.proofs.lemmas.List.Elements.{All-nil, All-cons, All-head, All-tail, All-map, All-filter, All-weaker}
 use Rattle.mt_base.specs.declared.options.Opts.{Opts}
 use Rattle.mt_base.specs.declared.tables.CallRow.{CallRow}
+use Rattle.mt_base.specs.declared.places.PlaceKind.TheVariants.{Platform}
 use Rattle.mt_base.specs.declared.tables.StopRow.{StopRow}
+use Rattle.mt_base.specs.Places.{is_platform}
 use Rattle.feed_tables.specs.Calls.{trip_of, rows_of, in_order, both_times, sequence}
 use Rattle.feed_tables.specs.Lawful.{HasKind}
 use Rattle.feed_tables.proofs.OrderLemmas.{in_order-all}
@@ -20,9 +22,9 @@ use Rattle.schedule_build.specs.Schedule.{run_calls, run_train, schedule_of}
 use Rattle.schedule_build.specs.TripCalls.{call_at, timed_calls}
 use Rattle.feed_load.specs.Loaded.{AreAtStops}
 
-kind-stop : (o : Option StopRow) → IsSomeAnd o (λ s. s.kind ≡ 0) → option_map_or (λ kind. nat_eq kind 0) (option_map (λ (row : StopRow). row.kind) o) false ≡ true
+kind-stop : (o : Option StopRow) → IsSomeAnd o (λ s. s.kind ≡ Platform) → option_map_or is_platform (option_map (λ (row : StopRow). row.kind) o) false ≡ true
 kind-stop None h = absurd h
-kind-stop (Some s) h = ap (λ kind. nat_eq kind 0) h
+kind-stop (Some s) h = ap is_platform h
 
 module _ (stops : List StopRow) where
   abbrev At : ℕ → Type 0
@@ -64,13 +66,13 @@ module _ (stops : List StopRow) where
       begin-each _ (end-each _ (table-each 0 (run_calls calls r) (timed-each r.day (in_order sequence (rows_of calls r.trip)) rows)))
 
 -- where each row is at a stop or platform, each call is
-pub schedule-at-stops : (stops : List StopRow) (calls : List CallRow) (rs : List Run) (o : Opts) → All (λ r. HasKind stops 0 r.stop) calls → AreAtStops stops (schedule_of calls rs o)
+pub schedule-at-stops : (stops : List StopRow) (calls : List CallRow) (rs : List Run) (o : Opts) → All (λ r. HasKind stops Platform r.stop) calls → AreAtStops stops (schedule_of calls rs o)
 schedule-at-stops stops calls rs o h =
-    let rows = All-weaker (λ (r : CallRow). HasKind stops 0 r.stop) (RowAt stops) (λ r at. kind-stop (slice_get stops r.stop) at) calls h in
+    let rows = All-weaker (λ (r : CallRow). HasKind stops Platform r.stop) (RowAt stops) (λ r at. kind-stop (slice_get stops r.stop) at) calls h in
     All-map (λ (t : Train). All (CallAt stops) t.calls) (run_train calls) rs (λ i d l. run-each stops calls rows (get_or rs i d))
 
 -- it is so of the locations without their ids, which are of the same types
 pub same-kinds : (stops kept : List StopRow) (ts : List Train) → ((a : ℕ) → kind_of kept a ≡ kind_of stops a) → All (λ (t : Train). All (CallAt stops) t.calls) ts → All (λ (t : Train). All (CallAt kept) t.calls) ts
 same-kinds stops kept ts same h =
     All-weaker (λ (t : Train). All (CallAt stops) t.calls) (λ (t : Train). All (CallAt kept) t.calls)
-    (λ t at. All-weaker (CallAt stops) (CallAt kept) (λ c own. ap (λ o. option_map_or (λ kind. nat_eq kind 0) o false) (same c.stop) ∙ own) t.calls at) ts h
+    (λ t at. All-weaker (CallAt stops) (CallAt kept) (λ c own. ap (λ o. option_map_or is_platform o false) (same c.stop) ∙ own) t.calls at) ts h

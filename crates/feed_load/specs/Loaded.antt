@@ -34,7 +34,7 @@ unless_too_many (Some what) timetable = Err (TooMany what)
 
 -- the timetable of so many days from the date `first` on, from the tables of a feed
 abbrev pub days_loaded : Tables → ℕ → ℕ → Opts → Result Timetable FeedRefusal
-days_loaded t first days o = unless_too_many (too_many t.calls (all_runs t first days)) (schedule t first days o, names_of t first days)
+days_loaded t first days o = unless_too_many (too_many t.calls (all_runs t first days)) (schedule t first days o, names_of t first days o)
 
 -- there are not too many pairs of a stop or station and a stop to which one can change from it
 abbrev pub few_pairs : Tables → Opts → Result (Unit {0}) FeedRefusal

@@ -15,6 +15,7 @@ ghost use Rattle.edge_rules.specs.Held.{network_of};
 ghost use Rattle.mt_base.specs.declared.tables.Tables.{Tables as ATables};
 ghost use Rattle.gtfs_tables.specs.Feeds.{at_most, contents_of, tables_of as tables_in};
 ghost use Rattle.gtfs_tables.specs.Refusals.{Yields};
+ghost use Rattle.schedule_build.specs.InStep.{AreInStep};
 ghost use Rattle.schedule_build.specs.Schedule.{schedule};
 ghost use Rattle.feed_load.specs.Loaded.{days_loaded, loaded, schedule_error, tables_loaded, AreAtStops};
 
@@ -92,6 +93,7 @@ fn load_days(
     ensures found { Yields (λ r. r) result (days_loaded t.now first days opts.now) }
     ensures failed { IsErrOf result FeedError.ReadFault → ⊥ }
     ensures valid { IfOk result (λ r. (nw : ANetwork) → nw.opts ≡ opts.now → IsValid nw r.0) }
+    ensures in_step { IfOk result (λ r. AreInStep r.1 r.0) }
     ensures stops { IfOk result (λ r. AreAtStops t.now.stops r.0) }
     ensures nodes { IfOk result (λ r. length (events r.0) + 2 * r.0.spare_calls ≤ 2097152) }
 {
@@ -120,6 +122,7 @@ fn load_tables(
     ensures default { IfOk result (λ r. r.changes.default ≡ opts.now.change) }
     ensures parents { IfOk result (λ r. r.waits.parents ≡ map parent_station r.changes.stops) }
     ensures valid { IfOk result (λ r. IsValid (network_of r.changes r.waits opts.now) r.trains) }
+    ensures in_step { IfOk result (λ r. AreInStep r.directory r.trains) }
     ensures stops { IfOk result (λ r. AreAtStops r.changes.stops r.trains) }
     ensures nodes { IfOk result (λ r. length (events r.trains) + 2 * r.trains.spare_calls ≤ 2097152) }
     ensures failed { IsErrOf result FeedError.ReadFault → ⊥ }
@@ -158,6 +161,7 @@ pub fn load_feed<F: Feed>(
     ensures default { IfOk result (λ r. r.changes.default ≡ opts.now.change) }
     ensures parents { IfOk result (λ r. r.waits.parents ≡ map parent_station r.changes.stops) }
     ensures valid { IfOk result (λ r. IsValid (network_of r.changes r.waits opts.now) r.trains) }
+    ensures in_step { IfOk result (λ r. AreInStep r.directory r.trains) }
     ensures stops { IfOk result (λ r. AreAtStops r.changes.stops r.trains) }
     ensures nodes { IfOk result (λ r. length (events r.trains) + 2 * r.trains.spare_calls ≤ 2097152) }
     ensures failed { IsErrOf result FeedError.ReadFault → Rose (F.faults feed.old) (F.faults feed.new) }

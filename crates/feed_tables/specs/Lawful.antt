@@ -1,5 +1,7 @@
 -- What the tables of a feed keep.
 use Rattle.std.specs.Prelude.{ℕ, ◌≡◌, ◌≢◌, ◌<◌, ◌≤◌, ◌^◌, List, [], ◌∷◌, All, IfSome, IsSomeAnd, IsSome, length, map, slice_get}
+use Rattle.mt_base.specs.declared.places.PlaceKind.{PlaceKind}
+use Rattle.mt_base.specs.declared.places.PlaceKind.TheVariants.{Platform, Station}
 use Rattle.mt_base.specs.declared.tables.CalendarRow.{CalendarRow}
 use Rattle.mt_base.specs.declared.tables.CallRow.{CallRow}
 use Rattle.mt_base.specs.declared.tables.DateRow.{DateRow}
@@ -16,14 +18,13 @@ unfoldable pub AreDistinct : {X : Type 0} → List X → Type 0
 AreDistinct [] = Unit {0}
 AreDistinct (x ∷ xs) = All (λ y. x ≢ y) xs × AreDistinct xs
 
--- the location of a number is there, and of this `location_type`
-abbrev pub HasKind : List StopRow → ℕ → ℕ → Type 0
+-- the location of a number is there, and of this kind
+abbrev pub HasKind : List StopRow → PlaceKind → ℕ → Type 0
 HasKind stops kind n = IsSomeAnd (slice_get stops n) (λ (s : StopRow). s.kind ≡ kind)
 
--- the type of a location is 0 to 4; a `parent_station` is a station, of type 1, and stands at stops and platforms, of type 0, alone
+-- a `parent_station` is a station, and stands at stops and platforms alone
 pub record IsLocation (stops : List StopRow) (row : StopRow) : Type 0 where
-  pub kind : row.kind ≤ 4
-  pub parent : IfSome row.parent (λ n. (row.kind ≡ 0) × HasKind stops 1 n)
+  pub parent : IfSome row.parent (λ n. (row.kind ≡ Platform) × HasKind stops Station n)
 
 -- a trip has one of so many routes, and one of so many services
 pub record IsTrip (routes services : ℕ) (row : TripRow) : Type 0 where
@@ -33,7 +34,7 @@ pub record IsTrip (routes services : ℕ) (row : TripRow) : Type 0 where
 -- a call is of one of so many trips, at a stop or platform, and its times are at most 99:59:59
 pub record IsCall (stops : List StopRow) (trips : ℕ) (row : CallRow) : Type 0 where
   pub trip : row.trip < trips
-  pub stop : HasKind stops 0 row.stop
+  pub stop : HasKind stops Platform row.stop
   pub arr : IfSome row.arr (λ t. t ≤ 359999)
   pub dep : IfSome row.dep (λ t. t ≤ 359999)
 

@@ -1,5 +1,5 @@
 -- Refusals of connections, and the edge of a kept one.
-use Rattle.std.proofs.Common.{◌≡◌, ℕ, zero, suc, ◌<◌, arith, ◌&&◌, ◌||◌, Bool, true, false, cond, not, nat_eq, List, [], ◌∷◌, Option, Some, None, find, slice_get, is_none, inl, inr, refl, sym, ◌∙◌, ap}
+use Rattle.std.proofs.Common.{◌≡◌, ℕ, ◌&&◌, ◌||◌, Bool, true, false, cond, not, nat_eq, List, [], ◌∷◌, Option, Some, None, find, slice_get, is_none, inl, inr, refl, sym, ◌∙◌, ap}
 use Rattle.std.specs.List.{All, AllPairs, list_any}
 use Rattle.std.specs.Option.{option_map_or, option_or}
 use Rattle.std.proofs.lemmas.Bool.{and_parts, or_cases, false_from_ne_true}
@@ -7,9 +7,7 @@ use Rattle.std.proofs.lemmas.List.Elements.{All-weaker}
 use Rattle.std.proofs.lemmas.List.Folds.{list_any_none}
 use Rattle.mt_base.specs.declared.keys.Node.{Node}
 use Rattle.mt_base.proofs.KeyLemmas.{same_node-is}
-use Rattle.delay_model.specs.declared.messages.Refusal.{Refusal}
-use Rattle.delay_model.specs.declared.messages.Refusal.TheVariants.{Full, Unknown, NoConnection}
-use Rattle.delay_model.specs.declared.messages.Short.TheVariants.{Overrides}
+use Rattle.delay_model.specs.declared.messages.Refusal.TheVariants.{Unknown, NoConnection}
 use Rattle.delay_model.specs.declared.network.Network.{Network}
 use Rattle.delay_model.specs.declared.overrides.Override.TheVariants.{Keep}
 use Rattle.delay_model.specs.declared.state.EdgeKind.TheVariants.{Kept}
@@ -20,29 +18,11 @@ use Rattle.delay_model.specs.Changes.{change}
 use Rattle.delay_model.specs.Edges.{may_connect, change_between, edge_by_change, transfer}
 use Rattle.delay_model.specs.Events.{events_of, event_named, is_event, is_live}
 use Rattle.delay_model.specs.Refusals.{refused_if, is_no_connection, kept_edge}
-use Rattle.delay_model.proofs.Apart.{AreApart}
+use Rattle.delay_model.proofs.Apart.{AreApart, events_at-apart}
 use Rattle.delay_model.proofs.Lists.{AllPairs-after, AllPairs-tail}
 use Rattle.change_times.specs.ChangeTables.{ChangeTables}
 use Rattle.edge_rules.specs.Held.{HasOwnLabels}
 use Rattle.edge_rules.proofs.Neighbours.{named-is, own-labels}
-use Rattle.edge_rules.proofs.Own.{train-apart}
-
--- the refusal before others is the first
-pub refused_first : (a b x : Option Refusal) (e : Refusal) → Some e ≡ option_or a b → option_or a (option_or b x) ≡ Some e
-refused_first None b x e h = ap (λ o. option_or o x) (sym h)
-refused_first (Some r) b x e h = sym h
-
--- where there is none before others, those are left
-pub accepted_first : (a b x : Option Refusal) → None ≡ option_or a b → option_or a (option_or b x) ≡ x
-accepted_first None b x h = ap (λ o. option_or o x) (sym h)
-accepted_first (Some r) b x h = absurd (cc)
-
--- a connection without override, for which there is room
-pub spare : (a b : Option Refusal) (has : Bool) (n : ℕ) → option_or a (option_or b (refused_if (not has && nat_eq n 0) (Full Overrides))) ≡ None → has ≡ false → 0 < n
-spare None None has zero h e = absurd (cc)
-spare None None has (suc n) h e = omega arith
-spare None (Some r) has n h e = absurd (cc)
-spare (Some r) b has n h e = absurd (cc)
 
 module _ (n : Node) (v : Event) where
   live : List Event → Bool
@@ -71,7 +51,7 @@ module _ (n : Node) (v : Event) where
 named-live : (st : State) (n : Node) (v : Event) → All HasOwnLabels st.trains → event_named st n ≡ Some v → is_live st n ≡ true → v.live ≡ true
 unfolding live
 named-live st n v labels found h =
-    live-on n v (slice_get st.trains n.train) (λ t there. train-apart n.train t.route t.calls (own-labels st.trains n.train t labels there)) found h
+    live-on n v (slice_get st.trains n.train) (λ t there. events_at-apart n.train t.route t.calls (own-labels st.trains n.train t labels there)) found h
 
 -- an arrival and a departure of another train, both live, between whose stops a change takes this long, if it is possible
 module _ (nw : Network) (st now : State) (m n : Node) (u v : Event) (o : Option ℕ) (ch : ChangeTables) (same : now ≡ st) (labels : All HasOwnLabels st.trains) (live_m : true ≡ is_live now m) (live_n : true ≡ is_live now n) (apart : false ≡ nat_eq m.train n.train) (at_u : event_named now m ≡ Some u) (at_v : event_named now n ≡ Some v) (stops : ch.stops ≡ nw.stops) (transfers : ch.transfers ≡ nw.transfers) (default : ch.default ≡ nw.opts.change) (seconds : o ≡ change ch.stops ch.transfers ch.default u.stop v.stop) where

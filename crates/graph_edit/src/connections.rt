@@ -1,84 +1,72 @@
 //! Connections that are kept or dropped, or left to the waiting rules again.
 
-ghost use Rattle.std.specs.Prelude.{◌≡◌, [], ◌∷◌, ◌&&◌, None, IsTrue, IfOk, OnOk, false, true, not};
-ghost use Rattle.std.specs.Option.{option_or};
+ghost use Rattle.std.specs.Prelude.{◌≡◌, [], ◌∷◌, None, IsTrue, IfOk, OnOk};
 ghost use Rattle.std.specs.Result.{result_err};
-ghost use Rattle.delay_model.specs.declared.messages.Refusal.TheVariants.{Unknown, NoConnection};
 ghost use Rattle.delay_model.specs.Effect.{effect};
 ghost use Rattle.delay_model.specs.Events.{is_live};
 ghost use Rattle.delay_model.specs.Messages.{IsWellFormed};
-ghost use Rattle.delay_model.specs.Refusals.{refusal, refused_if, is_no_connection, kept_edge, itself_reported, overrides_short};
-ghost use Rattle.train_nodes.specs.Kinds.{IsChoice};
+ghost use Rattle.delay_model.specs.Refusals.{refusal, kept_edge, itself_reported, overrides_short};
+ghost use Rattle.train_nodes.specs.Kinds.{message_of_choice};
 ghost use Rattle.graph_edit.specs.Values.{Answers};
+ghost use Rattle.graph_edit.specs.Choices.{no_edge};
 
 use crate::checks::{check_rank, check_unreported};
-use delay_model::messages::{Message, Refusal, Short};
+use delay_model::messages::{Refusal, Short};
 use delay_model::overrides::Override;
 use delay_model::state::{Edge, EdgeKind};
 use edge_rules::Graph;
 use mt_base::keys::Node;
-use train_nodes::Msg;
+use train_nodes::kinds::Choice;
 
 /// Whether a kept or dropped connection, or one that is left to the waiting rules again, is accepted, or why it is refused.
-#[tactic(auto, unfolding(delay_model::specs::Refusals::refusal), using(crate::proofs::ConnectionLemmas::refused_first, crate::proofs::ConnectionLemmas::accepted_first))]
-pub fn check_keep(g: &Graph, m: &Msg) -> Result<(), Refusal>
-    requires kind { IsChoice m.now }
-    ensures { Answers result (refusal g.now.network g.now.state m.now) }
+#[tactic(auto, unfolding(delay_model::specs::Refusals::refusal), using(crate::proofs::ChoiceLemmas::refused_first, crate::proofs::ChoiceLemmas::accepted_first))]
+pub fn check_choice(g: &Graph, c: &Choice) -> Result<(), Refusal>
+    requires well_formed { IsWellFormed (message_of_choice c.now) }
+    ensures { Answers result (refusal g.now.network g.now.state (message_of_choice c.now)) }
 {
-    match m.message() {
-        Message::Keep { feeder, train } => {
-            let edge = kept_edge(g, feeder, train)?;
-            check_departure(g, train)?;
+    let edge = kept_edge(g, c)?;
+    match c.choice {
+        Some(Override::Keep) => {
+            check_departure(g, &c.train)?;
             check_rank(&edge)?;
-            check_room(g, feeder, train)
+            check_room(g, c)
         }
-        Message::Drop { feeder, train } => {
-            kept_edge(g, feeder, train)?;
-            check_departure(g, train)?;
-            check_room(g, feeder, train)
+        Some(Override::Drop) => {
+            check_departure(g, &c.train)?;
+            check_room(g, c)
         }
-        Message::Rule { feeder, train } => {
-            kept_edge(g, feeder, train)?;
-            Ok(())
-        }
-        _ => unreachable!(),
+        None => Ok(()),
     }
 }
 
 /// Changes the graph as an accepted choice for a connection says.
-#[tactic(auto, unfolding(delay_model::specs::Effect::effect, delay_model::specs::Refusals::refusal), using(crate::proofs::ConnectionLemmas::spare))]
-pub fn apply_keep(g: &mut Graph, m: &Msg)
-    requires kind { IsChoice m.now }
-    requires accepted { refusal g.old.network g.old.state m.now ≡ None }
-    ensures effect { g.new ≡ record g.old { state = effect g.old.state m.now } }
-    ensures well_formed { IsWellFormed m.now }
+#[tactic(auto, using(crate::proofs::ChoiceLemmas::spare, crate::proofs::ChoiceLemmas::chosen, crate::proofs::ChoiceLemmas::left))]
+pub fn apply_choice(g: &mut Graph, c: &Choice)
+    requires accepted { refusal g.old.network g.old.state (message_of_choice c.now) ≡ None }
+    ensures effect { g.new ≡ record g.old { state = effect g.old.state (message_of_choice c.now) } }
 {
-    match m.message() {
-        Message::Keep { feeder, train } => g.set_override(*feeder, *train, Override::Keep),
-        Message::Drop { feeder, train } => g.set_override(*feeder, *train, Override::Drop),
-        Message::Rule { feeder, train } => g.clear_override(*feeder, *train),
-        _ => unreachable!(),
+    match c.choice {
+        Some(choice) => g.set_override(c.feeder, c.train, choice),
+        None => g.clear_override(c.feeder, c.train),
     }
 }
 
 /// The edge from the arrival to the departure, as it is if the connection is kept, or why there is no such connection.
-fn kept_edge(g: &Graph, feeder: &Node, train: &Node) -> Result<Edge, Refusal>
-    requires arrival { feeder.now.dep ≡ false }
-    requires departure { train.now.dep ≡ true }
-    ensures refused { result_err result ≡ option_or (refused_if (not (is_live g.now.state feeder.now && is_live g.now.state train.now)) Unknown)
-        (refused_if (is_no_connection g.now.network g.now.state feeder.now train.now) NoConnection) }
-    ensures live { OnOk result (IsTrue (is_live g.now.state train.now)) }
-    ensures edge { IfOk result (λ edge. kept_edge g.now.network g.now.state feeder.now train.now ≡ edge ∷ []) }
+fn kept_edge(g: &Graph, c: &Choice) -> Result<Edge, Refusal>
+    requires well_formed { IsWellFormed (message_of_choice c.now) }
+    ensures refused { result_err result ≡ no_edge g.now.network g.now.state c.now.feeder c.now.train }
+    ensures live { OnOk result (IsTrue (is_live g.now.state c.now.train)) }
+    ensures edge { IfOk result (λ edge. kept_edge g.now.network g.now.state c.now.feeder c.now.train ≡ edge ∷ []) }
 {
     let trains = g.trains();
-    if !trains.live(*feeder) || !trains.live(*train) {
+    if !trains.live(c.feeder) || !trains.live(c.train) {
         return Err(Refusal::Unknown);
     }
-    if feeder.train == train.train {
+    if c.feeder.train == c.train.train {
         return Err(Refusal::NoConnection);
     }
-    let from = trains.event(*feeder);
-    let to = trains.event(*train);
+    let from = trains.event(c.feeder);
+    let to = trains.event(c.train);
     match g.changes().change(from.stop, to.stop) {
         None => Err(Refusal::NoConnection),
         Some(weight) => Ok(Edge {
@@ -100,11 +88,11 @@ fn check_departure(g: &Graph, n: &Node) -> Result<(), Refusal>
 }
 
 /// Whether there is room for what is chosen for the connection.
-fn check_room(g: &Graph, feeder: &Node, train: &Node) -> Result<(), Refusal>
-    ensures { Answers result (overrides_short g.now.state feeder.now train.now) }
+fn check_room(g: &Graph, c: &Choice) -> Result<(), Refusal>
+    ensures { Answers result (overrides_short g.now.state c.now.feeder c.now.train) }
 {
     let trains = g.trains();
-    if trains.override_of(*feeder, *train).is_none() && trains.spare_overrides() == 0 {
+    if trains.override_of(c.feeder, c.train).is_none() && trains.spare_overrides() == 0 {
         Err(Refusal::Full {
             what: Short::Overrides,
         })

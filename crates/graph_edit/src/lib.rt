@@ -6,5 +6,5 @@ pub mod checks;
 pub mod connections;
 pub mod values;
 
-pub use connections::{apply_keep, check_keep};
+pub use connections::{apply_choice, check_choice};
 pub use values::{apply_value, check_value};

@@ -5,44 +5,35 @@ ghost use Rattle.std.specs.Option.{option_or};
 ghost use Rattle.delay_model.specs.declared.messages.Refusal.TheVariants.{Unknown};
 ghost use Rattle.delay_model.specs.Effect.{effect};
 ghost use Rattle.delay_model.specs.Events.{is_live, train_events};
-ghost use Rattle.delay_model.specs.Messages.{IsWellFormed};
 ghost use Rattle.delay_model.specs.Refusals.{refusal, refused_if, first_reported, contradicted_at};
-ghost use Rattle.train_nodes.specs.Kinds.{IsValue};
+ghost use Rattle.train_nodes.specs.Kinds.{message_of_value};
 ghost use Rattle.graph_edit.specs.Values.{Answers, contradicts};
 
-use delay_model::messages::{Message, Refusal};
+use delay_model::messages::Refusal;
 use delay_model::state::Event;
 use edge_rules::Graph;
 use mt_base::keys::Node;
 use mt_base::numbers::Time;
 use std::cmp::Ordering;
-use train_nodes::Msg;
+use train_nodes::kinds::{Value, ValueKind};
 
 /// Whether a report or a forecast is accepted, or why it is refused.
-#[tactic(auto, unfolding(delay_model::specs::Refusals::refusal), using(crate::proofs::ValueLemmas::or_none))]
-pub fn check_value(g: &Graph, m: &Msg) -> Result<(), Refusal>
-    requires kind { IsValue m.now }
-    ensures { Answers result (refusal g.now.network g.now.state m.now) }
+#[tactic(auto, using(crate::proofs::ValueLemmas::refusal_of_value))]
+pub fn check_value(g: &Graph, v: &Value) -> Result<(), Refusal>
+    ensures { Answers result (refusal g.now.network g.now.state (message_of_value v.now)) }
 {
-    match m.message() {
-        Message::Report { node, time } => check_time(g, node, *time),
-        Message::Forecast { node, time } => check_time(g, node, *time),
-        _ => unreachable!(),
-    }
+    check_time(g, &v.node, v.time)
 }
 
 /// Changes the graph as an accepted report or forecast says.
-#[tactic(auto, unfolding(delay_model::specs::Refusals::refusal), using(crate::proofs::ValueLemmas::known))]
-pub fn apply_value(g: &mut Graph, m: &Msg)
-    requires kind { IsValue m.now }
-    requires accepted { refusal g.old.network g.old.state m.now ≡ None }
-    ensures effect { g.new ≡ record g.old { state = effect g.old.state m.now } }
-    ensures well_formed { IsWellFormed m.now }
+#[tactic(auto, unfolding(delay_model::specs::Effect::effect, delay_model::specs::Refusals::refusal), using(crate::proofs::ValueLemmas::known))]
+pub fn apply_value(g: &mut Graph, v: &Value)
+    requires accepted { refusal g.old.network g.old.state (message_of_value v.now) ≡ None }
+    ensures effect { g.new ≡ record g.old { state = effect g.old.state (message_of_value v.now) } }
 {
-    match m.message() {
-        Message::Report { node, time } => g.set_report(*node, *time),
-        Message::Forecast { node, time } => g.set_forecast(*node, *time),
-        _ => unreachable!(),
+    match v.kind {
+        ValueKind::Report => g.set_report(v.node, v.time),
+        ValueKind::Forecast => g.set_forecast(v.node, v.time),
     }
 }
 

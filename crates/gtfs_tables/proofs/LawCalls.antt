@@ -1,7 +1,7 @@
 -- What the rows of `stop_times.txt` keep, each by itself: their trips and their stops are there, and no time is above 99:59:59.
 use Rattle.std.proofs.Common.{◌≡◌, ℕ, List, Some, Ok, All, length, subst, arith}
-use Rattle.std.proofs.lemmas.Bool.Decides.{nat_tests}
 use Rattle.std.proofs.lemmas.List.Elements.{All-push}
+use Rattle.mt_base.specs.declared.places.PlaceKind.TheVariants.{Platform}
 use Rattle.mt_base.specs.declared.tables.CallRow.{CallRow}
 use Rattle.mt_base.specs.declared.tables.StopRow.{StopRow}
 use Rattle.feed_tables.specs.Lawful.{HasKind, IsCall}
@@ -14,10 +14,11 @@ use Rattle.gtfs_tables.specs.StopTimes.{Calls, Named, call_of, call_step, stop_n
 use Rattle.gtfs_tables.proofs.LawKeptRows.{IsAlike, alike-more}
 use Rattle.gtfs_tables.proofs.LawNames.{number-below}
 use Rattle.gtfs_tables.proofs.LawSteps.{need-ok, ok-same}
+use Rattle.gtfs_tables.proofs.LawStops.{platform-is}
 use Rattle.gtfs_tables.proofs.LawTimes.{time-small}
 
-stop-there : (stops : List StopRow) (id : List ℕ) (n : ℕ) → stop_named stops id ≡ Some n → HasKind stops 0 n
-stop-there stops id n h = grind (arith, nat_tests)
+stop-there : (stops : List StopRow) (id : List ℕ) (n : ℕ) → stop_named stops id ≡ Some n → HasKind stops Platform n
+stop-there stops id n h = grind (arith, platform-is)
 
 call-read : (named : Named) (row : ℕ) (trip arr dep stop seq pickup drop_off : List ℕ) (call : CallRow) → call_of named row trip arr dep stop seq pickup drop_off ≡ Ok call → IsCall named.stops (length named.trips) call
 unfolding call_of

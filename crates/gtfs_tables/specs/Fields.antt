@@ -1,6 +1,8 @@
 -- What the bytes of a field mean: numbers, times of day and dates.
 use Rattle.std.specs.Prelude.{ℕ, ◌+◌, ◌*◌, ◌-◌, ◌&&◌, ◌==◌, List, [], ◌∷◌, Bool, true, nat_lt, nat_le, length, reverse, if◌then◌else◌, Some, None, option_and_then, option_map}
 use Rattle.std.specs.declared.option.Option.{Option}
+use Rattle.mt_base.specs.declared.places.PlaceKind.{PlaceKind}
+use Rattle.mt_base.specs.declared.places.PlaceKind.TheVariants.{Platform, Station, Entrance, GenericNode, BoardingArea}
 use Rattle.mt_base.specs.Civil.{is_civil}
 
 -- a space or a tab
@@ -47,10 +49,21 @@ unfoldable pub digit_within : ℕ → ℕ → List ℕ → Option ℕ
 digit_within least most (byte ∷ []) = option_and_then (λ d. if nat_le least d && nat_le d most then Some d else None) (digit byte)
 digit_within least most bytes = None
 
--- a kind of location: one digit from 0 to 4, and 0 where the field is empty
-abbrev pub location_kind : List ℕ → Option ℕ
-location_kind [] = Some 0
-location_kind (byte ∷ bytes) = digit_within 0 4 (byte ∷ bytes)
+-- the kind of place that a digit stands for; 48 is `0`
+abbrev pub kind_of_digit : ℕ → Option PlaceKind
+kind_of_digit byte =
+    if byte == 48 then Some Platform
+    else (if byte == 49 then Some Station
+    else (if byte == 50 then Some Entrance
+    else (if byte == 51 then Some GenericNode
+    else (if byte == 52 then Some BoardingArea
+    else None))))
+
+-- the kind of place that a `location_type` stands for: one digit from 0 to 4, and an empty field for 0
+abbrev pub location_kind : List ℕ → Option PlaceKind
+location_kind [] = Some Platform
+location_kind (byte ∷ []) = kind_of_digit byte
+location_kind bytes = None
 
 -- two digits
 abbrev pub two : ℕ → ℕ → Option ℕ

@@ -8,6 +8,7 @@ use Rattle.std.specs.BTreeMap.{insert_entry, is_at}
 use Rattle.std.specs.Map.{lookup}
 use Rattle.mt_base.specs.declared.tables.CallRow.{CallRow}
 use Rattle.mt_base.specs.declared.tables.StopRow.{StopRow}
+use Rattle.mt_base.specs.Places.{is_platform}
 use Rattle.gtfs_tables.specs.declared.columns.Column.{Column}
 use Rattle.gtfs_tables.specs.declared.columns.Column.TheVariants.{TripId, ArrivalTime, DepartureTime, StopId, StopSequence, PickupType, DropOffType}
 use Rattle.gtfs_tables.specs.declared.faults.Cause.TheVariants.{BadTime, BadNumber, UnknownReference, DuplicateKey, TooFewCalls, UntimedEnd, BackwardsTimes}
@@ -31,9 +32,9 @@ pub record Named : Type 0 where
   pub trips : List (List ℕ)
   pub stops : List StopRow
 
--- the location of a number is a stop or platform: its location_type is 0
+-- the location of a number is a stop or platform
 abbrev pub is_stop : List StopRow → ℕ → Bool
-is_stop stops n = option_map_or (λ (row : StopRow). row.kind == 0) (slice_get stops n) false
+is_stop stops n = option_map_or (λ (row : StopRow). is_platform row.kind) (slice_get stops n) false
 
 -- the number of the stop or platform with an id
 abbrev pub stop_named : List StopRow → List ℕ → Option ℕ

@@ -1,8 +1,9 @@
 -- What the rows of `stops.txt` mean, or the first fault in them (GTFS Schedule, stops.txt).
-use Rattle.std.specs.Prelude.{ℕ, ◌+◌, ◌==◌, ◌&&◌, not, List, [], ◌∷◌, ◌++◌, Bool, length, map, if◌then◌else◌, Some, None, Result, Ok, is_none, option_and_then, option_map, slice_get}
+use Rattle.std.specs.Prelude.{ℕ, ◌+◌, ◌==◌, ◌&&◌, not, List, [], ◌∷◌, ◌++◌, Bool, false, length, map, if◌then◌else◌, Some, None, Result, Ok, is_none, option_and_then, option_map, slice_get}
 use Rattle.std.specs.declared.option.Option.{Option}
 use Rattle.std.specs.Option.{option_map_or}
 use Rattle.mt_base.specs.declared.tables.StopRow.{StopRow}
+use Rattle.mt_base.specs.Places.{is_platform, is_station}
 use Rattle.gtfs_tables.specs.declared.columns.Column.{Column}
 use Rattle.gtfs_tables.specs.declared.columns.Column.TheVariants.{StopId, LocationType, ParentStation}
 use Rattle.gtfs_tables.specs.declared.faults.Cause.TheVariants.{BadNumber, DuplicateKey, UnknownReference}
@@ -40,21 +41,21 @@ stop_added row id kind parent lines = stop_of row id kind parent >>= λ line. wi
 abbrev pub stop_step : Step (List StopLine)
 stop_step row field lines = stop_added row (field StopId) (field LocationType) (field ParentStation) lines
 
--- the `location_type` of the row with a number
-abbrev pub kind_in : List StopLine → ℕ → ℕ
-kind_in lines n = option_map_or (λ (line : StopLine). line.kind) (slice_get lines n) 0
+-- the row with a number is a station
+abbrev pub has_station : List StopLine → ℕ → Bool
+has_station lines n = option_map_or (λ (line : StopLine). is_station line.kind) (slice_get lines n) false
 
--- the number of the station with an id: a row of `location_type` 1
+-- the number of the station with an id
 abbrev pub station_in : List StopLine → List ℕ → Option ℕ
-station_in lines id = option_and_then (λ n. if kind_in lines n == 1 then Some n else None) (number_from 0 id (line_ids lines))
+station_in lines id = option_and_then (λ n. if has_station lines n then Some n else None) (number_from 0 id (line_ids lines))
 
--- a stop or platform, of `location_type` 0, with a `parent_station`; that of other rows is not looked at
-abbrev pub is_platform : StopLine → Bool
-is_platform line = (line.kind == 0) && not (length line.parent == 0)
+-- a stop or platform with a `parent_station`; that of other rows is not looked at
+abbrev pub has_parent : StopLine → Bool
+has_parent line = is_platform line.kind && not (length line.parent == 0)
 
 -- the number of the station that a row belongs to; a `parent_station` that is no station's id is a fault of the row
 abbrev pub parent_of : List StopLine → ℕ → StopLine → Result (Option ℕ) Fault
-parent_of lines row line = if is_platform line then need (fault row UnknownReference) (option_map (λ n. Some n) (station_in lines line.parent)) else Ok None
+parent_of lines row line = if has_parent line then need (fault row UnknownReference) (option_map (λ n. Some n) (station_in lines line.parent)) else Ok None
 
 -- the rows with their stations: the rows before the row of a number as they are given, then the others in their order
 unfoldable pub with_stations : List StopLine → ℕ → List StopRow → List StopLine → Result (List StopRow) Fault

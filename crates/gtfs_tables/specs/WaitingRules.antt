@@ -1,9 +1,10 @@
 -- What the rows of `waiting_rules.txt` mean, or the first fault in them.
-use Rattle.std.specs.Prelude.{ℕ, List, [], ◌∷◌, ◌++◌, Bool, false, nat_le, if◌then◌else◌, Some, None, Result, Ok, slice_get, option_and_then}
+use Rattle.std.specs.Prelude.{ℕ, List, [], ◌∷◌, ◌++◌, Bool, false, if◌then◌else◌, Some, None, Result, Ok, slice_get, option_and_then}
 use Rattle.std.specs.Option.{option_map_or}
 use Rattle.std.specs.declared.option.Option.{Option}
 use Rattle.mt_base.specs.declared.tables.RuleRow.{RuleRow}
 use Rattle.mt_base.specs.declared.tables.StopRow.{StopRow}
+use Rattle.mt_base.specs.Places.{is_platform_or_station}
 use Rattle.gtfs_tables.specs.declared.columns.Column.{Column}
 use Rattle.gtfs_tables.specs.declared.columns.Column.TheVariants.{FeederRouteId, ConnectingRouteId, StopId, MaxWait}
 use Rattle.gtfs_tables.specs.declared.faults.Cause.TheVariants.{BadNumber, UnknownReference}
@@ -17,9 +18,9 @@ use Rattle.gtfs_tables.specs.Stops.{stop_ids}
 abbrev pub rule_columns : List Column
 rule_columns = FeederRouteId ∷ ConnectingRouteId ∷ StopId ∷ MaxWait ∷ []
 
--- the location of a number is a stop, a platform or a station: its location_type is 0 or 1
+-- the location of a number is a stop, a platform or a station
 abbrev pub is_stop_or_station : List StopRow → ℕ → Bool
-is_stop_or_station stops n = option_map_or (λ (row : StopRow). nat_le row.kind 1) (slice_get stops n) false
+is_stop_or_station stops n = option_map_or (λ (row : StopRow). is_platform_or_station row.kind) (slice_get stops n) false
 
 -- where a train waits: at any place where the field is empty, else at the stop, platform or station with this id
 abbrev pub waiting_place : List StopRow → List ℕ → Option (Option ℕ)

@@ -48,7 +48,7 @@ fn is_stop(stops: &Stops, number: StopNo) -> bool
     ensures { result ≡ is_stop stops.now number }
 {
     match stops.rows().get(number.get() as usize) {
-        Some(stop) => stop.kind == 0,
+        Some(stop) => stop.kind.is_platform(),
         None => false,
     }
 }

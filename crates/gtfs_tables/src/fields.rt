@@ -2,9 +2,10 @@
 
 ghost use Rattle.std.specs.Prelude.{◌≡◌, ◌<◌, ◌≤◌, ◌+◌, ◌*◌, IfSome};
 ghost use Rattle.mt_base.specs.Civil.{IsCivil};
-ghost use Rattle.gtfs_tables.specs.Fields.{is_blank, trim_start, trim_end, trimmed, digit, number_of, number_or_zero, digit_within, location_kind, two, clock, seconds_of, time_of, eight_digits, date_of};
+ghost use Rattle.gtfs_tables.specs.Fields.{is_blank, trim_start, trim_end, trimmed, digit, number_of, number_or_zero, digit_within, location_kind, kind_of_digit, two, clock, seconds_of, time_of, eight_digits, date_of};
 
 use mt_base::calendar::civil;
+use mt_base::places::PlaceKind;
 
 fn is_blank(byte: u8) -> bool
     ensures { result ≡ is_blank byte }
@@ -91,15 +92,28 @@ pub fn digit_within(bytes: &[u8], least: u32, most: u32) -> Option<u32>
     }
 }
 
-/// The kind of a location: one digit from 0 to 4, and 0 where the field is empty.
-pub fn location_kind(bytes: &[u8]) -> Option<u32>
-    ensures value { result ≡ location_kind bytes.now }
-    ensures within { IfSome result (λ d. d ≤ 4) }
+/// The kind of place that a `location_type` stands for: one digit from 0 to 4, and an empty field for 0.
+pub fn location_kind(bytes: &[u8]) -> Option<PlaceKind>
+    ensures { result ≡ location_kind bytes.now }
 {
-    if bytes.is_empty() {
-        return Some(0);
+    match bytes {
+        [] => Some(PlaceKind::Platform),
+        [digit] => kind_of_digit(*digit),
+        _ => None,
     }
-    digit_within(bytes, 0, 4)
+}
+
+fn kind_of_digit(digit: u8) -> Option<PlaceKind>
+    ensures { result ≡ kind_of_digit digit }
+{
+    match digit {
+        b'0' => Some(PlaceKind::Platform),
+        b'1' => Some(PlaceKind::Station),
+        b'2' => Some(PlaceKind::Entrance),
+        b'3' => Some(PlaceKind::GenericNode),
+        b'4' => Some(PlaceKind::BoardingArea),
+        _ => None,
+    }
 }
 
 fn two(a: u8, b: u8) -> Option<u32>

@@ -18,6 +18,7 @@ use crate::ids::Ids;
 use crate::sheets::Sheet;
 use mt_base::names::Name;
 use mt_base::numbers::StopNo;
+use mt_base::places::PlaceKind;
 use mt_base::rows::Rows;
 use mt_base::tables::StopRow;
 use std::alloc::Global;
@@ -27,7 +28,7 @@ use std::marker::Model;
 #[derive(Drop)]
 struct StopLine {
     id: Name,
-    kind: u32,
+    kind: PlaceKind,
     parent: Name,
 }
 
@@ -72,7 +73,7 @@ impl StopTable {
     {
         let number = self.ids.find(id)?;
         match self.lines.get(number as usize) {
-            Some(line) if line.kind == 1 => Some(number),
+            Some(line) if line.kind.is_station() => Some(number),
             _ => None,
         }
     }
@@ -81,7 +82,7 @@ impl StopTable {
         requires { IsStopTable self.now }
         ensures { Gives (λ parent. parent) result (parent_of self.now.lines.items row line.now) }
     {
-        if line.kind != 0 || line.parent.text().is_empty() {
+        if !line.kind.is_platform() || line.parent.text().is_empty() {
             return Ok(None);
         }
         match self.station(line.parent.text()) {

@@ -34,7 +34,7 @@ fn is_stop_or_station(stops: &Stops, number: StopNo) -> bool
     ensures { result ≡ is_stop_or_station stops.now number }
 {
     match stops.rows().get(number.get() as usize) {
-        Some(stop) => stop.kind <= 1,
+        Some(stop) => stop.kind.is_platform_or_station(),
         None => false,
     }
 }

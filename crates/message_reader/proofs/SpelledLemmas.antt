@@ -6,6 +6,8 @@ use Rattle.std.proofs.lemmas.Bool.Decides.{nat_tests}
 use Rattle.std.proofs.lemmas.List.Elements.{recursion_from_All}
 use Rattle.std.proofs.lemmas.Int.{ints}
 use Rattle.mt_base.specs.Civil.{IsCivil, is_civil}
+use Rattle.train_nodes.specs.declared.kinds.ValueKind.{ValueKind}
+use Rattle.train_nodes.specs.declared.kinds.ValueKind.TheVariants as values
 use Rattle.message_reader.specs.declared.wire.WireCall.{WireCall}
 use Rattle.message_reader.specs.declared.wire.WireRef.{WireRef}
 use Rattle.message_reader.specs.declared.wire.Connect.{Connect as AConnect}
@@ -59,13 +61,13 @@ label_back n lt = grind (arith, nat_tests)
 
 -- ---- messages
 
-event_back : (names : Names) (report : Bool) (trip : List ℕ) (date call : ℕ) (dep : Bool) (secs : ℕ) → IsCivil date → secs ≤ 359999 → call < 2 ^ 32
-    → said_by names (object_of (Event report trip date call dep secs)) ≡ Ok (Message (Event report trip date call dep secs))
+event_back : (names : Names) (kind : ValueKind) (trip : List ℕ) (date call : ℕ) (dep : Bool) (secs : ℕ) → IsCivil date → secs ≤ 359999 → call < 2 ^ 32
+    → said_by names (object_of (Event kind trip date call dep secs)) ≡ Ok (Message (Event kind trip date call dep secs))
 unfolding said_by head_of kind_of message_of event_of
-event_back names true trip date call true secs civil le lt = rw (label_back call lt, dates_back date civil, times_back secs le) refl
-event_back names true trip date call false secs civil le lt = rw (label_back call lt, dates_back date civil, times_back secs le) refl
-event_back names false trip date call true secs civil le lt = rw (label_back call lt, dates_back date civil, times_back secs le) refl
-event_back names false trip date call false secs civil le lt = rw (label_back call lt, dates_back date civil, times_back secs le) refl
+event_back names values.Report trip date call true secs civil le lt = rw (label_back call lt, dates_back date civil, times_back secs le) refl
+event_back names values.Report trip date call false secs civil le lt = rw (label_back call lt, dates_back date civil, times_back secs le) refl
+event_back names values.Forecast trip date call true secs civil le lt = rw (label_back call lt, dates_back date civil, times_back secs le) refl
+event_back names values.Forecast trip date call false secs civil le lt = rw (label_back call lt, dates_back date civil, times_back secs le) refl
 
 cancel_back : (names : Names) (trip : List ℕ) (date from to : ℕ) → IsCivil date → from < 2 ^ 32 → to < 2 ^ 32
     → said_by names (object_of (Cancel trip date from to)) ≡ Ok (Message (Cancel trip date from to))
@@ -121,7 +123,7 @@ extra_back names trip date route calls civil each le =
     rw (shapes_back calls, counts_back calls, le-leb 2 (length calls) le, dates_back date civil, calls_back calls (recursion_from_All IsWireCall calls each)) refl
 
 pub messages_back : (names : Names) (w : Wire) → IsWire w → HasLabels w → said_by names (object_of w) ≡ Ok (Message w)
-messages_back names (Event report trip date call dep secs) is labels = event_back names report trip date call dep secs is.0 is.1 labels
+messages_back names (Event kind trip date call dep secs) is labels = event_back names kind trip date call dep secs is.0 is.1 labels
 messages_back names (Cancel trip date from to) is labels = cancel_back names trip date from to is labels.0 labels.1
 messages_back names (Reroute trip date from to via) is labels = reroute_back names trip date from to via is.0 is.1 labels.0 labels.1
 messages_back names (Extra trip date route calls) is labels = extra_back names trip date route calls is.0 is.1 is.2

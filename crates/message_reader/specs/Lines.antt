@@ -24,6 +24,7 @@ use Rattle.message_reader.specs.declared.wire.Wire.{Wire}
 use Rattle.schedule_build.specs.Directory.{Names}
 use Rattle.message_reader.specs.Chain.{◌>>=◌, need, unless}
 use Rattle.message_reader.specs.Fields.{text_at, number_at}
+use Rattle.train_nodes.specs.declared.kinds.ValueKind.TheVariants as values
 use Rattle.message_reader.specs.Kinds.{kind_of}
 use Rattle.message_reader.specs.Messages.{event_of, cancel_of, reroute_of, extra_of, connect_of}
 use Rattle.message_reader.specs.Queries.{query_of}
@@ -46,8 +47,8 @@ head_of d = do
 
 -- what an object says, by the type of its line
 unfoldable pub message_of : Names → Kind → Data → Result Line Bad
-message_of names kinds.Forecast d = event_of false d >>= λ w. Ok (Message w)
-message_of names kinds.Report d = event_of true d >>= λ w. Ok (Message w)
+message_of names kinds.Forecast d = event_of values.Forecast d >>= λ w. Ok (Message w)
+message_of names kinds.Report d = event_of values.Report d >>= λ w. Ok (Message w)
 message_of names kinds.Cancel d = cancel_of d >>= λ w. Ok (Message w)
 message_of names kinds.Reroute d = reroute_of d >>= λ w. Ok (Message w)
 message_of names kinds.Extra d = extra_of d >>= λ w. Ok (Message w)

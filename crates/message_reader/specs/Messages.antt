@@ -1,5 +1,5 @@
 -- What an object says, by the type of its line. Every needed member has its kind (Shape) before any date or time is read (Time).
-use Rattle.std.specs.Prelude.{ℕ, suc, nat_le, Bool, List, [], ◌∷◌, Result, Ok, codes}
+use Rattle.std.specs.Prelude.{ℕ, suc, nat_le, List, [], ◌∷◌, Result, Ok, codes}
 use Rattle.serde_json.specs.Data.{Data, Items, no_items, item}
 use Rattle.serde_json.specs.Find.{get}
 use Rattle.message_reader.specs.declared.bad.Bad.{Bad}
@@ -7,14 +7,15 @@ use Rattle.message_reader.specs.declared.bad.Bad.TheVariants.{Shape, Time}
 use Rattle.message_reader.specs.declared.wire.WireCall.{WireCall}
 use Rattle.message_reader.specs.declared.wire.WireRef.{WireRef}
 use Rattle.message_reader.specs.declared.wire.Connect.{Connect as AConnect}
+use Rattle.train_nodes.specs.declared.kinds.ValueKind.{ValueKind}
 use Rattle.message_reader.specs.declared.wire.Wire.{Wire}
 use Rattle.message_reader.specs.declared.wire.Wire.TheVariants.{Event, Cancel, Reroute, Extra, Connect}
 use Rattle.message_reader.specs.Chain.{◌>>=◌, need, unless}
 use Rattle.message_reader.specs.Fields.{text_at, label_at, items_at, departure_of, date_of, seconds_of}
 
 -- `forecast` and `report`: a train by `trip` and `date`, a call by its label `call`, `event` and `time`
-unfoldable pub event_of : Bool → Data → Result Wire Bad
-event_of report d = do
+unfoldable pub event_of : ValueKind → Data → Result Wire Bad
+event_of kind d = do
   trip ← need Shape (text_at (codes "trip") d)
   date ← need Shape (text_at (codes "date") d)
   call ← need Shape (label_at (codes "call") d)
@@ -23,7 +24,7 @@ event_of report d = do
   time ← need Shape (text_at (codes "time") d)
   day ← need Time (date_of date)
   secs ← need Time (seconds_of time)
-  Ok (Event report trip day call dep secs)
+  Ok (Event kind trip day call dep secs)
 
 -- `cancel`: a train, and the labels `from` and `to` of two of its calls
 unfoldable pub cancel_of : Data → Result Wire Bad

@@ -1,7 +1,9 @@
 -- What the object of a query says.
-use Rattle.std.specs.Prelude.{ℕ, ◌+◌, List, nat_le, if◌then◌else◌, Some, None, option_and_then, Result, Ok, codes}
+use Rattle.std.specs.Prelude.{ℕ, ◌+◌, List, false, if◌then◌else◌, Some, None, option_and_then, Result, Ok, codes}
 use Rattle.std.specs.declared.option.Option.{Option}
+use Rattle.std.specs.Option.{option_map_or}
 use Rattle.serde_json.specs.Data.{Data}
+use Rattle.mt_base.specs.Places.{is_platform_or_station}
 use Rattle.schedule_build.specs.Directory.{Names, day_named, place_named, kind_of_place, base_of}
 use Rattle.message_reader.specs.declared.bad.Bad.{Bad}
 use Rattle.message_reader.specs.declared.bad.Bad.TheVariants.{Shape, Stop, Time}
@@ -10,9 +12,11 @@ use Rattle.message_reader.specs.declared.wire.Line.TheVariants.{Query}
 use Rattle.message_reader.specs.Chain.{◌>>=◌, need}
 use Rattle.message_reader.specs.Fields.{text_at, date_of, seconds_of}
 
--- the place with an id, if a journey can begin or end there: it is a stop or platform, of `location_type` 0, or a station, of type 1
+-- the place with an id, if a journey can begin or end there: it is a stop, a platform or a station
 unfoldable pub stop_or_station_named : Names → List ℕ → Option ℕ
-stop_or_station_named names id = option_and_then (λ place. if nat_le (kind_of_place names place) 1 then Some place else None) (place_named names id)
+stop_or_station_named names id =
+    option_and_then (λ place. if option_map_or is_platform_or_station (kind_of_place names place) false then Some place else None)
+    (place_named names id)
 
 -- `query`: who asks, `client`; two places, `from` and `to`; and `date` and `time`, from when on the passenger can leave. The date is
 -- that of a loaded service day, and the time lies on it

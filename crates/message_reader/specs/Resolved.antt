@@ -1,10 +1,12 @@
 -- The message by number that a message by name stands for, or the refusal that the names decide. The refusals, in order:
 --   Unknown  a train, a stop, a route or a service day of the message has no number. The new train of an extra needs none
 --   Known    the new train of an extra is there already
-use Rattle.std.specs.Prelude.{◌≡◌, ℕ, ◌+◌, List, [], ◌∷◌, Bool, true, false, if◌then◌else◌, nat_eq, length, Some, None, is_none, option_and_then, Result, Ok, Err}
+use Rattle.std.specs.Prelude.{◌≡◌, ℕ, ◌+◌, List, [], ◌∷◌, Bool, true, false, if◌then◌else◌, length, Some, None, is_none, option_and_then, Result, Ok, Err}
 use Rattle.std.specs.declared.option.Option.{Option}
+use Rattle.std.specs.Option.{option_map_or}
 use Rattle.mt_base.specs.declared.keys.Node.{Node}
 use Rattle.mt_base.specs.declared.plans.NewCall.{NewCall}
+use Rattle.mt_base.specs.Places.{is_platform}
 use Rattle.delay_model.specs.declared.messages.Message.{Message}
 use Rattle.delay_model.specs.declared.messages.Message.TheVariants as messages
 use Rattle.delay_model.specs.declared.messages.Refusal.{Refusal}
@@ -15,6 +17,8 @@ use Rattle.message_reader.specs.declared.unresolved.ResolveFault.{ResolveFault}
 use Rattle.message_reader.specs.declared.unresolved.ResolveFault.TheVariants.{Unknown, Known, OutOfMemory}
 use Rattle.message_reader.specs.declared.wire.Connect.{Connect as AConnect}
 use Rattle.message_reader.specs.declared.wire.Connect.TheVariants as connects
+use Rattle.train_nodes.specs.declared.kinds.ValueKind.{ValueKind}
+use Rattle.train_nodes.specs.Kinds.{message_by_kind}
 use Rattle.message_reader.specs.declared.wire.WireCall.{WireCall}
 use Rattle.message_reader.specs.declared.wire.WireRef.{WireRef}
 use Rattle.message_reader.specs.declared.wire.Wire.{Wire}
@@ -30,9 +34,11 @@ train_on names trip date = do
   train ← need refusals.Unknown (train_named names trip day)
   Ok (record { train = train; day = day })
 
--- the place with an id, if it is a stop, where trains call: its `location_type` is 0
+-- the place with an id, if it is a stop, where trains call
 unfoldable pub stop_named : Names → List ℕ → Option ℕ
-stop_named names id = option_and_then (λ place. if nat_eq (kind_of_place names place) 0 then Some place else None) (place_named names id)
+stop_named names id =
+    option_and_then (λ place. if option_map_or is_platform (kind_of_place names place) false then Some place else None)
+    (place_named names id)
 
 -- the arrival or the departure of a call
 unfoldable pub node_named : Names → Bool → WireRef → Result Node Refusal
@@ -56,11 +62,6 @@ new_calls names day (c ∷ cs) = do
 
 -- ---- messages
 
--- an event took place at a time, or is expected at it
-abbrev pub event_message : Bool → Node → ℕ → Message
-event_message true n t = messages.Report n t
-event_message false n t = messages.Forecast n t
-
 -- what is said of a feeder and the train that may wait for it
 abbrev pub connect_message : AConnect → Node → Node → Message
 connect_message connects.Keep feeder train = messages.Keep feeder train
@@ -68,10 +69,10 @@ connect_message connects.Drop feeder train = messages.Drop feeder train
 connect_message connects.Rule feeder train = messages.Rule feeder train
 
 -- a report or a forecast, at so many seconds on the train's service day
-unfoldable pub event_resolved : Names → Bool → List ℕ → ℕ → ℕ → Bool → ℕ → Result Message Refusal
-event_resolved names report trip date call dep secs = do
+unfoldable pub event_resolved : Names → ValueKind → List ℕ → ℕ → ℕ → Bool → ℕ → Result Message Refusal
+event_resolved names kind trip date call dep secs = do
   found ← train_on names trip date
-  Ok (event_message report (record { train = found.train; label = call; dep = dep }) (base_of found.day + secs))
+  Ok (message_by_kind kind (record { train = found.train; label = call; dep = dep }) (base_of found.day + secs))
 
 -- a cancelled stretch
 unfoldable pub cancel_resolved : Names → List ℕ → ℕ → ℕ → ℕ → Result Message Refusal
@@ -104,7 +105,7 @@ connect_resolved names kind feeder train = do
 
 -- the message by number, or the refusal
 unfoldable pub resolved : Names → Wire → Result Message Refusal
-resolved names (Event report trip date call dep secs) = event_resolved names report trip date call dep secs
+resolved names (Event kind trip date call dep secs) = event_resolved names kind trip date call dep secs
 resolved names (Cancel trip date from to) = cancel_resolved names trip date from to
 resolved names (Reroute trip date from to via) = reroute_resolved names trip date from to via
 resolved names (Extra trip date route calls) = extra_resolved names trip date route calls

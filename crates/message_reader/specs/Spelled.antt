@@ -1,6 +1,8 @@
 -- How a message or a query is spelled: the object that says it.
 use Rattle.std.specs.Prelude.{ℕ, ◌+◌, ◌/◌, ◌%◌, ◌^◌, ◌<◌, List, [], ◌∷◌, ◌++◌, if◌then◌else◌, codes}
 use Rattle.serde_json.specs.Data.{unsigned, Data, number, string, array, object, Items, no_items, item, no_members, member}
+use Rattle.train_nodes.specs.declared.kinds.ValueKind.{ValueKind}
+use Rattle.train_nodes.specs.declared.kinds.ValueKind.TheVariants as values
 use Rattle.message_reader.specs.declared.wire.WireCall.{WireCall}
 use Rattle.message_reader.specs.declared.wire.WireRef.{WireRef}
 use Rattle.message_reader.specs.declared.wire.Connect.{Connect as AConnect}
@@ -39,6 +41,10 @@ unfoldable pub call_objects : List WireCall → Items
 call_objects [] = no_items
 call_objects (c ∷ cs) = item (call_object c) (call_objects cs)
 
+abbrev pub value_name : ValueKind → List ℕ
+value_name values.Report = codes "report"
+value_name values.Forecast = codes "forecast"
+
 abbrev pub connect_name : AConnect → List ℕ
 connect_name connects.Keep = codes "keep"
 connect_name connects.Drop = codes "drop"
@@ -46,13 +52,13 @@ connect_name connects.Rule = codes "rule"
 
 -- the object that says a message, with its members in the order of their names
 abbrev pub object_of : Wire → Data
-object_of (Event report trip date call dep secs) =
+object_of (Event kind trip date call dep secs) =
     object (member (codes "call") (number (unsigned call))
     (member (codes "date") (string (date_text date))
     (member (codes "event") (string (if dep then codes "dep" else codes "arr"))
     (member (codes "time") (string (time_text secs))
     (member (codes "trip") (string trip)
-    (member (codes "type") (string (if report then codes "report" else codes "forecast"))
+    (member (codes "type") (string (value_name kind))
     (member (codes "v") (number (unsigned 1)) no_members)))))))
 object_of (Cancel trip date from to) =
     object (member (codes "date") (string (date_text date))
@@ -95,7 +101,7 @@ query_object client from to date secs =
 
 -- every label of the message is a number of 32 bits, as labels are
 abbrev pub HasLabels : Wire → Type 0
-HasLabels (Event report trip date call dep secs) = call < 2 ^ 32
+HasLabels (Event kind trip date call dep secs) = call < 2 ^ 32
 HasLabels (Cancel trip date from to) = (from < 2 ^ 32) × (to < 2 ^ 32)
 HasLabels (Reroute trip date from to via) = (from < 2 ^ 32) × (to < 2 ^ 32)
 HasLabels (Extra trip date route calls) = Unit {0}

@@ -13,7 +13,7 @@ IsWireCall c = (c.arr ≤ 359999) × (c.dep ≤ 359999)
 
 -- every date is civil, every time is at most 99:59:59, and an extra train has at least two calls
 abbrev pub IsWire : Wire → Type 0
-IsWire (Event report trip date call dep secs) = IsCivil date × (secs ≤ 359999)
+IsWire (Event kind trip date call dep secs) = IsCivil date × (secs ≤ 359999)
 IsWire (Cancel trip date from to) = IsCivil date
 IsWire (Reroute trip date from to via) = IsCivil date × All IsWireCall via
 IsWire (Extra trip date route calls) = IsCivil date × All IsWireCall calls × (2 ≤ length calls)

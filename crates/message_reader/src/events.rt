@@ -12,11 +12,12 @@ use crate::wire::Wire;
 use mt_base::names::Name;
 use serde_json::Value;
 use std::alloc::Global;
+use train_nodes::kinds::ValueKind;
 
 /// A report or a forecast.
 #[tactic(auto, unfolding(crate::specs::Messages::event_of))]
-pub fn event(alloc: Global, report: bool, value: &Value) -> Result<Wire, Bad>
-    ensures exact { Gives result (event_of report (view value.now)) }
+pub fn event(alloc: Global, kind: ValueKind, value: &Value) -> Result<Wire, Bad>
+    ensures exact { Gives result (event_of kind (view value.now)) }
     ensures kept { IfOk result IsWire }
 {
     let trip = text_at(value, "trip").ok_or(Bad::Shape)?;
@@ -28,7 +29,7 @@ pub fn event(alloc: Global, report: bool, value: &Value) -> Result<Wire, Bad>
     let date = date(day.as_bytes()).ok_or(Bad::Time)?;
     let secs = seconds(time.as_bytes()).ok_or(Bad::Time)?;
     Ok(Wire::Event {
-        report,
+        kind,
         trip: Name::build(alloc, trip)?,
         date,
         call,

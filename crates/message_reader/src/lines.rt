@@ -17,6 +17,7 @@ use crate::wire::{Connect, Line};
 use schedule_build::Directory;
 use serde_json::Value;
 use std::alloc::Global;
+use train_nodes::kinds::ValueKind;
 
 fn utf8(bytes: &[u8]) -> Result<&str, Bad>
     ensures { GivesAs (λ s. s.now) result (utf8_of bytes.now) }
@@ -55,8 +56,8 @@ fn message(alloc: Global, dir: &Directory, kind: Kind, value: &Value) -> Result<
     ensures kept { IfOk result IsLine }
 {
     let wire = match kind {
-        Kind::Forecast => event(alloc, false, value)?,
-        Kind::Report => event(alloc, true, value)?,
+        Kind::Forecast => event(alloc, ValueKind::Forecast, value)?,
+        Kind::Report => event(alloc, ValueKind::Report, value)?,
         Kind::Cancel => cancel(alloc, value)?,
         Kind::Reroute => reroute(alloc, value)?,
         Kind::Extra => extra(alloc, value)?,

@@ -16,12 +16,13 @@ use mt_base::numbers::{Label, TrainNo};
 use schedule_build::Directory;
 use std::alloc::Global;
 use train_nodes::Msg;
+use train_nodes::kinds::ValueKind;
 
 /// A report or a forecast.
 #[tactic(auto, unfolding(crate::specs::Resolved::event_resolved))]
 fn event(
     dir: &Directory,
-    report: bool,
+    kind: ValueKind,
     trip: &Name,
     date: u32,
     call: Label,
@@ -29,7 +30,7 @@ fn event(
     secs: u32,
 ) -> Result<Message, ResolveFault>
     requires { secs ≤ 359999 }
-    ensures exact { Resolves result (event_resolved dir.now report trip.now date call dep secs) }
+    ensures exact { Resolves result (event_resolved dir.now kind trip.now date call dep secs) }
     ensures kept { IfOk result IsWellFormed }
     ensures few { IfOk result HasFewCalls }
 {
@@ -40,11 +41,10 @@ fn event(
         dep,
     };
     let time = time_on(dir, found.day, secs);
-    if report {
-        Ok(Message::Report { node, time })
-    } else {
-        Ok(Message::Forecast { node, time })
-    }
+    Ok(match kind {
+        ValueKind::Report => Message::Report { node, time },
+        ValueKind::Forecast => Message::Forecast { node, time },
+    })
 }
 
 /// A cancelled stretch.
@@ -155,13 +155,13 @@ fn message(alloc: Global, wire: &Wire, dir: &Directory) -> Result<Message, Resol
 {
     match wire {
         Wire::Event {
-            report,
+            kind,
             trip,
             date,
             call,
             dep,
             secs,
-        } => event(dir, *report, trip, *date, *call, *dep, *secs),
+        } => event(dir, *kind, trip, *date, *call, *dep, *secs),
         Wire::Cancel {
             trip,
             date,

@@ -63,7 +63,7 @@ fn stop(dir: &Directory, id: &str) -> Option<StopNo>
     ensures { result ≡ stop_named dir.now id.now }
 {
     let place = dir.stop(id)?;
-    if dir.stop_kind(place) == 0 {
+    if dir.stop_kind(place)?.is_platform() {
         Some(place)
     } else {
         None

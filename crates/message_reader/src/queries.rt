@@ -23,7 +23,7 @@ fn stop_or_station(dir: &Directory, id: &str) -> Option<StopNo>
     ensures { result ≡ stop_or_station_named dir.now id.now }
 {
     let place = dir.stop(id)?;
-    if dir.stop_kind(place) <= 1 {
+    if dir.stop_kind(place)?.is_platform_or_station() {
         Some(place)
     } else {
         None

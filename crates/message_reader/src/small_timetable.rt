@@ -1,18 +1,20 @@
 //! Names for the tests: two service days without a train, a stop, a station and an entrance.
 
 ghost use Rattle.std.specs.Prelude.{◌≡◌, [], ◌∷◌, None, IfOk, codes};
+ghost use Rattle.mt_base.specs.declared.places.PlaceKind.TheVariants.{Platform, Station, Entrance};
 
 use feed_tables::FeedTables;
 use mt_base::memory::OutOfMemory;
 use mt_base::names::Name;
 use mt_base::options::Opts;
+use mt_base::places::PlaceKind;
 use mt_base::rows::Rows;
 use mt_base::tables::{StopRow, Tables};
 use schedule_build::{Directory, ExpandFault, expand};
 use std::alloc::Global;
 
 /// A place that stands alone.
-fn place(alloc: Global, id: &str, kind: u32) -> Result<StopRow, OutOfMemory>
+fn place(alloc: Global, id: &str, kind: PlaceKind) -> Result<StopRow, OutOfMemory>
     ensures { IfOk result (λ row. row ≡ record { id = id.now; kind = kind; parent = None }) }
 {
     Ok(StopRow {
@@ -24,12 +26,12 @@ fn place(alloc: Global, id: &str, kind: u32) -> Result<StopRow, OutOfMemory>
 
 /// The stop A, the station B and the entrance C.
 fn places(alloc: Global) -> Result<Vec<StopRow>, OutOfMemory>
-    ensures { IfOk result (λ rows. rows.items ≡ record { id = codes "A"; kind = 0; parent = None } ∷ record { id = codes "B"; kind = 1; parent = None } ∷ record { id = codes "C"; kind = 2; parent = None } ∷ []) }
+    ensures { IfOk result (λ rows. rows.items ≡ record { id = codes "A"; kind = Platform; parent = None } ∷ record { id = codes "B"; kind = Station; parent = None } ∷ record { id = codes "C"; kind = Entrance; parent = None } ∷ []) }
 {
     let mut rows = Vec::new(alloc);
-    rows.push(place(alloc, "A", 0)?)?;
-    rows.push(place(alloc, "B", 1)?)?;
-    rows.push(place(alloc, "C", 2)?)?;
+    rows.push(place(alloc, "A", PlaceKind::Platform)?)?;
+    rows.push(place(alloc, "B", PlaceKind::Station)?)?;
+    rows.push(place(alloc, "C", PlaceKind::Entrance)?)?;
     Ok(rows)
 }
 

@@ -2,6 +2,7 @@ use crate::small_timetable::directory;
 use crate::{Bad, Connect, Line, Wire, WireCall, WireRef, read_line};
 use std::alloc::Global;
 use std::test::Fail;
+use train_nodes::kinds::ValueKind;
 
 fn read(alloc: Global, line: &[u8]) -> Result<Line, Bad> {
     match directory(alloc) {
@@ -27,14 +28,14 @@ fn message(alloc: Global, line: &[u8]) -> Option<Wire> {
 fn is_forecast(wire: &Wire) -> bool {
     match wire {
         Wire::Event {
-            report,
+            kind,
             trip,
             date,
             call,
             dep,
             secs,
         } => {
-            !*report
+            *kind == ValueKind::Forecast
                 && trip.text() == "T1"
                 && *date == 20260105
                 && call.get() == 1
@@ -58,14 +59,14 @@ fn forecast(rt: HostRuntime) {
 fn is_report(wire: &Wire) -> bool {
     match wire {
         Wire::Event {
-            report,
+            kind,
             trip,
             date,
             call,
             dep,
             secs,
         } => {
-            *report
+            *kind == ValueKind::Report
                 && trip.text() == ""
                 && *date == 229
                 && call.get() == 4294967295

@@ -4,6 +4,7 @@ use mt_base::names::Name;
 use mt_base::numbers::{Day, Label};
 use mt_base::plans;
 use mt_base::rows::Rows;
+use train_nodes::kinds::ValueKind;
 
 /// A call of a rerouted or an extra train.
 #[derive(Drop)]
@@ -47,8 +48,8 @@ pub enum Connect {
 pub enum Wire {
     /// An event took place or is expected at a time.
     Event {
-        /// Whether it took place.
-        report: bool,
+        /// Whether it took place or is expected.
+        kind: ValueKind,
         /// The id of the trip.
         trip: Name,
         /// The service day as the number YYYYMMDD.

@@ -7,6 +7,8 @@ use Rattle.mt_base.specs.declared.options.Opts.{Opts}
 use Rattle.mt_base.specs.declared.plans.NewCall.{NewCall}
 use Rattle.mt_base.specs.declared.plans.Query.{Query}
 use Rattle.mt_base.specs.declared.plans.PlanRide.{PlanRide}
+use Rattle.mt_base.specs.declared.places.PlaceKind.{PlaceKind}
+use Rattle.mt_base.specs.declared.places.PlaceKind.TheVariants.{Platform, Station}
 use Rattle.mt_base.specs.declared.tables.StopRow.{StopRow}
 use Rattle.mt_base.specs.declared.tables.TransferRow.{TransferRow}
 use Rattle.mt_base.specs.declared.tables.RuleRow.{RuleRow}
@@ -28,7 +30,7 @@ use Rattle.delay_model.specs.Timing.{event_time}
 use Rattle.delay_model.specs.Touched.{changed_count}
 use Rattle.delay_model.specs.Effect.{effect}
 use Rattle.delay_model.specs.After.{after, AreAccepted, Reading}
-use Rattle.delay_model.specs.Windows.{Bounds}
+use Rattle.delay_model.specs.Windows.{Answer}
 
 -- a time of day in seconds
 abbrev pub clock : ℕ → ℕ → ℕ → ℕ
@@ -42,8 +44,8 @@ opts = record { slack = 0; stop = 60; change = 180; window = 1800; spare_trains 
 abbrev pub with_slack : Opts
 with_slack = record opts { slack = 7 }
 
--- a row of stops.txt: its id (one letter), location type and parent_station
-abbrev pub place : ℕ → ℕ → Option ℕ → StopRow
+-- a row of stops.txt: its id (one letter), the kind of place and parent_station
+abbrev pub place : ℕ → PlaceKind → Option ℕ → StopRow
 place id kind parent = record { id = id ∷ []; kind = kind; parent = parent }
 
 abbrev pub stop_a : ℕ
@@ -67,7 +69,8 @@ stop_d = 5
 -- the stops A, C and D, and the station B with two platforms
 abbrev pub stops : List StopRow
 stops =
-    place 65 0 None ∷ place 66 1 None ∷ place 67 0 (Some station_b) ∷ place 68 0 (Some station_b) ∷ place 69 0 None ∷ place 70 0 None ∷ []
+    place 65 Platform None ∷ place 66 Station None ∷ place 67 Platform (Some station_b) ∷ place 68 Platform (Some station_b)
+    ∷ place 69 Platform None ∷ place 70 Platform None ∷ []
 
 -- trains of the second route wait so long for trains of the first, at any stop
 abbrev pub waits_for : ℕ → RuleRow
@@ -240,8 +243,9 @@ ride train board board_stop board_time alight alight_stop alight_time =
       alight_time = alight_time;
     }
 
-abbrev pub within : ℕ → ℕ → Bounds
-within lower upper = record { lower = lower; upper = upper }
+-- a client's query that was answered after so many accepted messages
+abbrev pub answered : ℕ → ℕ → Answer ℕ
+answered client count = record { client = client; count = count }
 
 -- the second train where passengers may board at B and alight at D, or not, and a state in which no other runs
 abbrev pub t2_by : Bool → Bool → Train

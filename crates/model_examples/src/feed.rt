@@ -16,6 +16,7 @@ use mt_base::memory::OutOfMemory;
 use mt_base::names::Name;
 use mt_base::numbers::{Day, Label, RouteNo, StopNo, Time};
 use mt_base::options::Opts;
+use mt_base::places::PlaceKind;
 use mt_base::rows::Rows;
 use mt_base::tables::{RuleRow, StopRow};
 use std::alloc::Global;
@@ -39,7 +40,7 @@ pub fn options() -> Opts
 fn stop(
     alloc: Global,
     letter: &str,
-    kind: u32,
+    kind: PlaceKind,
     parent: Option<StopNo>,
 ) -> Result<StopRow, OutOfMemory>
     ensures { IfOk result (λ row. row ≡ record { id = letter.now; kind = kind; parent = parent }) }
@@ -53,12 +54,12 @@ fn list_stops(alloc: Global) -> Result<Vec<StopRow>, OutOfMemory>
 {
     let station = Some(StopNo::new(1));
     let mut rows = Vec::new(alloc);
-    rows.push(stop(alloc, "A", 0, None)?)?;
-    rows.push(stop(alloc, "B", 1, None)?)?;
-    rows.push(stop(alloc, "C", 0, station)?)?;
-    rows.push(stop(alloc, "D", 0, station)?)?;
-    rows.push(stop(alloc, "E", 0, None)?)?;
-    rows.push(stop(alloc, "F", 0, None)?)?;
+    rows.push(stop(alloc, "A", PlaceKind::Platform, None)?)?;
+    rows.push(stop(alloc, "B", PlaceKind::Station, None)?)?;
+    rows.push(stop(alloc, "C", PlaceKind::Platform, station)?)?;
+    rows.push(stop(alloc, "D", PlaceKind::Platform, station)?)?;
+    rows.push(stop(alloc, "E", PlaceKind::Platform, None)?)?;
+    rows.push(stop(alloc, "F", PlaceKind::Platform, None)?)?;
     Ok(rows)
 }
 

@@ -1,3 +1,4 @@
 pub mod Order
 pub mod Options
 pub mod Civil
+pub mod Places

@@ -1,6 +1,6 @@
 //! Events by name, and the order in which they are settled.
 
-ghost use Rattle.std.specs.Prelude.{◌≡◌};
+ghost use Rattle.std.specs.Prelude.{◌≡◌, true, false};
 ghost use Rattle.std.specs.Cmp.{IsTotalOrder};
 ghost use Rattle.std.specs.declared.cmp.Ordering.TheVariants.{Equal};
 ghost use Rattle.mt_base.specs.declared.keys.Key.{Key as AKey};
@@ -23,6 +23,28 @@ pub struct Node {
 }
 
 impl Node {
+    /// The arrival of a train's call.
+    pub fn arrival(train: TrainNo, label: Label) -> Node
+        ensures { result ≡ record { train = train; label = label; dep = false } }
+    {
+        Node {
+            train,
+            label,
+            dep: false,
+        }
+    }
+
+    /// The departure of a train's call.
+    pub fn departure(train: TrainNo, label: Label) -> Node
+        ensures { result ≡ record { train = train; label = label; dep = true } }
+    {
+        Node {
+            train,
+            label,
+            dep: true,
+        }
+    }
+
     /// The key of the event where it is scheduled at `time`.
     pub fn key(&self, time: Time) -> Key
         ensures { result ≡ key_of time self.now }

@@ -7,6 +7,7 @@ pub mod memory;
 pub mod names;
 pub mod numbers;
 pub mod options;
+pub mod places;
 pub mod plans;
 pub mod rows;
 pub mod tables;
@@ -17,6 +18,7 @@ pub use memory::OutOfMemory;
 pub use names::Name;
 pub use numbers::{Day, Label, RouteNo, StopNo, Time, TrainNo};
 pub use options::Opts;
+pub use places::PlaceKind;
 pub use plans::{Entry, NewCall, PlanRide, Query};
 pub use rows::Rows;
 pub use tables::{

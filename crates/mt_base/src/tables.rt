@@ -2,6 +2,7 @@
 
 use crate::names::Name;
 use crate::numbers::{RouteNo, StopNo};
+use crate::places::PlaceKind;
 use crate::rows::Rows;
 
 /// Of what a feed has too many.
@@ -31,8 +32,8 @@ pub enum What {
 pub struct StopRow {
     /// `stop_id`.
     pub id: Name,
-    /// `location_type`: 0 a stop or platform, 1 a station, 2 to 4 other locations.
-    pub kind: u32,
+    /// `location_type`.
+    pub kind: PlaceKind,
     /// `parent_station`, where the row gives one.
     pub parent: Option<StopNo>,
 }

@@ -1,7 +1,9 @@
 pub mod CallLemmas
 pub mod DateLemmas
+pub mod ExtraLemmas
 pub mod FitLemmas
 pub mod GoodTrains
+pub mod InStepLemmas
 pub mod NumberLemmas
 pub mod RunLemmas
 pub mod SmallTimes

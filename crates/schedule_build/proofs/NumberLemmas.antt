@@ -2,6 +2,7 @@
 use Rattle.schedule_build.proofs.Words.{◌≡◌, ◌+◌, ◌-◌, ◌<◌, ◌≤◌, ◌++◌, ◌∷◌, [], ℕ, suc, List, Option, Some, None, Bool, true, false, length, All, map, inl, inr, refl, arith, if◌then◌else◌}
 use Rattle.schedule_build.proofs.Words.{slice_index_or, number_from}
 use Rattle.std.proofs.lemmas.Bool.{cases_Bool}
+use Rattle.std.specs.Option.{option_map}
 
 -- the first number, or else another
 abbrev pub first_of : Option ℕ → Option ℕ → Option ℕ
@@ -16,6 +17,18 @@ number_from-map f test at (x ∷ xs) = rw (number_from-map f test (at + 1) xs) r
 pub number_from-end : {X : Type 0} (test : X → Bool) (at : ℕ) (xs : List X) (y : X) → number_from at test (xs ++ y ∷ []) ≡ first_of (number_from at test xs) (if test y then Some (at + length xs) else None)
 number_from-end test at [] y = grind arith
 number_from-end test at (x ∷ xs) y = grind (arith, number_from-end test (at + 1) xs y)
+
+-- one list after another
+number_from-on : {X : Type 0} (test : X → Bool) (at more : ℕ) (xs : List X) → number_from (more + at) test xs ≡ option_map (λ n. more + n) (number_from at test xs)
+number_from-on test at more [] = refl
+number_from-on test at more (x ∷ xs) = let next : more + at + 1 ≡ more + (at + 1) = omega arith in grind (arith, number_from-on test (at + 1) more xs)
+
+pub numbers_after : {X : Type 0} (test : X → Bool) (xs ys : List X) → number_from 0 test (xs ++ ys) ≡ first_of (number_from 0 test xs) (option_map (λ n. length xs + n) (number_from 0 test ys))
+numbers_after test xs ys = rw (from 0 xs, ← number_from-on test 0 (length xs) ys) refl
+  where
+    from : (at : ℕ) (zs : List _) → number_from at test (zs ++ ys) ≡ first_of (number_from at test zs) (number_from (length zs + at) test ys)
+    from at [] = let e : 0 + at ≡ at = omega arith in rw e refl
+    from at (z ∷ zs) = let e : suc (length zs) + at ≡ length zs + (at + 1) = omega arith in rw e (grind (arith, from (at + 1) zs))
 
 -- a number that was found is one of the list's, and the test holds there
 pub record IsFound {X : Type 0} (test : X → Bool) (at : ℕ) (xs : List X) (n : ℕ) : Type 0 where

@@ -1,7 +1,9 @@
 -- The names of a timetable, and what they stand for.
-use Rattle.std.specs.Prelude.{ℕ, zero, suc, ◌+◌, ◌*◌, List, [], ◌∷◌, ◌++◌, Bool, ◌&&◌, if◌then◌else◌, Option, None, Some, nat_eq, bytes_eq, slice_index_or, map}
-use Rattle.std.specs.Option.{option_map_or}
+use Rattle.std.specs.Prelude.{ℕ, zero, suc, ◌+◌, ◌-◌, ◌*◌, List, [], ◌∷◌, ◌++◌, Bool, ◌&&◌, if◌then◌else◌, Option, None, Some, nat_eq, bytes_eq, slice_index_or, map}
+use Rattle.std.specs.Option.{option_map, option_map_or}
 use Rattle.std.specs.Prelude.{slice_get}
+use Rattle.mt_base.specs.declared.options.Opts.{Opts}
+use Rattle.mt_base.specs.declared.places.PlaceKind.{PlaceKind}
 use Rattle.mt_base.specs.declared.tables.StopRow.{StopRow}
 use Rattle.mt_base.specs.declared.tables.TripRow.{TripRow}
 use Rattle.mt_base.specs.declared.tables.Tables.{Tables}
@@ -10,17 +12,19 @@ use Rattle.schedule_build.specs.declared.runs.Run.{Run}
 use Rattle.schedule_build.specs.Dates.{date_after}
 use Rattle.schedule_build.specs.Runs.{all_runs}
 
--- a place of the feed: its `stop_id` in bytes, and its `location_type`
+-- a place of the feed: its `stop_id` in bytes, and its kind
 pub record Place : Type 0 where
   pub id : List ℕ
-  pub kind : ℕ
+  pub kind : PlaceKind
 
--- the dates of the loaded days, the places, the routes and the trains, each in the order of their numbers
+-- the dates of the loaded days, the places, the routes and the trains, each in the order of their numbers; and for how many extra
+-- trains there is still room
 pub record Names : Type 0 where
   pub dates : List ℕ
   pub places : List Place
   pub routes : List (List ℕ)
   pub trains : List TrainName
+  pub spare_trains : ℕ
 
 -- ---- from names to numbers
 
@@ -67,15 +71,16 @@ day_of_train names train = option_map_or (λ (t : TrainName). t.day) (slice_get 
 abbrev pub id_of_place : Names → ℕ → List ℕ
 id_of_place names place = option_map_or (λ (p : Place). p.id) (slice_get names.places place) []
 
--- the `location_type` of a place
-abbrev pub kind_of_place : Names → ℕ → ℕ
-kind_of_place names place = option_map_or (λ (p : Place). p.kind) (slice_get names.places place) 0
+-- the kind of a place
+abbrev pub kind_of_place : Names → ℕ → Option PlaceKind
+kind_of_place names place = option_map (λ (p : Place). p.kind) (slice_get names.places place)
 
 -- ---- one more train
 
--- the names with one more train, which gets the next number
+-- the names with one more train, which gets the next number. One extra train less is spare
 abbrev pub with_extra : List ℕ → ℕ → Names → Names
-with_extra trip day names = record names { trains = names.trains ++ record { trip = trip; day = day } ∷ [] }
+with_extra trip day names =
+    record names { trains = names.trains ++ record { trip = trip; day = day } ∷ []; spare_trains = names.spare_trains - 1 }
 
 -- ---- the names of a feed
 
@@ -92,12 +97,13 @@ place_of_row r = record { id = r.id; kind = r.kind }
 abbrev pub name_of_run : List TripRow → Run → TrainName
 name_of_run trips r = record { trip = option_map_or (λ (t : TripRow). t.id) (slice_get trips r.trip) []; day = r.day }
 
--- the names of a feed's timetable of so many days from the date `first` on
-abbrev pub names_of : Tables → ℕ → ℕ → Names
-names_of t first days =
+-- the names of a feed's timetable of so many days from the date `first` on, with room for what the options spare
+abbrev pub names_of : Tables → ℕ → ℕ → Opts → Names
+names_of t first days o =
     record {
       dates = dates_from first 0 days;
       places = map place_of_row t.stops;
       routes = t.routes;
       trains = map (name_of_run t.trips) (all_runs t first days);
+      spare_trains = o.spare_trains;
     }

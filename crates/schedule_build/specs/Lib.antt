@@ -2,10 +2,12 @@ pub mod Dates
 pub mod Directory
 pub mod Faults
 pub mod Groups
+pub mod InStep
 pub mod Runs
 pub mod Schedule
 pub mod Seen
 pub mod Services
 pub mod Stored
+pub mod StoredExtras
 pub mod StoredTrains
 pub mod TripCalls

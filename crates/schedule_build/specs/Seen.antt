@@ -1,6 +1,20 @@
--- A directory as contracts see it.
+-- A directory as contracts see it, and what it keeps.
+use Rattle.std.specs.Prelude.{◌+◌, ◌<◌, ◌≤◌, ◌^◌, ◌++◌, length}
 use Rattle.schedule_build.specs.declared.directory.Directory.TheInside.{Inside}
 use Rattle.schedule_build.specs.Directory.{Names}
 
+-- the extra trains are numbered on from the loaded ones
 abbrev pub seen : Inside → Names
-seen a = record { dates = a.dates.items; places = a.places; routes = a.routes; trains = a.trains }
+seen a =
+    record {
+      dates = a.dates.items;
+      places = a.places;
+      routes = a.routes;
+      trains = a.trains ++ a.extras.names;
+      spare_trains = a.extras.spare;
+    }
+
+-- there are at most 31 days, and each train has a number of 32 bits, also those that are spare
+pub record IsStored (a : Inside) : Type 0 where
+  pub days : length a.dates.items ≤ 31
+  pub few : length a.trains + length a.extras.names + a.extras.spare < 2 ^ 32

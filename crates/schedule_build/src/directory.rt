@@ -1,23 +1,28 @@
 //! The names of a timetable, and the numbers that they stand for.
 
-ghost use Rattle.std.specs.Prelude.{◌≡◌, ◌+◌, ◌<◌, ◌≤◌, ◌^◌, IfSome, OnOk, OnErr, length};
+ghost use Rattle.std.specs.Prelude.{◌≡◌, ◌<◌, ◌≤◌, ◌++◌, None, IfOk, IfSome, length};
 ghost use Rattle.schedule_build.specs.Directory.{train_named, day_named, place_named, route_named, date_of_day, base_of, trip_of_train, day_of_train, id_of_place, kind_of_place, with_extra};
 
+use crate::extra_name::ExtraName;
+use crate::extra_trains::ExtraTrains;
 use crate::name_list::NameList;
 use crate::places::Places;
 use crate::train_names::TrainNames;
 use mt_base::memory::OutOfMemory;
 use mt_base::numbers::{Day, RouteNo, StopNo, Time, TrainNo};
+use mt_base::places::PlaceKind;
 use std::alloc::Global;
 use std::marker::Model;
 
-/// The names of the trains, places, routes and days of a timetable. It is seen as these names in the order of their numbers.
+/// The names of the trains, places, routes and days of a timetable. It is seen as these names in the order of their numbers, with how
+/// many extra trains can still be added.
 #[derive(Drop)]
 pub struct Directory {
     dates: Vec<u32>,
     places: Places,
     routes: NameList,
     trains: TrainNames,
+    extras: ExtraTrains,
 }
 
 impl Model for Directory {
@@ -25,51 +30,71 @@ impl Model for Directory {
 
     ghost Value = { Names };
 
-    ghost use Rattle.std.specs.Prelude.{◌≤◌, length};
-    ghost use Rattle.schedule_build.specs.Seen.{seen};
+    ghost use Rattle.schedule_build.specs.Seen.{seen, IsStored};
 
     ghost view = { seen };
 
-    ghost invariant = { λ a. length a.dates.items ≤ 31 };
+    ghost invariant = { IsStored };
 }
 
 impl Directory {
-    /// The directory with the dates of the loaded days, and with these places, routes and trains.
+    /// The directory with the dates of the loaded days, with these places, routes and trains, and with room for extra trains.
     pub(crate) fn build(
         dates: Vec<u32>,
         places: Places,
         routes: NameList,
         trains: TrainNames,
+        extras: ExtraTrains,
     ) -> Directory
-        requires { length dates.items ≤ 31 }
-        ensures { result ≡ record { dates = dates.items; places = places; routes = routes; trains = trains } }
+        requires days { length dates.items ≤ 31 }
+        requires few { length trains ≤ 200000 }
+        ensures dates { result.dates ≡ dates.items }
+        ensures places { result.places ≡ places }
+        ensures routes { result.routes ≡ routes }
+        ensures trains { result.trains ≡ trains ++ extras.names }
+        ensures spare { result.spare_trains ≡ extras.spare }
     {
         Directory {
             dates,
             places,
             routes,
             trains,
+            extras,
         }
     }
 
-    /// The name of one more train, which gets the next number. After an error nothing is changed.
-    pub fn add_extra(&mut self, alloc: Global, trip: &str, day: Day) -> Result<(), OutOfMemory>
+    /// The name of an extra train on a loaded service day, ready to be added.
+    pub fn extra_name(&self, alloc: Global, trip: &str, day: Day) -> Result<ExtraName, OutOfMemory>
         requires loaded { day < 31 }
-        requires few { length self.old.trains + 1 < 2 ^ 32 }
-        ensures ok { OnOk result (self.new ≡ with_extra trip.now day self.old) }
-        ensures err { OnErr result (self.new ≡ self.old) }
+        ensures { IfOk result (λ name. name ≡ record { trip = trip.now; day = day }) }
     {
-        self.trains.push(alloc, trip, day)
+        ExtraName::build(alloc, trip, day)
+    }
+
+    /// Adds an extra train, which gets the next number. It takes no memory.
+    #[tactic(auto, using(crate::proofs::NumberLemmas::numbers_after), unfolding(crate::specs::Directory::train_named))]
+    pub fn add_extra(&mut self, name: ExtraName) -> TrainNo
+        requires spare { 0 < self.old.spare_trains }
+        requires new { train_named self.old name.trip name.day ≡ None }
+        ensures number { result ≡ length self.old.trains }
+        ensures names { self.new ≡ with_extra name.trip name.day self.old }
+    {
+        let number = self.trains();
+        self.extras.add(name);
+        TrainNo::new(number)
     }
 
     /// The train of a trip on a service day. None exactly where there is none.
-    #[tactic(auto, unfolding(crate::specs::Directory::train_named))]
+    #[tactic(auto, using(crate::proofs::NumberLemmas::numbers_after), unfolding(crate::specs::Directory::train_named))]
     pub fn train(&self, trip: &str, day: Day) -> Option<TrainNo>
         ensures number { result ≡ train_named self.now trip.now day }
         ensures there { IfSome result (λ t. t < length self.now.trains) }
     {
-        let number = self.trains.find(trip, day)?;
-        Some(TrainNo::new(number))
+        if let Some(number) = self.trains.find(trip, day) {
+            return Some(TrainNo::new(number));
+        }
+        let extra = self.extras.find(trip, day)?;
+        Some(TrainNo::new(self.trains.len() + extra))
     }
 
     /// The loaded day that has a date, a number YYYYMMDD. None exactly where no loaded day has it.
@@ -123,26 +148,38 @@ impl Directory {
     pub fn trains(&self) -> u32
         ensures { result ≡ length self.now.trains }
     {
-        self.trains.len()
+        self.trains.len() + self.extras.len()
     }
 
     /// The `trip_id` of a train, or the empty text where there is no such train.
+    #[tactic(auto, using(crate::proofs::ExtraLemmas::read_after))]
     pub fn trip_name(&self, train: TrainNo) -> &str
         ensures { result.now ≡ trip_of_train self.now train }
     {
-        self.trains.trip(train.get())
+        let loaded = self.trains.len();
+        if train.get() < loaded {
+            self.trains.trip(train.get())
+        } else {
+            self.extras.trip(train.get() - loaded)
+        }
     }
 
     /// The service day of a train, or day 0 where there is no such train.
+    #[tactic(auto, using(crate::proofs::ExtraLemmas::read_after))]
     pub fn train_day(&self, train: TrainNo) -> Day
         ensures day { result ≡ day_of_train self.now train }
         ensures loaded { result < 31 }
     {
-        self.trains.day(train.get())
+        let loaded = self.trains.len();
+        if train.get() < loaded {
+            self.trains.day(train.get())
+        } else {
+            self.extras.day(train.get() - loaded)
+        }
     }
 
-    /// The `location_type` of a place, or 0 where there is no such place.
-    pub fn stop_kind(&self, stop: StopNo) -> u32
+    /// The kind of a place. None exactly where there is no such place.
+    pub fn stop_kind(&self, stop: StopNo) -> Option<PlaceKind>
         ensures { result ≡ kind_of_place self.now stop }
     {
         self.places.kind(stop.get())

@@ -2,12 +2,14 @@
 
 ghost use Rattle.std.specs.Prelude.{◌≡◌, ◌<◌, ◌≤◌, All, IfOk, length, map};
 ghost use Rattle.mt_base.specs.Civil.{IsCivil};
+ghost use Rattle.mt_base.specs.Options.{IsInRange};
 ghost use Rattle.schedule_build.specs.Directory.{dates_from, name_of_run, names_of};
 ghost use Rattle.schedule_build.specs.Runs.{all_runs};
 ghost use Rattle.schedule_build.specs.declared.runs.Run.{Run};
 
 use crate::dates::date_after;
 use crate::directory::Directory;
+use crate::extra_trains::ExtraTrains;
 use crate::name_list::NameList;
 use crate::places::Places;
 use crate::runs::Run;
@@ -15,6 +17,7 @@ use crate::train_names::TrainNames;
 use mt_base::memory::OutOfMemory;
 use mt_base::names::Name;
 use mt_base::numbers::Day;
+use mt_base::options::Opts;
 use mt_base::tables::{Tables, TripRow};
 use std::alloc::Global;
 
@@ -67,25 +70,29 @@ fn trains(alloc: Global, trips: &[TripRow], runs: &[Run]) -> Result<TrainNames, 
     Ok(trains)
 }
 
-/// The names of a feed's timetable of so many days from the date `first` on, of which these are the runs.
+/// The names of a feed's timetable of so many days from the date `first` on, of which these are the runs, with room for what the
+/// options spare.
 pub(crate) fn directory_of(
     alloc: Global,
     t: &Tables,
     runs: &[Run],
     first: u32,
     days: u32,
+    opts: &Opts,
 ) -> Result<Directory, OutOfMemory>
     requires civil { IsCivil first }
     requires year { first < 21010000 }
     requires few_days { days ≤ 31 }
+    requires options { IsInRange opts.now }
     requires runs { runs.now ≡ all_runs t.now first days }
     requires few_runs { length runs.now ≤ 200000 }
     requires loaded { All (λ (r : Run). r.day < 31) runs.now }
-    ensures { IfOk result (λ directory. directory ≡ names_of t.now first days) }
+    ensures { IfOk result (λ directory. directory ≡ names_of t.now first days opts.now) }
 {
     let places = Places::build(alloc, t.stops.as_slice())?;
     let routes = names(alloc, t.routes.as_slice())?;
     let trains = trains(alloc, t.trips.as_slice(), runs)?;
     let dates = dates(alloc, first, days)?;
-    Ok(Directory::build(dates, places, routes, trains))
+    let extras = ExtraTrains::with_room(alloc, opts.spare_trains)?;
+    Ok(Directory::build(dates, places, routes, trains, extras))
 }

@@ -4,8 +4,11 @@
 pub mod dates;
 pub mod directory;
 mod directory_of;
+pub mod extra_name;
+mod extra_trains;
 pub mod faults;
 mod groups;
+pub mod in_step;
 mod name_list;
 mod name_numbers;
 mod places;
@@ -19,7 +22,9 @@ pub mod valid;
 
 pub use dates::date_after;
 pub use directory::Directory;
+pub use extra_name::ExtraName;
 pub use faults::ExpandFault;
+pub use in_step::messages_keep_names_in_step;
 pub use schedule::expand;
 pub use services::active;
 pub use valid::schedules_are_valid;

@@ -1,22 +1,23 @@
 //! The places of a feed by number and by name.
 
 ghost use Rattle.std.specs.Prelude.{◌≡◌, [], IfOk, map, slice_get};
-ghost use Rattle.std.specs.Option.{option_map_or};
+ghost use Rattle.std.specs.Option.{option_map, option_map_or};
 ghost use Rattle.schedule_build.specs.Directory.{Place, place_of_row};
 ghost use Rattle.schedule_build.specs.Stored.{number_of_place};
 
 use crate::name_numbers::NameNumbers;
 use mt_base::memory::OutOfMemory;
 use mt_base::names::Name;
+use mt_base::places::PlaceKind;
 use mt_base::tables::StopRow;
 use std::alloc::Global;
 use std::marker::Model;
 
-/// A place: its `stop_id` and its `location_type`.
+/// A place: its `stop_id` and its kind.
 #[derive(Drop)]
 pub(crate) struct StoredPlace {
     id: Name,
-    kind: u32,
+    kind: PlaceKind,
 }
 
 /// The places of a feed in the order of their numbers.
@@ -65,13 +66,13 @@ impl Places {
         self.numbers.find(id)
     }
 
-    /// The `location_type` of a place, or 0 where there is no such place.
-    pub(crate) fn kind(&self, number: u32) -> u32
-        ensures { result ≡ option_map_or (λ (p : Place). p.kind) (slice_get self.now number) 0 }
+    /// The kind of a place. None exactly where there is no such place.
+    pub(crate) fn kind(&self, number: u32) -> Option<PlaceKind>
+        ensures { result ≡ option_map (λ (p : Place). p.kind) (slice_get self.now number) }
     {
         match self.rows.get(number as usize) {
-            Some(place) => place.kind,
-            None => 0,
+            Some(place) => Some(place.kind),
+            None => None,
         }
     }
 

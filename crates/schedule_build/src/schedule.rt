@@ -8,6 +8,7 @@ ghost use Rattle.feed_tables.specs.Calls.{trip_of, times_of};
 ghost use Rattle.schedule_build.specs.Directory.{names_of};
 ghost use Rattle.schedule_build.specs.Faults.{IsFault};
 ghost use Rattle.schedule_build.specs.Groups.{IsGrouped};
+ghost use Rattle.schedule_build.specs.InStep.{AreInStep};
 ghost use Rattle.schedule_build.specs.Runs.{all_runs};
 ghost use Rattle.schedule_build.specs.Schedule.{IsFit, pushed, run_calls, count_calls, too_many, schedule_of, schedule};
 ghost use Rattle.schedule_build.specs.TripCalls.{IsTimely};
@@ -143,7 +144,8 @@ pub fn expand(
     requires few_days { days ≤ 31 }
     requires options { IsInRange opts.now }
     ensures schedule { IfOk result (λ r. r.0 ≡ schedule t.now first days opts.now) }
-    ensures names { IfOk result (λ r. r.1 ≡ names_of t.now first days) }
+    ensures names { IfOk result (λ r. r.1 ≡ names_of t.now first days opts.now) }
+    ensures in_step { IfOk result (λ r. AreInStep r.1 r.0) }
     ensures fits { IfOk result (λ _. too_many t.now.calls (all_runs t.now first days) ≡ None) }
     ensures fault { IfErr result (IsFault (too_many t.now.calls (all_runs t.now first days))) }
 {
@@ -154,6 +156,6 @@ pub fn expand(
         return Err(ExpandFault::TooMany { what: What::Nodes });
     };
     let trains = load(alloc, all.as_slice(), runs.as_slice(), calls, opts)?;
-    let directory = directory_of(alloc, tables, runs.as_slice(), first, days)?;
+    let directory = directory_of(alloc, tables, runs.as_slice(), first, days, opts)?;
     Ok((trains, directory))
 }

@@ -15,7 +15,7 @@ none-against [] h = All-nil IsForward
 none-against (e ∷ es) h = grind (arith, All-cons IsForward, none-against es)
 
 -- what is found is there, and passes
-found-there : {X : Type 0} (p : X → Bool) (xs : List X) (x : X) → find p xs ≡ Some x → Contains xs x × (p x ≡ true)
+pub found-there : {X : Type 0} (p : X → Bool) (xs : List X) (x : X) → find p xs ≡ Some x → Contains xs x × (p x ≡ true)
 found-there p [] x h = absurd (cc)
 found-there p (y ∷ ys) x h =
     elim (cases_Bool (p y)) [

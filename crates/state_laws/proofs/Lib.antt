@@ -23,3 +23,4 @@ pub mod Added
 pub mod Swapped
 pub mod Left
 pub mod Stays
+pub mod InRank

@@ -46,7 +46,7 @@ edges-from_each o P first [] h = All-nil P
 edges-from_each o P first (t ∷ ts) h =
     All-append P _ _ (h 0 first t (omega arith) refl) (edges-from_each o P (first + 1) ts (each-tail (λ n t. All P (edges_along o (events_of n t))) first t ts h))
 
-edges-each : (o : Opts) (P : Edge → Type 0) (first : ℕ) (ts : List Train) → All P (train_edges o first ts) → AtEach (λ n t. All P (edges_along o (events_of n t))) first ts
+pub edges-each : (o : Opts) (P : Edge → Type 0) (first : ℕ) (ts : List Train) → All P (train_edges o first ts) → AtEach (λ n t. All P (edges_along o (events_of n t))) first ts
 edges-each o P first [] h = each-none _ first
 edges-each o P first (t ∷ ts) h =
     each-from (λ n t. All P (edges_along o (events_of n t))) first t ts (All-left P _ _ h) (edges-each o P (first + 1) ts (All-right P (edges_along o (events_of first t)) _ h))

@@ -1,6 +1,7 @@
 //! What accepted messages keep.
 #![tactic(auto)]
 
+pub mod rank;
 pub mod touched;
 
 ghost use Rattle.std.specs.Prelude.{◌≡◌, List, None, All};

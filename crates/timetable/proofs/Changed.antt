@@ -1,13 +1,18 @@
 -- What a message that leaves the calls leaves: the live events and their order. And the list of the events that a message changes.
 use Rattle.timetable.proofs.Words.{◌≡◌, ◌+◌, Bool, true, not, ◌&&◌, ◌||◌, cond, nat_eq, List, [], ◌∷◌, ◌++◌, map, length, length-append, get_or, refl, sym, ◌∙◌, ap, arith, inl, inr, All}
 use Rattle.timetable.proofs.Words.{Contains, filter, and_from, length-map, All-contains_itself, Contains-append_left, Contains-append_right, Contains-append_cases, sum_by-IsPermutation}
-use Rattle.timetable.proofs.Words.{Contains-permutation, length-filter, Key, Node, is_before, is_same, node_of, same-itself, Network, Message, Report, Forecast, Cancel, Reroute, Extra, Keep}
-use Rattle.timetable.proofs.Words.{Drop, Rule, EventValues, State, Event, effect, reported, forecasted, change_calls, change_labelled, change_event, with_event, events, live_events}
+use Rattle.timetable.proofs.Words.{Contains-permutation, length-filter, Key, Node, is_before, is_same, node_of, same-itself, Network, ℕ, Option, Some, None}
+use Rattle.timetable.proofs.Words.{EventValues, State, Event, effect, reported, forecasted, change_calls, change_labelled, change_event, with_event, events, live_events}
 use Rattle.timetable.proofs.Words.{event_time, is_live_key, live_only, retimed, changed, names_of, IsTrain, IsLiveAt, Contains-filter, Contains-map, contains-unmap, mapping-events}
-use Rattle.timetable.proofs.Words.{IsSetting, set_at, set-shape, put_report, put_forecast, filter-none, Kept, IsShape, is_changed, changed_nodes, in_order, live_keys, IsOrderOf, HasItsTime}
+use Rattle.timetable.proofs.Words.{IsSetting, set_at, set-shape, put_report, put_forecast, filter-none, StoredTimes, message_by_choice, message_by_kind, is_changed, changed_nodes, in_order, live_keys, IsOrderOf, HasItsTime}
 use Rattle.timetable.proofs.Words.{has_another, next_labels, suc}
+use Rattle.delay_model.specs.declared.overrides.Override.{Override}
+use Rattle.delay_model.specs.declared.overrides.Override.TheVariants.{Keep, Drop}
+use Rattle.train_nodes.specs.declared.kinds.ValueKind.{ValueKind}
+use Rattle.train_nodes.specs.declared.kinds.ValueKind.TheVariants as Values
 use Rattle.state_laws.proofs.Settings.{set-mapping}
-use Rattle.timetable.proofs.{Named.any-from, Ordered.filtered, Ordered.key-live, Sized.labels-kept, Sorted.in_order-moves, Sorted.order-is}
+use Rattle.timetable.proofs.Words.{IsChangedEvent, AreInOrder, IsValid, AllPairs-filter, All-filter, All-permutation, filter_passes, cases_Bool, IsPermutation-sym, keys_total, exact_keys}
+use Rattle.timetable.proofs.{Named.any-from, Ordered.filtered, Ordered.key-live, Sized.labels-kept, Sorted.in_order-moves, Sorted.order-is, Sorted.in_order-ascends, Sorted.keys-differ}
 
 -- the live keys stay where each event keeps its key and whether it is live
 keys-stay : (h : Event → Event) → ((v : Event) → (h v).key ≡ v.key) → ((v : Event) → (h v).live ≡ v.live) → (es : List Event) → live_keys (map h es) ≡ live_keys es
@@ -18,7 +23,8 @@ keys-stay h keys lives (v ∷ vs) = grind (arith, keys v, lives v, keys-stay h k
 pub record IsAlike (old new : State) : Type 0 where
   pub keys : live_keys (events new) ≡ live_keys (events old)
   pub labels : next_labels new ≡ next_labels old
-  pub spare : new.spare_calls ≡ old.spare_calls
+  pub spare_trains : new.spare_trains ≡ old.spare_trains
+  pub spare_calls : new.spare_calls ≡ old.spare_calls
 
 value-alike : (st : State) (n : Node) (f : EventValues → EventValues) (k : Event → Event) → IsSetting f k → IsAlike st (with_event n f st)
 value-alike st n f k s =
@@ -27,19 +33,22 @@ value-alike st n f k s =
     record {
       keys = rw (mapping-events st (with_event n f st) n.train g (set_at n k) m) (keys-stay (set_at n k) m.mapped.keys (λ v. ap (λ (w : Event). w.live) (set-shape n f k s v)) (events st));
       labels = labels-kept n.train (change_calls (map g)) st.trains (λ t. refl);
-      spare = refl;
+      spare_trains = refl;
+      spare_calls = refl;
     }
 
-pub left-alike : (st : State) (m : Message) → (IsShape m → ⊥) → IsAlike st (effect st m)
+-- so they are after a report or a forecast
+pub valued-alike : (st : State) (k : ValueKind) (n : Node) (t : ℕ) → IsAlike st (effect st (message_by_kind k n t))
+unfolding effect
+valued-alike st Values.Forecast n t = value-alike st n (forecasted t) (put_forecast t) (record { by = λ train route label stop dep e. refl; shape = λ v. refl })
+valued-alike st Values.Report n t = value-alike st n (reported t) (put_report t) (record { by = λ train route label stop dep e. refl; shape = λ v. refl })
+
+-- and after a choice for a connection
+pub chosen-alike : (st : State) (o : Option Override) (f t : Node) → IsAlike st (effect st (message_by_choice o f t))
 unfolding effect events
-left-alike st (Forecast n t) h = value-alike st n (forecasted t) (put_forecast t) (record { by = λ train route label stop dep e. refl; shape = λ v. refl })
-left-alike st (Report n t) h = value-alike st n (reported t) (put_report t) (record { by = λ train route label stop dep e. refl; shape = λ v. refl })
-left-alike st (Cancel n from to) h = absurd (h tt)
-left-alike st (Reroute n from to via) h = absurd (h tt)
-left-alike st (Extra n day route calls) h = absurd (h tt)
-left-alike st (Keep feeder train) h = record { keys = refl; labels = refl; spare = refl }
-left-alike st (Drop feeder train) h = record { keys = refl; labels = refl; spare = refl }
-left-alike st (Rule feeder train) h = record { keys = refl; labels = refl; spare = refl }
+chosen-alike st (Some Keep) f t = record { keys = refl; labels = refl; spare_trains = refl; spare_calls = refl }
+chosen-alike st (Some Drop) f t = record { keys = refl; labels = refl; spare_trains = refl; spare_calls = refl }
+chosen-alike st None f t = record { keys = refl; labels = refl; spare_trains = refl; spare_calls = refl }
 
 -- so the order stays
 pub order-stays : (es fs : List Event) (order : List Key) → live_keys fs ≡ live_keys es → IsOrderOf es order → IsOrderOf fs order
@@ -67,11 +76,10 @@ none-only es fs same =
     rw (live-key fs v.key (r.0, w.0, r.2, w.1)) refl)
 
 -- where the times kept were those of the old state, an evaluation in the new one lists the changed events
-pub lists-changed : (nw : Network) (st : State) (m : Message) (times : Kept) (order : List Key) → (IsShape m → ⊥) → All IsTrain (effect st m).trains → IsOrderOf (events st) order → All (HasItsTime nw st times) order → map node_of (filter (has_another nw (effect st m) times) order) ≡ changed_nodes nw st (effect st m)
+pub lists-changed : (nw : Network) (st new : State) (times : StoredTimes) (order : List Key) → IsAlike st new → All IsTrain new.trains → IsOrderOf (events st) order → All (HasItsTime nw st times) order → map node_of (filter (has_another nw new times) order) ≡ changed_nodes nw st new
 unfolding changed_nodes
-lists-changed nw st m times order leaves trains is h =
-    let new = effect st m in
-    let same = (left-alike st m leaves).keys in
+lists-changed nw st new times order alike trains is h =
+    let same = alike.keys in
     rw (order-is new order trains (order-stays (events st) (events new) order same is), none-only (events st) (events new) (sym same))
     (ap (map node_of) (filter-same (has_another nw new times) (is_changed nw st new) order (λ i d l.
     let k = get_or order i d in
@@ -121,3 +129,53 @@ changed-each nw old new v h =
             listed-key nw old new v f.0 (grind arith)
       ]
     ]
+
+-- and each that is listed is changed
+pub changed-only : (nw : Network) (old new : State) → All (IsChangedEvent nw old new) (changed_nodes nw old new)
+unfolding changed changed_nodes
+changed-only nw old new = λ i d l.
+    let es = events old in
+    let fs = events new in
+    let gone = live_only es fs in
+    let come = live_only fs es in
+    let moved = retimed (event_time nw old) (event_time nw new) es fs in
+    let keys = live_keys fs in
+    let p = is_changed nw old new in
+    let ns = names_of gone ++ map node_of (filter p (in_order is_before keys)) in
+    elim (Contains-append_cases (names_of gone) (map node_of (filter p (in_order is_before keys))) (get_or ns i d) (All-contains_itself ns i d l)) [
+      | inl g ↦
+          let r = contains-unmap (λ (v : Event). node_of v.key) gone (get_or ns i d) g in
+          record { event = r.0; there = Contains-append_left gone (come ++ moved) r.0 r.1; named = r.2 }
+      | inr h ↦
+          let r = contains-unmap node_of (filter p (in_order is_before keys)) (get_or ns i d) h in
+          let k = filtered p (in_order is_before keys) r.0 r.1 in
+          let back = Contains-permutation (in_order is_before keys) keys r.0 (IsPermutation-sym keys _ (in_order-moves is_before keys)) k.0 in
+          let w = contains-unmap (λ (v : Event). v.key) (live_events fs) r.0 back in
+          let v = w.0 in
+          let passes = rw (← w.2) at k.1 in
+          record {
+            event = v;
+            there = Contains-append_right gone (come ++ moved) v (elim (cases_Bool (is_live_key es v.key)) [
+              | inl is ↦
+                  Contains-append_right come moved v (Contains-filter (λ (v : Event). is_live_key es v.key && not (nat_eq (event_time nw old v.key) (event_time nw new v.key))) (live_events fs) v w.1 (grind (arith, is, passes)))
+              | inr not_live ↦
+                  Contains-append_left come moved v (Contains-filter (λ (v : Event). not (is_live_key es v.key)) (live_events fs) v w.1 (rw not_live refl))
+            ]);
+            named = ap node_of w.2 ∙ r.2;
+          }
+    ]
+
+-- in their order
+pub changed-ordered : (nw : Network) (old new : State) → IsValid nw new → AreInOrder nw old new (changed_nodes nw old new)
+unfolding changed_nodes is_before
+changed-ordered nw old new valid =
+    let keys = live_keys (events new) in
+    let p = is_changed nw old new in
+    let sorted = in_order is_before keys in
+    record {
+      keys = filter p sorted;
+      whole = refl;
+      ascends = AllPairs-filter (λ a b. is_before a b ≡ true) p sorted (in_order-ascends keys_total exact_keys keys (keys-differ new valid.trains));
+      live = All-filter p (Contains keys) sorted (All-permutation (Contains keys) keys sorted (in_order-moves is_before keys) (All-contains_itself keys));
+      changed = filter_passes p sorted;
+    }

@@ -3,8 +3,8 @@ use Rattle.timetable.proofs.Words.{rules, ◌≡◌, ◌≢◌, ℕ, zero, suc, 
 use Rattle.timetable.proofs.Words.{vec_len, vec_capacity, refl, sym, ◌∙◌, ap, subst, arith, ltb, IsTotalOrder, All, AllPairs, Contains, IsNonDecreasingBy, IsPartitionPoint, nat_cmp}
 use Rattle.timetable.proofs.Words.{ordering_then, is_lt, Ordering, Equal, Greater, leb-true, ltb-true, ltb-false, take_all, length-drop, All-weaker, All-filter, All-contains}
 use Rattle.timetable.proofs.Words.{All-contains_itself, filter_passes, AllPairs-filter, All-permutation, IsPermutation-sym, Contains-permutation, Key, is_before, keys_total, exact_keys}
-use Rattle.timetable.proofs.Words.{before-itself, Network, State, Event, events, live_events, event_time, IsTrain, Contains-filter, Contains-map, contains-unmap, Kept, Departure}
-use Rattle.timetable.proofs.Words.{departure_cmp, leaves_before, departing, kept_departure, is_departure, live_departures, departures_from, AreListed, IsDeparture, live_keys, IsSettled}
+use Rattle.timetable.proofs.Words.{before-itself, Network, State, Event, events, live_events, event_time, IsTrain, Contains-filter, Contains-map, contains-unmap, StoredTimes, Departure}
+use Rattle.timetable.proofs.Words.{departure_cmp, leaves_before, departing, stored_departure, is_departure, live_departures, departures_from, AreListed, IsDeparture, live_keys, IsSettled}
 use Rattle.timetable.proofs.Words.{HasItsTime, in_order, All-map}
 use Rattle.std.proofs.lemmas.Cmp.{then_total, on_total, nat_cmp_total}
 use Rattle.std.proofs.lemmas.Map.Lookups.{exact_unsigned}
@@ -29,19 +29,19 @@ differ g own ks h =
     AllPairs-map (λ a b. a ≢ b) g (filter is_departure ks)
     (λ i j d l m e. AllPairs-filter (λ a b. a ≢ b) is_departure ks h i j d l m (sym (own (get_or (filter is_departure ks) i d)) ∙ ap (λ (x : Departure). x.key) e ∙ own (get_or (filter is_departure ks) j d)))
 
-pub kept-differ : (times : Kept) (order : List Key) → AllPairs (λ a b. is_before a b ≡ true) order → AllPairs (λ a b. a ≢ b) (map (kept_departure times) (filter is_departure order))
+pub kept-differ : (times : StoredTimes) (order : List Key) → AllPairs (λ a b. is_before a b ≡ true) order → AllPairs (λ a b. a ≢ b) (map (stored_departure times) (filter is_departure order))
 kept-differ times order up =
-    differ (kept_departure times) (λ k. refl) order (λ i j d l m e. let less = up i j d l m in let none = before-itself (get_or order j d) in let same = ap (λ k. is_before k (get_or order j d)) e in absurd (cc))
+    differ (stored_departure times) (λ k. refl) order (λ i j d l m e. let less = up i j d l m in let none = before-itself (get_or order j d) in let same = ap (λ k. is_before k (get_or order j d)) e in absurd (cc))
 
 -- the times kept for settled events are their times
-kept-are : (nw : Network) (st : State) (times : Kept) (ks : List Key) → All (HasItsTime nw st times) ks → map (kept_departure times) (filter is_departure ks) ≡ map (departing nw st) (filter is_departure ks)
+kept-are : (nw : Network) (st : State) (times : StoredTimes) (ks : List Key) → All (HasItsTime nw st times) ks → map (stored_departure times) (filter is_departure ks) ≡ map (departing nw st) (filter is_departure ks)
 kept-are nw st times [] h = refl
 kept-are nw st times (k ∷ ks) h =
-    let own : kept_departure times k ≡ departing nw st k = rw (h 0 k (omega arith)) refl in
+    let own : stored_departure times k ≡ departing nw st k = rw (h 0 k (omega arith)) refl in
     grind (arith, own, kept-are nw st times ks (λ i d l. h (suc i) d (omega arith)))
 
 -- the departures of settled events, once they are sorted
-pub listed-are : (nw : Network) (st : State) (times : Kept) (order : List Key) (list : List Departure) → IsSettled nw st times order → AreListed times order list → list ≡ live_departures nw st
+pub listed-are : (nw : Network) (st : State) (times : StoredTimes) (order : List Key) (list : List Departure) → IsSettled nw st times order → AreListed times order list → list ≡ live_departures nw st
 unfolding live_departures
 listed-are nw st times order list is listed =
     let keys = live_keys (events st) in
@@ -56,9 +56,9 @@ listed-are nw st times order list is listed =
     (All-permutation (Contains xs) ys list own back))
 
 -- and the other way round
-pub are-listed : (nw : Network) (st : State) (times : Kept) (order : List Key) (list : List Departure) → IsSettled nw st times order → list ≡ live_departures nw st → AreListed times order list
+pub are-listed : (nw : Network) (st : State) (times : StoredTimes) (order : List Key) (list : List Departure) → IsSettled nw st times order → list ≡ live_departures nw st → AreListed times order list
 are-listed nw st times order list is same =
-    let xs = map (kept_departure times) (filter is_departure order) in
+    let xs = map (stored_departure times) (filter is_departure order) in
     let up = in_order-ascends departures_total exact_departures xs (kept-differ times order is.order.ascends) in
     let listed : AreListed times order (in_order leaves_before xs) = record { moved = in_order-moves leaves_before xs; ascends = up } in
     rw (same, ← listed-are nw st times order (in_order leaves_before xs) is listed) listed
@@ -131,7 +131,7 @@ later-are from start ds at =
     (λ i d l m. let a = ltb-false (get_or ds i d).time from (at.1 i d l m) in search rules)
 
 -- the departures among the events so far are listed
-pub record IsListedTo (before : Vec Departure Global) (order : List Key) (times : Kept) (i : ℕ) (now : Vec Departure Global) : Type 0 where
-  pub rest : now.items ++ map (kept_departure times) (filter is_departure (drop i order)) ≡ before.items ++ map (kept_departure times) (filter is_departure order)
+pub record IsListedTo (before : Vec Departure Global) (order : List Key) (times : StoredTimes) (i : ℕ) (now : Vec Departure Global) : Type 0 where
+  pub rest : now.items ++ map (stored_departure times) (filter is_departure (drop i order)) ≡ before.items ++ map (stored_departure times) (filter is_departure order)
   pub room : vec_len now + length order ≤ vec_capacity now + i
   pub capacity : vec_capacity now ≡ vec_capacity before

@@ -1,5 +1,4 @@
 pub mod Words
-pub mod Late
 pub mod Sized
 pub mod Named
 pub mod Ordered

@@ -1,9 +1,9 @@
--- Keys and times listed train by train.
-use Rattle.timetable.proofs.Words.{◌≡◌, ℕ, ◌+◌, ◌*◌, ◌<◌, ◌≤◌, List, ◌∷◌, ◌++◌, append_assoc, Vec, Global, vec_len, vec_capacity, Some, map, length, length-append, drop, slice_get, refl}
-use Rattle.timetable.proofs.Words.{sym, ap, arith, option_map, map-append, append-nil, drop_all, filter-append, Key, Event, State, events, events_from, train_events, Kept, AreSized}
-use Rattle.timetable.proofs.Words.{with_train_times, live_keys, next_labels, inl, inr}
+-- Keys listed train by train.
+use Rattle.timetable.proofs.Words.{◌≡◌, ℕ, ◌+◌, ◌<◌, ◌≤◌, List, ◌∷◌, ◌++◌, append_assoc, Vec, Global, vec_len, vec_capacity, Some, length, length-append, drop, slice_get, refl}
+use Rattle.timetable.proofs.Words.{sym, ap, arith, map-append, filter-append, Key, Event, State, events, events_from, train_events}
+use Rattle.timetable.proofs.Words.{live_keys, inl, inr}
 use Rattle.std.proofs.lemmas.Option.{slice_get_cases}
-use Rattle.timetable.proofs.{Settling.cut-at, Sized.next_of, Sized.length-blank}
+use Rattle.timetable.proofs.{Settling.cut-at}
 
 -- part of a listing: with the keys that are left all keys are listed behind those before, and there is no less room
 pub record IsListed (before : Vec Key Global) (all : List Key) (keys : Vec Key Global) (left : List Key) : Type 0 where
@@ -37,16 +37,3 @@ listed-full before st keys n m l same part full =
     let own = rw (keys-from st n l, length-append, length-append, length-append) at whole in
     let most = rw same at full in
     omega arith
-
--- part of a filling: with twice the labels of the trains that are left there are as many times as for all
-abbrev pub IsFilled : State → Kept → ℕ → Type 0
-IsFilled st times n = map length times.trains ++ map (λ l. 2 * l) (map next_of (drop n st.trains)) ≡ map (λ l. 2 * l) (next_labels st)
-
-pub filled-more : (st : State) (times after : Kept) (n m labels : ℕ) → n < length st.trains → m ≡ n → option_map next_of (slice_get st.trains m) ≡ Some labels → after ≡ with_train_times labels times → IsFilled st times n → IsFilled st after (n + 1)
-filled-more st times after n m labels l same next pushed part =
-    let r = train-first st.trains n l in
-    let own : r.0.next_label ≡ labels = let a = ap (option_map next_of) r.1 in let b = rw same at next in cc in
-    rw (pushed, map-append, append_assoc, length-blank, ← own) (rw r.2 at part)
-
-pub filled-all : (st : State) (times : Kept) (n : ℕ) → length st.trains ≤ n → IsFilled st times n → AreSized (next_labels st) times
-filled-all st times n l part = rw (drop_all n st.trains l, append-nil) at part

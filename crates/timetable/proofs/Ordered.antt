@@ -2,7 +2,7 @@
 use Rattle.timetable.proofs.Words.{◌≡◌, ℕ, Bool, true, List, ◌∷◌, ◌++◌, Some, get_or, refl, sym, ◌∙◌, ap, subst, inl, inr, option_map, All, AllPairs, Contains, filter, All-contains}
 use Rattle.timetable.proofs.Words.{All-contains_itself, Contains-append_cases, Contains-permutation, IsPermutation-sym, Key, Node, is_before, node_of, before-itself, before-asymmetric}
 use Rattle.timetable.proofs.Words.{Network, State, Event, events, is_live, live_events, event_time, AllPairs-after, Contains-cases, Contains-filter, IsLiveAt, Contains-map, contains-unmap}
-use Rattle.timetable.proofs.Words.{Kept, time_of, has_time, live_keys, live_time, IsOrderOf, HasItsTime, arith, elements, All-filter, filter_passes}
+use Rattle.timetable.proofs.Words.{StoredTimes, time_of, has_time, live_keys, live_time, IsOrderOf, HasItsTime, arith, elements, All-filter, filter_passes}
 use Rattle.timetable.proofs.Named.{live-event}
 
 -- what an element of a filtered list is
@@ -44,7 +44,7 @@ module _ (es : List Event) (order : List Key) (is : IsOrderOf es order) where
         elim (Contains-append_cases xs (k ∷ ys) q (rw whole at there)) [ inl here ↦ here | inr later ↦ grind (arith, elements, Contains-cases k ys q later) ]
 
 -- the kept time of a live event is its time
-pub time-kept : (nw : Network) (st : State) (times : Kept) (order : List Key) (n : Node) → IsOrderOf (events st) order → All (HasItsTime nw st times) order → is_live st n ≡ true → (t : ℕ) × (time_of times n ≡ Some t) × (live_time nw st n ≡ Some t)
+pub time-kept : (nw : Network) (st : State) (times : StoredTimes) (order : List Key) (n : Node) → IsOrderOf (events st) order → All (HasItsTime nw st times) order → is_live st n ≡ true → (t : ℕ) × (time_of times n ≡ Some t) × (live_time nw st n ≡ Some t)
 time-kept nw st times order n is kept live =
     let r = live-event st n live in
     let k = r.event.key in
@@ -55,7 +55,7 @@ time-kept nw st times order n is kept live =
     )
 
 -- a time is kept for each live event, where one is kept for every event
-pub keys-held : (st : State) (times : Kept) (order : List Key) → IsOrderOf (events st) order → All (λ v. has_time times (node_of v.key) ≡ true) (events st) → All (λ k. has_time times (node_of k) ≡ true) order
+pub keys-held : (st : State) (times : StoredTimes) (order : List Key) → IsOrderOf (events st) order → All (λ v. has_time times (node_of v.key) ≡ true) (events st) → All (λ k. has_time times (node_of k) ≡ true) order
 keys-held st times order is held = λ i d l.
     let at = key-live (events st) order is (get_or order i d) (All-contains_itself order i d l) in
     let own = All-contains (λ v. has_time times (node_of v.key) ≡ true) (events st) at.0 held at.1 in

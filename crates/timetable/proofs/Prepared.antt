@@ -1,11 +1,12 @@
 -- Accepted messages applied: the order of the live events, and the list of those that are no longer live.
 use Rattle.timetable.proofs.Words.{◌≡◌, ℕ, zero, suc, ◌+◌, ◌*◌, ◌≤◌, Bool, true, false, not, ◌&&◌, nat_eq, List, [], ◌∷◌, Some, map, length, get_or, slice_get, is_some, refl, sym, ◌∙◌, ap}
 use Rattle.timetable.proofs.Words.{arith, inl, inr, ◌≢◌, option_map_or, All, Contains, filter, cases_Bool, and_parts, false_from_ne_true, eqb-true, length-map, append-nil, All-contains}
-use Rattle.timetable.proofs.Words.{All-contains_itself, filter-append, length_permutation, length-filter, count_by-le-length, map-map, Key, Node, node_of, is_same, same-is, Network, Message}
-use Rattle.timetable.proofs.Words.{State, Train, Event, effect, events, events_of, events_from, train_events, is_live, live_events, event_time, is_live_key, live_only, names_of, IsValid}
-use Rattle.timetable.proofs.Words.{events-unique, events_at-train, IsLiveAt, later-trains, train_events-there, All-left, All-right, any-there, filter-none, Kept, time_of, no_time, IsShape}
+use Rattle.timetable.proofs.Words.{All-contains_itself, filter-append, length_permutation, length-filter, count_by-le-length, map-map, Key, Node, node_of, is_same, same-is, Network}
+use Rattle.timetable.proofs.Words.{State, Train, Event, events, events_of, events_from, train_events, is_live, live_events, event_time, is_live_key, live_only, names_of, IsValid}
+use Rattle.timetable.proofs.Words.{events-unique, events_at-train, IsLiveAt, later-trains, train_events-there, All-left, All-right, any-there, filter-none, StoredTimes, time_of, no_time}
 use Rattle.timetable.proofs.Words.{is_changed, changed_nodes, live_keys, IsOrderOf, IsSettled, IsRoomy, HasItsTime, has_another, IsPrepared}
-use Rattle.timetable.proofs.{Changed.filter-same, Changed.filter-map, Changed.live-key, Changed.left-alike, Changed.order-stays, Changed.lists-changed, Late.not-late, Named.event-live}
+use Rattle.delay_model.proofs.Bounds.{event_time-small}
+use Rattle.timetable.proofs.{Changed.filter-same, Changed.filter-map, Changed.live-key, Changed.IsAlike, Changed.order-stays, Changed.lists-changed, Named.event-live}
 use Rattle.timetable.proofs.{Named.live-event, Ordered.filtered, Ordered.key-live, Ordered.live-ordered, Ordered.keys-held, Shapes.IsReshaped, Shapes.live-count, Sized.all-held}
 use Rattle.timetable.proofs.{Sorted.order-is}
 
@@ -49,10 +50,10 @@ own-pass p n first (suc k) (t ∷ ts) e fails =
     (own-pass p n (first + 1) k ts (omega arith) (All-right (Fails p n) here rest fails))
 
 -- there is room for the events that are live after a message
-pub order-fits : (st new : State) (n : ℕ) (times after : Kept) → IsReshaped st new n times after → (order : List Key) → IsOrderOf (events st) order → (order_room : ℕ) → length order + 2 * st.spare_calls ≤ order_room → length (live_keys (events new)) ≤ order_room
+pub order-fits : (st new : State) (n : ℕ) (times after : StoredTimes) → IsReshaped st new n times after → (order : List Key) → IsOrderOf (events st) order → (order_room : ℕ) → length order + 2 * st.spare_calls ≤ order_room → length (live_keys (events new)) ≤ order_room
 order-fits st new n times after shape order is order_room roomy = omega (arith, shape.fewer, length-order (events st) order is, length-map (live_events (events new)) (λ (v : Event). v.key))
 
-module _ (nw : Network) (st new : State) (n : ℕ) (times after : Kept) (valid : IsValid nw st) (now : IsValid nw new) (shape : IsReshaped st new n times after) where
+module _ (nw : Network) (st new : State) (n : ℕ) (times after : StoredTimes) (valid : IsValid nw st) (now : IsValid nw new) (shape : IsReshaped st new n times after) where
   abbrev es : List Event
   es = events st
 
@@ -89,12 +90,12 @@ module _ (nw : Network) (st new : State) (n : ℕ) (times after : Kept) (valid :
       ]
 
   -- so those that are not live by name are listed
-  dead-are : (list : List Node) (keys : List Key) → keys ≡ live_keys (train_events st n) → list ≡ map node_of (filter (λ k. not (is_live new (node_of k))) keys) → list ≡ names_of (live_only es fs)
-  dead-are list keys own listed =
-      let q : Key → Bool = λ k. not (is_live new (node_of k)) in
+  dead-are : (list : List Node) → list ≡ filter (λ m. not (is_live new m)) (map node_of (live_keys (train_events st n))) → list ≡ names_of (live_only es fs)
+  dead-are list listed =
+      let q : Node → Bool = λ m. not (is_live new m) in
       let live = live_events (train_events st n) in
-      rw (listed, own, gone-own, ← filter-map (λ (v : Event). v.key) q live, map-map)
-      (ap names_of (filter-same (λ (v : Event). q v.key) gone live (λ i d l.
+      rw (listed, gone-own, map-map node_of (λ (v : Event). v.key) live, ← filter-map (λ (v : Event). node_of v.key) q live)
+      (ap names_of (filter-same (λ (v : Event). q (node_of v.key)) gone live (λ i d l.
       let v = get_or live i d in
       let h = filtered (λ (v : Event). v.live) (train_events st n) v (All-contains_itself live i d l) in
       ap not (name-live v (All-contains (Contains es) (train_events st n) v (train_events-there st n) h.0) h.1))))
@@ -109,7 +110,7 @@ module _ (nw : Network) (st new : State) (n : ℕ) (times after : Kept) (valid :
               let own = All-contains (HasItsTime nw st times) old_order k was.times (live-ordered es old_order was.order k here) in
               rw (shape.kept (node_of k) (ap is_some own) ∙ own, live-key es k here) refl
           | inr made ↦
-              let less = not-late nw new k now at in
+              let less = rw at.2 at (event_time-small nw new now at.0 at.1) in
               let blank : time_of after (node_of k) ≡ Some no_time = rw at.2 at made.blank in
               let differ : nat_eq no_time (event_time nw new k) ≡ false = false_from_ne_true _ (λ e. let same = eqb-true no_time (event_time nw new k) e in absurd (omega arith)) in
               let absent : is_live_key es k ≡ false =
@@ -120,10 +121,10 @@ module _ (nw : Network) (st new : State) (n : ℕ) (times after : Kept) (valid :
               rw (blank, absent, differ) refl
         ]
 
-    pub prepared-shape : (list : List Node) (keys : List Key) (order_room listed_room order_before : ℕ) → keys ≡ live_keys (train_events st n) → list ≡ map node_of (filter (λ k. not (is_live new (node_of k))) keys) → IsRoomy (length old_order) st.spare_calls order_before listed_room → order_before ≤ order_room → IsPrepared nw st new after order list order_room listed_room
+    pub prepared-shape : (list : List Node) (order_room listed_room order_before : ℕ) → list ≡ filter (λ m. not (is_live new m)) (map node_of (live_keys (train_events st n))) → IsRoomy (length old_order) st.spare_calls order_before listed_room → order_before ≤ order_room → IsPrepared nw st new after order list order_room listed_room
     unfolding changed_nodes
-    prepared-shape list keys order_room listed_room order_before own listed roomy grows =
-        let dead = dead-are list keys own listed in
+    prepared-shape list order_room listed_room order_before listed roomy grows =
+        let dead = dead-are list listed in
         let few : length list ≤ length (live_events es) =
         omega (arith, length-filter gone (live_events es), count_by-le-length gone (live_events es), ap length dead, length-map (live_only es fs) (λ (v : Event). node_of v.key)) in
         let was_long = length-order es old_order was.order in let is_long = length-order fs order is in
@@ -131,8 +132,8 @@ module _ (nw : Network) (st new : State) (n : ℕ) (times after : Kept) (valid :
         record {
           valid = now;
           order = is;
-          held = keys-held new after order is (all-held new after now.trains shape.sized);
-          sized = shape.sized;
+          held = keys-held new after order is (all-held new after now.trains shape.has_times.sized);
+          has_times = shape.has_times;
           listed = rw (dead, filter-same (has_another nw new after) (is_changed nw st new) order (λ i d l. another-is (get_or order i d) (key-live fs order is (get_or order i d) (All-contains_itself order i d l))), order-is new order now.trains is) refl;
           fewer = omega arith;
           fits = omega arith;
@@ -140,23 +141,21 @@ module _ (nw : Network) (st new : State) (n : ℕ) (times after : Kept) (valid :
         }
 
 -- a message that leaves the calls, and which events take place, leaves the order, and takes no event away
-pub prepared-same : (nw : Network) (st : State) (m : Message) (times : Kept) (order : List Key) (list : List Node) (order_room listed_room : ℕ) → (IsShape m → ⊥) → IsValid nw (effect st m) → IsSettled nw st times order → list ≡ [] → IsRoomy (length order) st.spare_calls order_room listed_room → IsPrepared nw st (effect st m) times order list order_room listed_room
-prepared-same nw st m times order list order_room listed_room leaves now was none roomy =
-    let new = effect st m in
-    let same = left-alike st m leaves in
+pub prepared-same : (nw : Network) (st new : State) (times : StoredTimes) (order : List Key) (list : List Node) (order_room listed_room : ℕ) → IsAlike st new → IsValid nw new → IsSettled nw st times order → list ≡ [] → IsRoomy (length order) st.spare_calls order_room listed_room → IsPrepared nw st new times order list order_room listed_room
+prepared-same nw st new times order list order_room listed_room same now was none roomy =
     let a = ap length none in
     let long = length_permutation (live_keys (events st)) order was.order.moved in
     record {
       valid = now;
       order = order-stays (events st) (events new) order same.keys was.order;
       held = λ i d l. ap is_some (was.times i d l);
-      sized = rw same.labels was.sized;
-      listed = rw none (lists-changed nw st m times order leaves now.trains was.order was.times);
+      has_times = record { sized = rw same.labels was.has_times.sized; spare_trains = was.has_times.spare_trains ∙ sym same.spare_trains; spare_calls = was.has_times.spare_calls ∙ sym same.spare_calls };
+      listed = rw none (lists-changed nw st new times order same now.trains was.order was.times);
       fewer = omega arith;
       fits = omega arith;
-      roomy = rw same.spare roomy;
+      roomy = rw same.spare_calls roomy;
     }
 
 -- so where there was room for as many departures as there may be events, there is still
-pub departures-fit : {nw : Network} {old new : State} {times : Kept} {keys : List Key} {list : List Node} {order_room list_room : ℕ} → IsPrepared nw old new times keys list order_room list_room → {order : List Key} → IsOrderOf (events old) order → {room : ℕ} → length order + 2 * old.spare_calls ≤ room → length keys + 2 * new.spare_calls ≤ room
+pub departures-fit : {nw : Network} {old new : State} {times : StoredTimes} {keys : List Key} {list : List Node} {order_room list_room : ℕ} → IsPrepared nw old new times keys list order_room list_room → {order : List Key} → IsOrderOf (events old) order → {room : ℕ} → length order + 2 * old.spare_calls ≤ room → length keys + 2 * new.spare_calls ≤ room
 departures-fit {old = old} p {order} is roomy = omega (arith, p.fewer, length_permutation (live_keys (events old)) order is.moved)

@@ -2,8 +2,8 @@
 use Rattle.timetable.proofs.Words.{◌≡◌, ◌≢◌, ◌⊎◌, ℕ, zero, suc, ◌+◌, ◌-◌, ◌<◌, ◌≤◌, Bool, true, false, List, [], ◌∷◌, ◌++◌, append_assoc, map, filter, length, take, drop, set, get_or, refl}
 use Rattle.timetable.proofs.Words.{sym, ◌∙◌, ap, arith, inl, inr, IsTotalOrder, All, AllPairs, Contains, IsPermutation, IsPartitionPoint, IsPartitionedBy, is_lt, Ordering, Equal, map-append}
 use Rattle.timetable.proofs.Words.{All-map, All-filter, filter_passes, All-permutation, Contains-permutation, IsPermutation-map, IsPermutation-trans, map-map, Key, AllPairs-after}
-use Rattle.timetable.proofs.Words.{Contains-filter, Contains-map, map-same, All-left, All-right, kept_time, AllPairs-before, Kept, Departure, AreListed, IsRetimed, departing_at}
-use Rattle.timetable.proofs.Words.{is_departure, kept_departure, leaves_before, placed, node_of, time_of}
+use Rattle.timetable.proofs.Words.{Contains-filter, Contains-map, map-same, All-left, All-right, stored_time, AllPairs-before, StoredTimes, Departure, AreListed, IsRetimed, departing_at}
+use Rattle.timetable.proofs.Words.{is_departure, stored_departure, leaves_before, placed, node_of, time_of}
 use Rattle.std.specs.List.{insert, remove}
 use Rattle.std.proofs.lemmas.List.Edits.{length-insert}
 use Rattle.std.proofs.lemmas.List.Quantifiers.{all_pairs_remove}
@@ -75,42 +75,42 @@ module _ {X : Type 0} {cmp : X → X → Ordering} (total : IsTotalOrder cmp) (e
   found-at x xs i up there at = grind (arith, less-itself total exact x, at.0 there.0 x, at.1 i x, up i there.0 x)
 
 -- departures are listed for events of these keys
-module _ (old : Kept) (keys : List Key) (ds : List Departure) (h : AreListed old keys ds) where
-  listed-each : (P : Departure → Type 0) → All (λ q. is_departure q ≡ true → P (kept_departure old q)) keys → All P ds
+module _ (old : StoredTimes) (keys : List Key) (ds : List Departure) (h : AreListed old keys ds) where
+  listed-each : (P : Departure → Type 0) → All (λ q. is_departure q ≡ true → P (stored_departure old q)) keys → All P ds
   listed-each P all =
-      let f = kept_departure old in
+      let f = stored_departure old in
       let Q : Key → Type 0 = λ q. is_departure q ≡ true → P (f q) in
       All-permutation P (map f (filter is_departure keys)) ds h.moved (All-map P f (filter is_departure keys) (λ i d l. All-filter is_departure Q keys all i d l (filter_passes is_departure keys i d l)))
 
-  pub listed-there : (k : Key) → Contains keys k → k.dep ≡ true → Contains ds (kept_departure old k)
+  pub listed-there : (k : Key) → Contains keys k → k.dep ≡ true → Contains ds (stored_departure old k)
   listed-there k there departs =
-      Contains-permutation _ ds (kept_departure old k) h.moved (Contains-map (kept_departure old) (filter is_departure keys) k (Contains-filter is_departure keys k there departs))
+      Contains-permutation _ ds (stored_departure old k) h.moved (Contains-map (stored_departure old) (filter is_departure keys) k (Contains-filter is_departure keys k there departs))
 
   -- at another time than the one kept no departure of this key is listed
-  pub listed-others : (k : Key) (is : ℕ) → kept_time old k ≢ is → All (λ d. departing_at is k ≢ d) ds
+  pub listed-others : (k : Key) (is : ℕ) → stored_time old k ≢ is → All (λ d. departing_at is k ≢ d) ds
   listed-others k is other =
-      listed-each (λ d. departing_at is k ≢ d) (λ i d l _ e. other (ap (λ (a : Departure). kept_time old a.key) e ∙ sym (ap (λ (a : Departure). a.time) e)))
+      listed-each (λ d. departing_at is k ≢ d) (λ i d l _ e. other (ap (λ (a : Departure). stored_time old a.key) e ∙ sym (ap (λ (a : Departure). a.time) e)))
 
-  module _ (new : Kept) where
+  module _ (new : StoredTimes) where
     abbrev at_new : Departure → Departure
-    at_new d = kept_departure new d.key
+    at_new d = stored_departure new d.key
 
-    renewed : IsPermutation (map (kept_departure new) (filter is_departure keys)) (map at_new ds)
+    renewed : IsPermutation (map (stored_departure new) (filter is_departure keys)) (map at_new ds)
     renewed =
-        rw (map-map at_new (kept_departure old) (filter is_departure keys)) at (IsPermutation-map at_new (map (kept_departure old) (filter is_departure keys)) ds h.moved)
+        rw (map-map at_new (stored_departure old) (filter is_departure keys)) at (IsPermutation-map at_new (map (stored_departure old) (filter is_departure keys)) ds h.moved)
 
     -- they stay where the times are the same
-    pub listed-same : All (λ q. is_departure q ≡ true → kept_time new q ≡ kept_time old q) keys → AreListed new keys ds
+    pub listed-same : All (λ q. is_departure q ≡ true → stored_time new q ≡ stored_time old q) keys → AreListed new keys ds
     listed-same same =
         let each = listed-each (λ d. at_new d ≡ d) (λ i d l departs. ap (λ t. departing_at t (get_or keys i d)) (same i d l departs)) in
         record { moved = rw (map-same at_new ds each) at renewed; ascends = h.ascends }
 
     -- and where one event has another time, its departure is moved
-    pub listed-retimed : (k : Key) → All (λ q. (q ≡ k) ⊎ (time_of new (node_of q) ≡ time_of old (node_of q))) keys → (now : List Departure) → IsRetimed (kept_departure old k) (kept_departure new k) ds now → AreListed new keys now
+    pub listed-retimed : (k : Key) → All (λ q. (q ≡ k) ⊎ (time_of new (node_of q) ≡ time_of old (node_of q))) keys → (now : List Departure) → IsRetimed (stored_departure old k) (stored_departure new k) ds now → AreListed new keys now
     listed-retimed k either now r =
-        let was = kept_departure old k in
+        let was = stored_departure old k in
         let P : Departure → Type 0 = λ d. (d ≡ was) ⊎ (at_new d ≡ d) in
-        let each = listed-each P (λ i d l departs. elim (either i d l) [ inl same ↦ inl (ap (kept_departure old) same) | inr left ↦ inr (rw left refl) ]) in
+        let each = listed-each P (λ i d l departs. elim (either i d l) [ inl same ↦ inl (ap (stored_departure old) same) | inr left ↦ inr (rw left refl) ]) in
         let parts = rw r.whole at each in
         let up = rw r.whole at h.ascends in
         let none = less-itself departures_total exact_departures was in

@@ -3,7 +3,7 @@ use Rattle.timetable.proofs.Words.{◌≡◌, ◌≢◌, ◌⊎◌, ℕ, suc, �
 use Rattle.timetable.proofs.Words.{unwrap_or, length, get_or, take, drop, refl, sym, ◌∙◌, ap, subst, arith, inl, inr, All, Contains, filter, cases_Bool, false_from_ne_true, eqb-true, eq-eqb}
 use Rattle.timetable.proofs.Words.{take-append-drop, take_more, All-append, All-cons, All-nil, All-contains, All-contains_itself as All-itself, Contains-append_left, Contains-append_right}
 use Rattle.timetable.proofs.Words.{Key, Node, is_before, node_of, is_same_node, before-itself, same_node-is, Event, Edge, events, event_named, is_live, edges, incoming, event_time, IsValid}
-use Rattle.timetable.proofs.Words.{Contains-there, events-unique, IsLiveAt, valid-graph, incoming-leads, time-local, Kept, time_of, has_time, AreSized, edges_to, kept_time, local_at}
+use Rattle.timetable.proofs.Words.{Contains-there, events-unique, IsLiveAt, valid-graph, incoming-leads, time-local, StoredTimes, time_of, has_time, State, HasTimesFor, edges_to, stored_time, local_at}
 use Rattle.timetable.proofs.Words.{Timetabled, Departure, AreListed, IsRetimed, departing_at, is_departure, IsOrderOf, HasItsTime, has_another}
 use Rattle.std.proofs.Math.Seq.{drop-cons}
 use Rattle.delay_model.proofs.Solve.{local-agree}
@@ -11,7 +11,7 @@ use Rattle.delay_model.proofs.Bounds.{incoming-fit}
 use Rattle.timetable.proofs.{Named.event-found, Named.event-live, Ordered.key-live, Ordered.each-after, Ordered.stands-before, Retimed.listed-there, Retimed.listed-others}
 use Rattle.timetable.proofs.{Retimed.listed-same, Retimed.listed-retimed}
 
-module _ (g : Timetabled) (valid : IsValid g.network g.state) (order : List Key) (is : IsOrderOf (events g.state) order) (times : Kept) (xs : List Key) (k : Key) (ys : List Key) (whole : order ≡ xs ++ k ∷ ys) (done : All (HasItsTime g.network g.state times) xs) where
+module _ (g : Timetabled) (valid : IsValid g.network g.state) (order : List Key) (is : IsOrderOf (events g.state) order) (times : StoredTimes) (xs : List Key) (k : Key) (ys : List Key) (whole : order ≡ xs ++ k ∷ ys) (done : All (HasItsTime g.network g.state times) xs) where
   abbrev es : List Event
   es = events g.state
 
@@ -38,21 +38,21 @@ module _ (g : Timetabled) (valid : IsValid g.network g.state) (order : List Key)
       let le = incoming-leads es gs (valid-graph g.network g.state valid) here.0.key i d l in
       All-contains (HasItsTime g.network g.state times) xs _ done (stands-before es order is xs k ys whole _ le.from_end (ap (is_before _) (sym here.2) ∙ le.up))
 
-  agree : All (λ (e : Edge). kept_time times e.from ≡ event_time g.network g.state e.from) (incoming gs here.0.key)
+  agree : All (λ (e : Edge). stored_time times e.from ≡ event_time g.network g.state e.from) (incoming gs here.0.key)
   agree = λ i d l. ap (λ o. unwrap_or o 0) (origins i d l)
 
   pub next-held : All (λ (e : Edge). has_time times (node_of e.from) ≡ true) (edges_to g (node_of k))
   next-held = rw into (λ i d l. ap is_some (origins i d l))
 
-  pub next-fits : All (λ (e : Edge). kept_time times e.from + e.weight < 2 ^ 25) (edges_to g (node_of k))
+  pub next-fits : All (λ (e : Edge). stored_time times e.from + e.weight < 2 ^ 25) (edges_to g (node_of k))
   unfolding event_time
-  next-fits = rw into (incoming-fit es gs (valid-graph g.network g.state valid) valid.small (kept_time times) here.0 here.1 agree)
+  next-fits = rw into (incoming-fit es gs (valid-graph g.network g.state valid) valid.small (stored_time times) here.0 here.1 agree)
 
   -- and the rule gives it its time
   pub next-local : local_at g times (node_of k) ≡ Some (event_time g.network g.state k)
   unfolding event_time
   next-local =
-      rw (found, local-agree es gs (kept_time times) (event_time g.network g.state) here.0 agree, ← time-local es gs (valid-graph g.network g.state valid) here.0 here.1, here.2) refl
+      rw (found, local-agree es gs (stored_time times) (event_time g.network g.state) here.0 agree, ← time-local es gs (valid-graph g.network g.state valid) here.0 here.1, here.2) refl
 
   -- a key of the order is this one, or of another event
   pub this-or-other : (q : Key) → Contains order q → (q ≡ k) ⊎ (is_same_node (node_of k) (node_of q) ≡ false)
@@ -70,13 +70,13 @@ module _ (g : Timetabled) (valid : IsValid g.network g.state) (order : List Key)
 
 -- part of an evaluation: the times of the first events are kept, and those listed for which another was kept before. There is room
 -- for the others. As long as departures are moved, they are listed
-pub record IsPart (g : Timetabled) (order : List Key) (old : Kept) (before : Vec Node Global) (i : ℕ) (times : Kept) (changed : Vec Node Global) (reach : ℕ) (ds : List Departure) : Type 0 where
+pub record IsPart (g : Timetabled) (order : List Key) (old : StoredTimes) (before : Vec Node Global) (i : ℕ) (times : StoredTimes) (changed : Vec Node Global) (reach : ℕ) (ds : List Departure) : Type 0 where
   pub done : All (HasItsTime g.network g.state times) (take i order)
   pub left : All (λ k. time_of times (node_of k) ≡ time_of old (node_of k)) (drop i order)
   pub listed : changed.items ++ map node_of (filter (has_another g.network g.state old) (drop i order)) ≡ before.items ++ map node_of (filter (has_another g.network g.state old) order)
   pub room : vec_len changed + length (drop i order) ≤ vec_capacity changed
   pub capacity : vec_capacity changed ≡ vec_capacity before
-  pub sized : (labels : List ℕ) → AreSized labels old → AreSized labels times
+  pub has_times : (st : State) → HasTimesFor st old → HasTimesFor st times
   pub departures : 0 < reach → AreListed times order ds
 
 -- a list is cut at one of its elements
@@ -85,7 +85,7 @@ cut-at xs i x l is =
     let next : suc i ≡ i + 1 = omega arith in
     drop-cons xs i x l ∙ ap (λ y. y ∷ drop (suc i) xs) (sym is) ∙ ap (λ j. x ∷ drop j xs) next
 
-module _ {g : Timetabled} (valid : IsValid g.network g.state) {order : List Key} (is : IsOrderOf (events g.state) order) {old : Kept} (held : All (λ k. has_time old (node_of k) ≡ true) order) {before : Vec Node Global} {i : ℕ} {times : Kept} {changed : Vec Node Global} {reach : ℕ} {ds : List Departure} (part : IsPart g order old before i times changed reach ds) {k : Key} (l : i < length order) (at : k ≡ get_or order i k) {n : Node} (name : n ≡ node_of k) where
+module _ {g : Timetabled} (valid : IsValid g.network g.state) {order : List Key} (is : IsOrderOf (events g.state) order) {old : StoredTimes} (held : All (λ k. has_time old (node_of k) ≡ true) order) {before : Vec Node Global} {i : ℕ} {times : StoredTimes} {changed : Vec Node Global} {reach : ℕ} {ds : List Departure} (part : IsPart g order old before i times changed reach ds) {k : Key} (l : i < length order) (at : k ≡ get_or order i k) {n : Node} (name : n ≡ node_of k) where
   abbrev xs : List Key
   xs = take i order
 
@@ -101,7 +101,7 @@ module _ {g : Timetabled} (valid : IsValid g.network g.state) {order : List Key}
   pub part-held : All (λ (e : Edge). has_time times (node_of e.from) ≡ true) (edges_to g n)
   part-held = rw name (next-held g valid order is times xs k ys whole part.done)
 
-  pub part-fits : All (λ (e : Edge). kept_time times e.from + e.weight < 2 ^ 25) (edges_to g n)
+  pub part-fits : All (λ (e : Edge). stored_time times e.from + e.weight < 2 ^ 25) (edges_to g n)
   part-fits = rw name (next-fits g valid order is times xs k ys whole part.done)
 
   left-over : length (drop i order) ≡ length ys + 1
@@ -121,10 +121,10 @@ module _ {g : Timetabled} (valid : IsValid g.network g.state) {order : List Key}
 
   module _ (x : ℕ) (earlier : time_of times n ≡ Some x) where
     -- the time that was kept, until now and before
-    x-kept : kept_time times k ≡ x
+    x-kept : stored_time times k ≡ x
     x-kept = let own = rw name at earlier in rw own refl
 
-    x-old : kept_time old k ≡ x
+    x-old : stored_time old k ≡ x
     x-old = ap (λ o. unwrap_or o 0) (sym same) ∙ x-kept
 
     -- so its departure is listed at that time, and at no other
@@ -134,11 +134,11 @@ module _ {g : Timetabled} (valid : IsValid g.network g.state) {order : List Key}
     pub part-others : 0 < reach → (y : ℕ) → x ≢ y → All (λ d. departing_at y k ≢ d) ds
     part-others more y differ = listed-others times order ds (part.departures more) k y (λ e. differ (sym x-kept ∙ e))
 
-    module _ (new : Kept) (y : ℕ) (rule : local_at g times n ≡ Some y) (later : time_of new n ≡ Some y) (others : (m : Node) → is_same_node n m ≡ false → time_of new m ≡ time_of times m) (sizes : (labels : List ℕ) → AreSized labels times → AreSized labels new) where
+    module _ (new : StoredTimes) (y : ℕ) (rule : local_at g times n ≡ Some y) (later : time_of new n ≡ Some y) (others : (m : Node) → is_same_node n m ≡ false → time_of new m ≡ time_of times m) (fits : (st : State) → HasTimesFor st times → HasTimesFor st new) where
       settled : HasItsTime g.network g.state new k
       settled = ap (time_of new) (sym name) ∙ later ∙ sym rule ∙ ap (local_at g times) name ∙ next-local g valid order is times xs k ys whole part.done
 
-      y-kept : kept_time new k ≡ y
+      y-kept : stored_time new k ≡ y
       y-kept = let own = rw name at later in rw own refl
 
       y-time : event_time g.network g.state k ≡ y
@@ -174,7 +174,7 @@ module _ {g : Timetabled} (valid : IsValid g.network g.state) {order : List Key}
             | inr left ↦ left ∙ rest (suc j) d (omega arith)
           ]
 
-      stay : (k.dep ≡ true → x ≡ y) → All (λ q. is_departure q ≡ true → kept_time new q ≡ kept_time times q) order
+      stay : (k.dep ≡ true → x ≡ y) → All (λ q. is_departure q ≡ true → stored_time new q ≡ stored_time times q) order
       stay h = λ j d m departs.
           elim (left-or (get_or order j d) (All-itself order j d m)) [ inl e ↦ rw (e, y-kept, x-kept) (sym (h (rw e at departs))) | inr left ↦ rw left refl ]
 
@@ -192,7 +192,7 @@ module _ {g : Timetabled} (valid : IsValid g.network g.state) {order : List Key}
             listed = rw (pushed, append_assoc) (rw (cut-at order i k l at, counts r) at part.listed);
             room = omega (arith, left-over);
             capacity = same ∙ part.capacity;
-            sized = λ labels h. sizes labels (part.sized labels h);
+            has_times = λ st h. fits st (part.has_times st h);
             departures = λ more.
                 let h = part.departures (reaches more) in
                 elim (cases_Bool k.dep) [
@@ -211,6 +211,6 @@ module _ {g : Timetabled} (valid : IsValid g.network g.state) {order : List Key}
             listed = rw (cut-at order i k l at, counts-not r) at part.listed;
             room = omega (arith, left-over);
             capacity = part.capacity;
-            sized = λ labels h. sizes labels (part.sized labels h);
+            has_times = λ st h. fits st (part.has_times st h);
             departures = λ more. listed-same times order ds (part.departures more) new (stay (λ _. r));
           }

@@ -1,35 +1,37 @@
 -- What a message leaves of the events that changes the calls of a train, or which of its events take place.
-use Rattle.timetable.proofs.Words.{◌≡◌, ℕ, suc, ◌+◌, ◌*◌, ◌<◌, ◌≤◌, true, nat_eq, nat_le, nat_lt, List, [], ◌∷◌, ◌++◌, Option, Some, None, map, length, length-append, slice_get, filter}
-use Rattle.timetable.proofs.Words.{drop, not, Vec, Global, vec_len, vec_capacity, refl, sym, ◌∙◌, ap, arith, inl, inr, ◌⊎◌, ◌≢◌, option_map_or, All, Contains, and_parts, not-false}
+use Rattle.timetable.proofs.Words.{◌≡◌, ℕ, suc, ◌+◌, ◌*◌, ◌<◌, ◌≤◌, true, nat_eq, nat_le, nat_lt, List, [], ◌∷◌, ◌++◌, Option, Some, None, map, length, length-append, slice_get}
+use Rattle.timetable.proofs.Words.{Vec, Global, vec_len, vec_capacity, refl, sym, ◌∙◌, ap, arith, inl, inr, ◌⊎◌, ◌≢◌, option_map_or, All, Contains, and_parts, not-false}
 use Rattle.timetable.proofs.Words.{ltb-false, leb-true, map-append, append-nil, All-contains, Contains-append_left, Contains-append_right, Contains-append_cases, filter-append}
-use Rattle.timetable.proofs.Words.{length-filter, count_by-le-length, slice_get_within, Key, Node, NewCall, node_of, Network, Message, Report, Forecast, Cancel, Reroute, Extra, Keep, Drop}
-use Rattle.timetable.proofs.Words.{Rule, Call, Train, State, Event, effect, change_train, change_calls, kill_in, stretch, new_calls, new_train, rerouted, begin_run, end_run, events}
-use Rattle.timetable.proofs.Words.{events_at, events_of, events_from, calls_of, live_events, is_live, IsWellFormed, IsSmallCall, refusal, refused_if, stands_before, are_at_stops, IsTrain}
+use Rattle.timetable.proofs.Words.{length-filter, count_by-le-length, slice_get_within, Node, NewCall, node_of, Network, Cancel, Reroute, Extra}
+use Rattle.timetable.proofs.Words.{Call, Train, State, Event, effect, change_train, change_calls, kill_in, stretch, new_calls, new_train, rerouted, begin_run, end_run, events}
+use Rattle.timetable.proofs.Words.{events_at, events_of, events_from, calls_of, live_events, IsWellFormed, IsSmallCall, refusal, refused_if, stands_before, are_at_stops, IsTrain}
 use Rattle.timetable.proofs.Words.{IsValid, events_at-train, IsLiveAt, accepted-by, or-none, refused-none, contains-change, contains-unmap, mapping-events, events-from_each, trains-each}
-use Rattle.timetable.proofs.Words.{events_at-each, Kept, time_of, has_time, no_time, AreSized, blank_times, with_train_times, with_labels, IsShape, next_labels, HasItsTrain, changed_train}
-use Rattle.timetable.proofs.Words.{with_made, without_made}
+use Rattle.timetable.proofs.Words.{events_at-each, StoredTimes, time_of, has_time, no_time, with_train_times, with_labels, message_of_shape, next_labels, HasTimesFor, HasRoomFor, changed_train, live_keys, ◌-◌}
+use Rattle.timetable.proofs.Words.{with_made}
+use Rattle.train_nodes.specs.declared.kinds.Shape.{Shape}
+use Rattle.train_nodes.specs.declared.kinds.Shape.TheVariants as Shapes
 use Rattle.delay_model.specs.declared.messages.Refusal.TheVariants.{Full}
 use Rattle.delay_model.specs.declared.messages.Short.TheVariants.{Trains, Calls}
-use Rattle.train_nodes.proofs.CallPlaces.{length-at}
+use Rattle.std.proofs.lemmas.Bool.{eqb-false}
 use Rattle.state_laws.proofs.Added.{events-push}
 use Rattle.state_laws.proofs.Cancelled.{cancel-mapping}
 use Rattle.state_laws.proofs.Cancels.{kill_at}
 use Rattle.state_laws.proofs.Extras.{IsFreshCall, made, new-fresh}
 use Rattle.state_laws.proofs.Swapped.{swap-of}
-use Rattle.train_nodes.proofs.TimeLemmas.{pushed-old, pushed-new, added-old, added-new, kept-again, popped-again}
+use Rattle.train_nodes.proofs.TimeLemmas.{pushed-old, pushed-new, added-old, added-new}
 use Rattle.timetable.proofs.Sized.{next_of, sized-trains, sized-at, sized-push, sized-more, labels-kept}
 
 -- an event that a message makes: there was none of its name, and a time that no event has is kept for it
-pub record IsMade (es : List Event) (times : Kept) (w : Event) : Type 0 where
+pub record IsMade (es : List Event) (times : StoredTimes) (w : Event) : Type 0 where
   pub unknown : (v : Event) → Contains es v → node_of v.key ≢ node_of w.key
   pub blank : time_of times (node_of w.key) ≡ Some no_time
 
 -- after a message that changes or adds the train n
-pub record IsReshaped (old new : State) (n : ℕ) (times after : Kept) : Type 0 where
+pub record IsReshaped (old new : State) (n : ℕ) (times after : StoredTimes) : Type 0 where
   pub known : (w : Event) → Contains (events new) w → w.live ≡ true → IsLiveAt (events old) w.key ⊎ IsMade (events old) after w
   pub others : (v : Event) → Contains (events old) v → v.key.train ≢ n → Contains (events new) v
   pub fewer : length (live_events (events new)) + 2 * new.spare_calls ≤ length (live_events (events old)) + 2 * old.spare_calls
-  pub sized : AreSized (next_labels new) after
+  pub has_times : HasTimesFor new after
   pub kept : (m : Node) → has_time times m ≡ true → time_of after m ≡ time_of times m
 
 pub live-count : (es fs : List Event) → length (live_events (es ++ fs)) ≡ length (live_events es) + length (live_events fs)
@@ -55,9 +57,9 @@ others-stay st n f v h ne =
     let here : v.key.train ≡ at = All-contains (λ v. v.key.train ≡ at) (events_of at t) v (events_at-train at t.route t.calls) own in
     absurd (ne (omega arith)))
 
-cancel-reshaped : (st : State) (n from to : ℕ) (times : Kept) → AreSized (next_labels st) times → IsReshaped st (effect st (Cancel n from to)) n times times
+cancel-reshaped : (st : State) (n from to : ℕ) (times : StoredTimes) → HasTimesFor st times → IsReshaped st (effect st (Cancel n from to)) n times times
 unfolding effect events
-cancel-reshaped st n from to times sized =
+cancel-reshaped st n from to times has =
     let es = stretch st n from to in
     let new = effect st (Cancel n from to) in
     let h = kill_at es in
@@ -69,7 +71,7 @@ cancel-reshaped st n from to times sized =
           inl (r.0, r.1, sym (m.mapped.keys r.0) ∙ ap (λ (v : Event). v.key) r.2, m.mapped.lives r.0 (ap (λ (v : Event). v.live) r.2 ∙ live));
       others = others-stay st n (change_calls (map (kill_in es n)));
       fewer = let le = fewer-live h m.mapped.lives (events st) in let e = ap (λ vs. length (live_events vs)) is_new in omega arith;
-      sized = rw (labels-kept n (change_calls (map (kill_in es n))) st.trains (λ t. refl)) sized;
+      has_times = record { sized = rw (labels-kept n (change_calls (map (kill_in es n))) st.trains (λ t. refl)) has.sized; spare_trains = has.spare_trains; spare_calls = has.spare_calls };
       kept = λ m h. refl;
     }
 
@@ -105,9 +107,9 @@ length-new label (c ∷ cs) = ap suc (length-new (label + 1) cs)
 spare-of : (spare n : ℕ) → refused_if (nat_lt spare n) (Full Calls) ≡ None → n ≤ spare
 spare-of spare n h = ltb-false spare n (refused-none (nat_lt spare n) (Full Calls) h)
 
-reroute-reshaped : (nw : Network) (st : State) (n from to : ℕ) (via : List NewCall) (times : Kept) → IsValid nw st → All IsSmallCall via → refusal nw st (Reroute n from to via) ≡ None → AreSized (next_labels st) times → IsReshaped st (effect st (Reroute n from to via)) n times (with_labels n (length via) times)
+reroute-reshaped : (nw : Network) (st : State) (n from to : ℕ) (via : List NewCall) (times : StoredTimes) → IsValid nw st → All IsSmallCall via → refusal nw st (Reroute n from to via) ≡ None → HasTimesFor st times → IsReshaped st (effect st (Reroute n from to via)) n times (with_labels n (length via) times)
 unfolding effect events
-reroute-reshaped nw st n from to via times valid small h sized =
+reroute-reshaped nw st n from to via times valid small h has =
     let s = swap-of nw st n from to via valid small h in
     let t = s.train in
     let low = t.next_label in
@@ -126,7 +128,7 @@ reroute-reshaped nw st n from to via times valid small h sized =
                   inr (record {
                     unknown = λ v hv same.
                         grind (arith, All-contains (λ v. v.key.train ≡ n → v.key.label < low) (events st) v (used-below st n t valid.trains s.got) hv, f.train, f.from);
-                    blank = added-new n (length via) times (node_of w.key) low f.train (sized-at st times n t sized s.got) f.from f.below;
+                    blank = added-new n (length via) times (node_of w.key) low f.train (sized-at st times n t has.sized s.got) f.from f.below;
                   })
               | inr behind ↦ inl (old_live w live (Contains-append_right s.front (s.mid ++ back) w (Contains-append_right s.mid back w behind)))
             ]
@@ -139,7 +141,7 @@ reroute-reshaped nw st n from to via times valid small h sized =
           let a = live-count s.front (s.mid ++ back) in let b = live-count s.mid back in
           let c = live-count s.front (s.made ++ back) in let d = live-count s.made back in
           omega (arith, live-le s.made, events-count n t.route (new_calls low via), length-new low via);
-      sized = sized-more st.trains times n (length via) (rerouted from to via) (λ t. refl) sized;
+      has_times = record { sized = sized-more st.trains times n (length via) (rerouted from to via) (λ t. refl) has.sized; spare_trains = has.spare_trains; spare_calls = ap (λ x. x - length via) has.spare_calls };
       kept = λ m. added-old n (length via) times m;
     }
 
@@ -166,16 +168,16 @@ numbers-below st =
     let less = slice_get_within st.trains i t got in
     λ j d l. let own = events_at-train at t.route t.calls j d l in omega arith)
 
-extra-reshaped : (nw : Network) (st : State) (n day route : ℕ) (cs : List NewCall) (times : Kept) → All IsSmallCall cs → refusal nw st (Extra n day route cs) ≡ None → AreSized (next_labels st) times → IsReshaped st (effect st (Extra n day route cs)) n times (with_train_times (length cs) times)
+extra-reshaped : (nw : Network) (st : State) (n day route : ℕ) (cs : List NewCall) (times : StoredTimes) → All IsSmallCall cs → refusal nw st (Extra n day route cs) ≡ None → HasTimesFor st times → IsReshaped st (effect st (Extra n day route cs)) n times (with_train_times (length cs) times)
 unfolding effect events
-extra-reshaped nw st n day route cs times small h sized =
+extra-reshaped nw st n day route cs times small h has =
     let t = new_train day route cs in
     let at = next-number nw st n day route cs h in
     let es = events st in
     let es_new = events_of n t in
     let is_new : events_from 0 (st.trains ++ t ∷ []) ≡ es ++ es_new = rw (events-push 0 n st.trains t (omega arith), append-nil) refl in
     let enough : length cs ≤ st.spare_calls = spare-of st.spare_calls (length cs) (or-none (refused_if (nat_eq st.spare_trains 0) (Full Trains)) _ (accepted-by nw st (Extra n day route cs) h).room).1 in
-    let long = sized-trains st times sized in
+    let long = sized-trains st times has.sized in
     record {
       known = λ w hw live.
           elim (Contains-append_cases es es_new w (rw is_new at hw)) [
@@ -193,60 +195,36 @@ extra-reshaped nw st n day route cs times small h sized =
           let own = ap (λ vs. length (live_events vs)) is_new in
           let long = length-begin (end_run (new_calls 0 cs)) ∙ length-end (new_calls 0 cs) ∙ length-new 0 cs in
           omega (arith, live-count es es_new, live-le es_new, events-count n route t.calls);
-      sized = rw (map-append next_of st.trains (t ∷ [])) (sized-push (next_labels st) times (length cs) sized);
+      has_times = record { sized = rw (map-append next_of st.trains (t ∷ [])) (sized-push (next_labels st) times (length cs) has.sized); spare_trains = ap (λ x. x - 1) has.spare_trains; spare_calls = ap (λ x. x - length cs) has.spare_calls };
       kept = λ m. pushed-old (length cs) times m;
     }
 
-pub reshaped : (nw : Network) (st : State) (m : Message) (times : Kept) → IsShape m → IsValid nw st → IsWellFormed m → refusal nw st m ≡ None → AreSized (next_labels st) times → IsReshaped st (effect st m) (changed_train m) times (with_made m times)
-reshaped nw st (Cancel n from to) times shape valid well h sized = cancel-reshaped st n from to times sized
-reshaped nw st (Reroute n from to via) times shape valid well h sized = reroute-reshaped nw st n from to via times valid well h sized
-reshaped nw st (Extra n day route cs) times shape valid well h sized = extra-reshaped nw st n day route cs times well.1 h sized
-reshaped nw st (Report n t) times shape valid well h sized = absurd shape
-reshaped nw st (Forecast n t) times shape valid well h sized = absurd shape
-reshaped nw st (Keep feeder train) times shape valid well h sized = absurd shape
-reshaped nw st (Drop feeder train) times shape valid well h sized = absurd shape
-reshaped nw st (Rule feeder train) times shape valid well h sized = absurd shape
+pub reshaped : (nw : Network) (st : State) (s : Shape) (times : StoredTimes) → let m = message_of_shape s in IsValid nw st → IsWellFormed m → refusal nw st m ≡ None → HasTimesFor st times → IsReshaped st (effect st m) (changed_train s) times (with_made s times)
+reshaped nw st (Shapes.Cancel n from to) times valid well h sized = cancel-reshaped st n from to times sized
+reshaped nw st (Shapes.Reroute n from to via) times valid well h sized = reroute-reshaped nw st n from to via.now times valid well h sized
+reshaped nw st (Shapes.Extra n day route cs) times valid well h sized = extra-reshaped nw st n day route cs.now times well.1 h sized
 
 -- the train whose calls a rerouting replaces is there
 rerouted-there : (nw : Network) (st : State) (n from to : ℕ) (via : List NewCall) → refusal nw st (Reroute n from to via) ≡ None → (t : Train) × (slice_get st.trains n ≡ Some t)
 rerouted-there nw st n from to via h =
     train-of (slice_get st.trains n) from to (and_parts (stands_before from to (calls_of st n)) _ (not-false _ (accepted-by nw st (Reroute n from to via) h).known)).0
 
--- the train that an accepted message names is there, and first times for the events that it makes can be kept and taken away again
-pub record IsFitting (st : State) (m : Message) (times : Kept) : Type 0 where
-  pub there : HasItsTrain (length st.trains) m
-  pub within : changed_train m < length (with_made m times).trains
-  pub undone : without_made st m (with_made m times) ≡ times
-
-pub fitting : (nw : Network) (st : State) (m : Message) (times : Kept) → IsShape m → refusal nw st m ≡ None → AreSized (next_labels st) times → IsFitting st m times
-fitting nw st (Cancel n from to) times shape h sized =
-    let r = train-of (slice_get st.trains n) from to (not-false _ (accepted-by nw st (Cancel n from to) h).known) in
+-- for the events that an accepted message makes there is room
+pub room-for : (nw : Network) (st : State) (s : Shape) (times : StoredTimes) → let m = message_of_shape s in IsWellFormed m → refusal nw st m ≡ None → HasTimesFor st times → HasRoomFor times s
+room-for nw st (Shapes.Cancel n from to) times well h has = tt
+room-for nw st (Shapes.Reroute n from to via) times well h has =
+    let r = rerouted-there nw st n from to via.now h in
     let less = slice_get_within st.trains n r.0 r.1 in
-    let long = sized-trains st times sized in
-    record { there = tt; within = omega arith; undone = refl }
-fitting nw st (Reroute n from to via) times shape h sized =
-    let r = rerouted-there nw st n from to via h in
-    let less = slice_get_within st.trains n r.0 r.1 in
-    let long = length-at n (λ ts. ts ++ blank_times (length via)) times.trains in
-    let same = sized-trains st times sized in
-    record {
-      there = less;
-      within = omega arith;
-      undone = rw r.1 (kept-again n (length via) r.0.next_label times (sized-at st times n r.0 sized r.1));
-    }
-fitting nw st (Extra n day route cs) times shape h sized =
-    let at = next-number nw st n day route cs h in
-    let long = length-append times.trains (blank_times (length cs) ∷ []) in
-    let same = sized-trains st times sized in
-    record { there = tt; within = omega arith; undone = popped-again (length cs) times }
-fitting nw st (Report n t) times shape h sized = absurd shape
-fitting nw st (Forecast n t) times shape h sized = absurd shape
-fitting nw st (Keep feeder train) times shape h sized = absurd shape
-fitting nw st (Drop feeder train) times shape h sized = absurd shape
-fitting nw st (Rule feeder train) times shape h sized = absurd shape
+    let enough = spare-of st.spare_calls (length via.now) (accepted-by nw st (Reroute n from to via.now) h).room in
+    (omega (arith, sized-trains st times has.sized), omega (arith, has.spare_calls))
+room-for nw st (Shapes.Extra n day route calls) times well h has =
+    let both = or-none (refused_if (nat_eq st.spare_trains 0) (Full Trains)) _ (accepted-by nw st (Extra n day route calls.now) h).room in
+    let train = eqb-false st.spare_trains 0 (refused-none (nat_eq st.spare_trains 0) (Full Trains) both.0) in
+    let enough = spare-of st.spare_calls (length calls.now) both.1 in
+    (omega (arith, has.spare_trains), omega (arith, well.0), omega (arith, has.spare_calls))
 
--- part of a listing of events that are not live
-pub record IsDeadListed (st : State) (before : Vec Node Global) (keys : List Key) (i : ℕ) (list : Vec Node Global) : Type 0 where
-  pub whole : list.items ++ map node_of (filter (λ k. not (is_live st (node_of k))) (drop i keys)) ≡ before.items ++ map node_of (filter (λ k. not (is_live st (node_of k))) keys)
-  pub room : vec_len list + length (drop i keys) ≤ vec_capacity list
-  pub capacity : vec_capacity list ≡ vec_capacity before
+-- part of a listing of live events
+pub record IsLiveListed (room : ℕ) (all left : List Event) (list : Vec Node Global) : Type 0 where
+  pub whole : list.items ++ map node_of (live_keys left) ≡ map node_of (live_keys all)
+  pub fits : vec_len list + length (live_keys left) ≤ vec_capacity list
+  pub capacity : vec_capacity list ≡ room

@@ -1,7 +1,7 @@
 -- How many times are kept for each train, where there are two for each label that it has used.
 use Rattle.timetable.proofs.Words.{◌≡◌, ℕ, zero, suc, ◌+◌, ◌*◌, ◌<◌, true, false, List, [], ◌∷◌, ◌++◌, Some, map, length, length-append, set, slice_get, refl, ◌∙◌, ap, arith, option_map}
 use Rattle.timetable.proofs.Words.{All, length-map, length-replicate, map-append, length-set, Node, node_of, Train, State, Event, change_train, node_at, events, IsTrain, events-from_each}
-use Rattle.timetable.proofs.Words.{trains-each, events_at-each, Kept, has_time, with_time, place_of, change_at, no_time, AreSized, blank_times, with_train_times, with_labels, next_labels}
+use Rattle.timetable.proofs.Words.{trains-each, events_at-each, StoredTimes, has_time, with_time, place_of, change_at, no_time, AreSized, blank_times, with_train_times, with_labels, next_labels, HasTimesFor}
 use Rattle.std.proofs.lemmas.Option.{slice_get-map}
 use Rattle.train_nodes.proofs.TimeLemmas.{held}
 
@@ -15,12 +15,12 @@ pub length-blank : (labels : ℕ) → length (blank_times labels) ≡ 2 * labels
 length-blank labels = length-replicate (2 * labels) no_time
 
 -- there are times for all trains, and of each for all its labels
-pub sized-trains : (st : State) (k : Kept) → AreSized (next_labels st) k → length k.trains ≡ length st.trains
+pub sized-trains : (st : State) (k : StoredTimes) → AreSized (next_labels st) k → length k.trains ≡ length st.trains
 sized-trains st k sized =
     let e = ap length sized in
     grind (arith, length-map k.trains length, length-map (next_labels st) twice, length-map st.trains next_of)
 
-pub sized-at : (st : State) (k : Kept) (n : ℕ) (t : Train) → AreSized (next_labels st) k → slice_get st.trains n ≡ Some t → option_map length (slice_get k.trains n) ≡ Some (2 * t.next_label)
+pub sized-at : (st : State) (k : StoredTimes) (n : ℕ) (t : Train) → AreSized (next_labels st) k → slice_get st.trains n ≡ Some t → option_map length (slice_get k.trains n) ≡ Some (2 * t.next_label)
 sized-at st k n t sized got = grind (arith, slice_get-map length k.trains n, slice_get-map twice (next_labels st) n, slice_get-map next_of st.trains n)
 
 -- a write of one time changes no number of times
@@ -29,11 +29,11 @@ lengths-set n p x [] = refl
 lengths-set zero p x (xs ∷ xss) = rw length-set refl
 lengths-set (suc n) p x (xs ∷ xss) = rw (lengths-set n p x xss) refl
 
-pub sized-write : (labels : List ℕ) (k : Kept) (n : Node) (x : ℕ) → AreSized labels k → AreSized labels (with_time n x k)
-sized-write labels k n x sized = lengths-set n.train (place_of n) x k.trains ∙ sized
+pub write-fits : (st : State) (k : StoredTimes) (n : Node) (x : ℕ) → HasTimesFor st k → HasTimesFor st (with_time n x k)
+write-fits st k n x h = record { sized = lengths-set n.train (place_of n) x k.trains ∙ h.sized; spare_trains = h.spare_trains; spare_calls = h.spare_calls }
 
 -- a train more, or labels more of a train
-pub sized-push : (labels : List ℕ) (k : Kept) (more : ℕ) → AreSized labels k → AreSized (labels ++ more ∷ []) (with_train_times more k)
+pub sized-push : (labels : List ℕ) (k : StoredTimes) (more : ℕ) → AreSized labels k → AreSized (labels ++ more ∷ []) (with_train_times more k)
 sized-push labels k more sized = rw (map-append, sized, length-blank, map-append) refl
 
 lengths-more : (n more : ℕ) (xss : List (List ℕ)) → map length (change_at n (λ xs. xs ++ blank_times more) xss) ≡ change_at n (λ l. l + 2 * more) (map length xss)
@@ -46,7 +46,7 @@ labels-more n more f [] h = refl
 labels-more zero more f (t ∷ ts) h = let e = h t in grind arith
 labels-more (suc n) more f (t ∷ ts) h = rw (labels-more n more f ts h) refl
 
-pub sized-more : (ts : List Train) (k : Kept) (n more : ℕ) (f : Train → Train) → ((t : Train) → (f t).next_label ≡ t.next_label + more) → AreSized (map next_of ts) k → AreSized (map next_of (change_train n f ts)) (with_labels n more k)
+pub sized-more : (ts : List Train) (k : StoredTimes) (n more : ℕ) (f : Train → Train) → ((t : Train) → (f t).next_label ≡ t.next_label + more) → AreSized (map next_of ts) k → AreSized (map next_of (change_train n f ts)) (with_labels n more k)
 sized-more ts k n more f h sized = rw (lengths-more n more k.trains, sized, labels-more n more f ts h) refl
 
 -- no label more
@@ -56,7 +56,7 @@ labels-kept zero f (t ∷ ts) h = rw (h t) refl
 labels-kept (suc n) f (t ∷ ts) h = rw (labels-kept n f ts h) refl
 
 -- there is a time for each event
-pub all-held : (st : State) (k : Kept) → All IsTrain st.trains → AreSized (next_labels st) k → All (λ v. has_time k (node_of v.key) ≡ true) (events st)
+pub all-held : (st : State) (k : StoredTimes) → All IsTrain st.trains → AreSized (next_labels st) k → All (λ v. has_time k (node_of v.key) ≡ true) (events st)
 unfolding events
 all-held st k trains sized =
     let P : Event → Type 0 = λ v. has_time k (node_of v.key) ≡ true in

@@ -7,7 +7,6 @@ use Rattle.timetable.proofs.Words.{elements, get_or, killed}
 use Rattle.std.specs.List.{list_all}
 use Rattle.mt_base.specs.declared.tables.StopRow.{StopRow}
 use Rattle.delay_model.specs.Changes.{is_stop}
-use Rattle.delay_model.specs.Cuts as Cuts
 
 labelled-stop : (label : ℕ) (dep : Bool) (f : EventValues → EventValues) (c : Call) → (change_labelled label (change_event dep f) c).stop ≡ c.stop
 labelled-stop label dep f c = grind arith

@@ -28,7 +28,7 @@ pub use Rattle.std.specs.List.Sorted.{IsNonDecreasingBy, IsPartitionPoint, IsPar
 pub use Rattle.std.specs.Ordering.{is_lt, ordering_then}
 pub use Rattle.mt_base.proofs.KeyLemmas.{before-asymmetric, before-itself, exact_keys, keys_total}
 pub use Rattle.edge_rules.proofs.InLine.{AllPairs-before, filter-none}
-pub use Rattle.edge_rules.specs.AtEvent.{edges_to, kept_time, local_at}
+pub use Rattle.edge_rules.specs.AtEvent.{edges_to, stored_time, local_at}
 pub use Rattle.edge_rules.specs.Timetabled.{Timetabled}
 pub use Rattle.state_laws.proofs.Accepted.{accepted-by, or-none, refused-none}
 pub use Rattle.state_laws.proofs.Changed.{Contains-map, contains-change, later-trains, map-same, train_events-there}
@@ -37,18 +37,19 @@ pub use Rattle.state_laws.proofs.Parts.{All-left, All-right, events-from_each, t
 pub use Rattle.state_laws.proofs.Stays.{stays-valid}
 pub use Rattle.state_laws.proofs.Stretches.{All-from, All-up_to, events_at-each}
 pub use Rattle.state_laws.proofs.Values.{IsSetting, any-there, put_forecast, put_report, set-shape, set_at}
-unfoldable pub use Rattle.train_nodes.specs.Kept.{time_of}
-pub use Rattle.train_nodes.specs.Kept.{AreSized, Kept, blank_times, change_at, has_time, no_time, place_of, with_labels, with_time, with_train_times}
-pub use Rattle.train_nodes.specs.Kinds.{IsShape}
+unfoldable pub use Rattle.train_nodes.specs.Times.{time_of}
+pub use Rattle.train_nodes.specs.Lists.{change_at}
+pub use Rattle.train_nodes.specs.Times.{AreSized, StoredTimes, blank_times, has_time, no_time, place_of, with_labels, with_time, with_train_times}
+pub use Rattle.train_nodes.specs.Kinds.{changed_train, message_by_choice, message_by_kind, message_of, message_of_shape}
 pub use Rattle.timetable.specs.AtStops.{AreAtStops, IsAtStop}
 unfoldable pub use Rattle.timetable.specs.Changed.{changed_nodes}
-pub use Rattle.timetable.specs.Changed.{is_changed}
+pub use Rattle.timetable.specs.Changed.{AreInOrder, IsChangedEvent, is_changed}
 unfoldable pub use Rattle.timetable.specs.Departures.{live_departures}
-pub use Rattle.timetable.specs.Departures.{AreListed, IsDeparture, IsRetimed, departing, departing_at, departure_cmp, departures_from, is_departure, kept_departure}
+pub use Rattle.timetable.specs.Departures.{AreListed, IsDeparture, IsRetimed, departing, departing_at, departure_cmp, departures_from, is_departure, stored_departure}
 pub use Rattle.timetable.specs.Departures.{leaves_before}
 pub use Rattle.timetable.specs.LiveTimes.{live_event, live_keys, live_time}
 pub use Rattle.timetable.specs.Running.{Running}
-pub use Rattle.timetable.specs.Settled.{HasItsTime, IsOrderOf, IsRoomy, IsSettled, has_another, next_labels}
-pub use Rattle.timetable.specs.Shapes.{HasItsTrain, IsPrepared, changed_train, with_made, without_made}
+pub use Rattle.timetable.specs.Settled.{HasItsTime, HasTimesFor, IsOrderOf, IsRoomy, IsSettled, has_another, next_labels}
+pub use Rattle.timetable.specs.Shapes.{HasRoomFor, IsPrepared, with_made}
 pub use Rattle.timetable.specs.Sorted.{in_order, placed}
 pub use Rattle.timetable.specs.declared.departure_list.Departure.{Departure}

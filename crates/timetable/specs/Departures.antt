@@ -11,8 +11,8 @@ use Rattle.delay_model.specs.declared.state.State.{State}
 use Rattle.delay_model.specs.declared.state.Event.{Event}
 use Rattle.delay_model.specs.Events.{events}
 use Rattle.delay_model.specs.Timing.{event_time}
-use Rattle.train_nodes.specs.Kept.{Kept}
-use Rattle.edge_rules.specs.AtEvent.{kept_time}
+use Rattle.train_nodes.specs.Times.{StoredTimes}
+use Rattle.edge_rules.specs.AtEvent.{stored_time}
 use Rattle.timetable.specs.declared.departure_list.Departure.{Departure}
 use Rattle.timetable.specs.LiveTimes.{live_keys}
 use Rattle.timetable.specs.Sorted.{in_order}
@@ -36,16 +36,16 @@ departing_at time k = record { time = time; key = k }
 abbrev pub departing : Network → State → Key → Departure
 departing nw st k = record { time = event_time nw st k; key = k }
 
--- the departure of this key, at the time that is kept for it
-abbrev pub kept_departure : Kept → Key → Departure
-kept_departure times k = record { time = kept_time times k; key = k }
+-- the departure of this key, at the time that is stored for it
+abbrev pub stored_departure : StoredTimes → Key → Departure
+stored_departure times k = record { time = stored_time times k; key = k }
 
 abbrev pub is_departure : Key → Bool
 is_departure k = k.dep
 
--- these are the departures among the events of these keys, each at the time that is kept for it, in their order
-pub record AreListed (times : Kept) (keys : List Key) (ds : List Departure) : Type 0 where
-  pub moved : IsPermutation (map (kept_departure times) (filter is_departure keys)) ds
+-- these are the departures among the events of these keys, each at the time that is stored for it, in their order
+pub record AreListed (times : StoredTimes) (keys : List Key) (ds : List Departure) : Type 0 where
+  pub moved : IsPermutation (map (stored_departure times) (filter is_departure keys)) ds
   pub ascends : AreInOrder ds
 
 -- a departure took another's place among departures, and then its own in their order

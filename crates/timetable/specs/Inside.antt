@@ -9,7 +9,7 @@ use Rattle.timetable.specs.Settled.{IsSettled, IsRoomy}
 abbrev pub seen : Inside → Running
 seen a = record { network = a.graph.network; state = a.graph.state; count = a.count; changed = a.changed.items }
 
--- trains call at stops, the times of the live events are kept, the live departures are listed, and there is room for the events that
+-- trains call at stops, the times of the live events are stored, the live departures are listed, and there is room for the events that
 -- messages may add
 pub record IsTimed (a : Inside) : Type 0 where
   pub at_stops : AreAtStops a.graph.network a.graph.state

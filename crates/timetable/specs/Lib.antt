@@ -6,5 +6,4 @@ pub mod Departures
 pub mod AtStops
 pub mod Settled
 pub mod Inside
-pub mod Faults
 pub mod Shapes

@@ -5,8 +5,8 @@ ghost use Rattle.std.specs.Iterator.{YieldsFirst, item_count};
 ghost use Rattle.std.specs.List.{AllPairs};
 ghost use Rattle.std.specs.List.Sorted.{IsNonDecreasingBy};
 ghost use Rattle.mt_base.specs.Order.{is_before, node_of};
-ghost use Rattle.train_nodes.specs.Kept.{has_time};
-ghost use Rattle.timetable.specs.Departures.{AreListed, is_departure, kept_departure, leaves_before};
+ghost use Rattle.train_nodes.specs.Times.{has_time};
+ghost use Rattle.timetable.specs.Departures.{AreListed, is_departure, stored_departure, leaves_before};
 
 use mt_base::keys::Key;
 use mt_base::numbers::Time;
@@ -73,7 +73,7 @@ pub(crate) fn departures_from(departures: &[Departure], from: Time) -> Departure
     }
 }
 
-/// Adds the departures among these events, each at the time that is kept for it.
+/// Adds the departures among these events, each at the time that is stored for it.
 fn push_departures<L: Ledger>(
     departures: &mut Vec<Departure>,
     order: &[Key],
@@ -82,7 +82,7 @@ fn push_departures<L: Ledger>(
 )
     requires held { All (λ k. IsTrue (has_time times.now (node_of k))) order.now }
     requires room { vec_len departures.old + length order.now ≤ vec_capacity departures.old }
-    ensures departures { departures.new.items ≡ departures.old.items ++ map (kept_departure times.now) (filter is_departure order.now) }
+    ensures departures { departures.new.items ≡ departures.old.items ++ map (stored_departure times.now) (filter is_departure order.now) }
     ensures capacity { vec_capacity departures.new ≡ vec_capacity departures.old }
 {
     for k in order {

@@ -1,17 +1,16 @@
-//! The live events of trains in the order of their keys, and first times for the events of all trains.
+//! The live events of trains in the order of their keys.
 
 ghost use Rattle.std.specs.Prelude.{◌≡◌, ◌+◌, ◌*◌, ◌<◌, ◌≤◌, ◌++◌, All, IfOk, OnOk, OnErr, length, vec_len, vec_capacity};
 ghost use Rattle.delay_model.specs.Events.{events, train_events};
 ghost use Rattle.delay_model.specs.Valid.{IsTrain};
-ghost use Rattle.train_nodes.specs.Kept.{AreSized};
 ghost use Rattle.timetable.specs.LiveTimes.{live_keys};
-ghost use Rattle.timetable.specs.Settled.{IsOrderOf, next_labels};
+ghost use Rattle.timetable.specs.Settled.{IsOrderOf};
 
 use mt_base::keys::Key;
 use mt_base::memory::OutOfMemory;
 use mt_base::numbers::TrainNo;
 use std::alloc::Global;
-use train_nodes::{NodeTimes, Trains};
+use train_nodes::Trains;
 
 /// Adds the keys of a train's live events, in the train's order. It fails only where there is no room for them.
 pub(crate) fn push_keys(
@@ -68,16 +67,4 @@ pub(crate) fn renew_order(order: &mut Vec<Key>, trains: &Trains)
         unreachable!()
     };
     order.sort_unstable();
-}
-
-/// A time that no event has for each event of these trains, and for each that ever had one of their labels.
-pub(crate) fn first_times(alloc: Global, trains: &Trains) -> Result<NodeTimes, OutOfMemory>
-    ensures { IfOk result (λ times. AreSized (next_labels trains.now) times) }
-{
-    let mut times = NodeTimes::new(alloc);
-    for number in 0..trains.count() {
-        let labels = trains.next_label(TrainNo::new(number));
-        times.push_train(labels.get())?;
-    }
-    Ok(times)
 }

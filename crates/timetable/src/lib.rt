@@ -5,7 +5,6 @@
 
 mod departure_list;
 mod events;
-pub mod faults;
 pub mod laws;
 mod messages;
 mod prepare;
@@ -14,5 +13,4 @@ mod settle;
 pub mod timetable;
 
 pub use departure_list::{Departure, Departures};
-pub use faults::StepFault;
 pub use timetable::Timetable;

@@ -1,14 +1,15 @@
 //! The rule for times, evaluated at one event after the other.
 
-ghost use Rattle.std.specs.Prelude.{◌≡◌, ◌+◌, ◌<◌, ◌≤◌, ◌^◌, ◌++◌, ℕ, List, IsTrue, Some, All, true, false, length, map, filter, vec_len, vec_capacity};
+ghost use Rattle.std.specs.Prelude.{◌≡◌, ◌+◌, ◌<◌, ◌≤◌, ◌^◌, ◌++◌, IsTrue, Some, All, true, false, length, map, filter, vec_len, vec_capacity};
 ghost use Rattle.mt_base.specs.declared.keys.Node.{Node as ANode};
 ghost use Rattle.mt_base.specs.Order.{node_of, is_same_node};
+ghost use Rattle.delay_model.specs.declared.state.State.{State as AState};
 ghost use Rattle.delay_model.specs.Events.{events, is_live};
 ghost use Rattle.delay_model.specs.Valid.{IsValid};
-ghost use Rattle.train_nodes.specs.Kept.{time_of, has_time, AreSized};
-ghost use Rattle.edge_rules.specs.AtEvent.{edges_to, kept_time, local_at};
+ghost use Rattle.train_nodes.specs.Times.{time_of, has_time};
+ghost use Rattle.edge_rules.specs.AtEvent.{edges_to, stored_time, local_at};
 ghost use Rattle.timetable.specs.Departures.{AreListed, live_departures};
-ghost use Rattle.timetable.specs.Settled.{IsOrderOf, IsSettled, HasItsTime, has_another, next_labels};
+ghost use Rattle.timetable.specs.Settled.{IsOrderOf, IsSettled, HasItsTime, HasTimesFor, has_another};
 
 use crate::departure_list::{Departure, renew_departures};
 use crate::retiming::retime;
@@ -18,7 +19,7 @@ use mt_base::numbers::Time;
 use std::sync::ledger::{Blank, Ledger};
 use train_nodes::{NodeTimes, Steps};
 
-/// Keeps the time that the rule gives an event, and answers the one that was kept and this one.
+/// Stores the time that the rule gives an event, and answers the one that was stored and this one.
 fn settle_one<L: Ledger>(
     graph: &Graph,
     n: &Node,
@@ -28,12 +29,12 @@ fn settle_one<L: Ledger>(
     requires live { IsTrue (is_live graph.now.state n.now) }
     requires has { IsTrue (has_time times.old n.now) }
     requires held { All (λ e. IsTrue (has_time times.old (node_of e.from))) (edges_to graph.now n.now) }
-    requires fits { All (λ e. kept_time times.old e.from + e.weight < 2 ^ 25) (edges_to graph.now n.now) }
+    requires fits { All (λ e. stored_time times.old e.from + e.weight < 2 ^ 25) (edges_to graph.now n.now) }
     ensures rule { local_at graph.now times.old n.now ≡ Some result.1 }
     ensures before { time_of times.old n.now ≡ Some result.0 }
     ensures after { time_of times.new n.now ≡ Some result.1 }
     ensures others { (m : ANode) → is_same_node n.now m ≡ false → time_of times.new m ≡ time_of times.old m }
-    ensures sized { (labels : List ℕ) → AreSized labels times.old → AreSized labels times.new }
+    ensures has_times { (st : AState) → HasTimesFor st times.old → HasTimesFor st times.new }
 {
     let is = graph.local(*n, times, steps);
     let was = times.read(*n, steps);
@@ -44,8 +45,8 @@ fn settle_one<L: Ledger>(
     (was, is)
 }
 
-/// Keeps the time of each of these events, which are the live ones in the order of their keys, and lists those for which another was
-/// kept. Departures that get another time are moved to their places, past `reach` others in all. It answers what is left of the reach:
+/// Stores the time of each of these events, which are the live ones in the order of their keys, and lists those for which another was
+/// stored. Departures that get another time are moved to their places, past `reach` others in all. It answers what is left of the reach:
 /// 0 where the departures are to be listed anew.
 fn settle_each<L: Ledger>(
     graph: &Graph,
@@ -64,7 +65,7 @@ fn settle_each<L: Ledger>(
     ensures times { All (HasItsTime graph.now.network graph.now.state times.new) order.now }
     ensures changed { changed.new.items ≡ changed.old.items ++ map node_of (filter (has_another graph.now.network graph.now.state times.old) order.now) }
     ensures capacity { vec_capacity changed.new ≡ vec_capacity changed.old }
-    ensures sized { (labels : List ℕ) → AreSized labels times.old → AreSized labels times.new }
+    ensures has_times { (st : AState) → HasTimesFor st times.old → HasTimesFor st times.new }
     ensures listed { 0 < result → AreListed times.new order.now departures.new }
 {
     let mut left = reach;
@@ -78,8 +79,8 @@ fn settle_each<L: Ledger>(
     left
 }
 
-/// Keeps the time of each of these events, which are the live ones in the order of their keys, lists those for which another was kept,
-/// and lists the departures. Where departures of these very events are listed at the times that are kept, only those that get another
+/// Stores the time of each of these events, which are the live ones in the order of their keys, lists those for which another was stored,
+/// and lists the departures. Where departures of these very events are listed at the stored times, only those that get another
 /// time are moved, as long as that is less work than to sort all.
 pub(crate) fn settle<L: Ledger>(
     graph: &Graph,
@@ -93,7 +94,7 @@ pub(crate) fn settle<L: Ledger>(
     requires valid { IsValid graph.now.network graph.now.state }
     requires order { IsOrderOf (events graph.now.state) order.now }
     requires held { All (λ k. IsTrue (has_time times.old (node_of k))) order.now }
-    requires labels { AreSized (next_labels graph.now.state) times.old }
+    requires has_times { HasTimesFor graph.now.state times.old }
     requires room { vec_len changed.old + length order.now ≤ vec_capacity changed.old }
     requires departures_room { length order.now ≤ vec_capacity departures.old }
     requires listed { are_listed ≡ true → AreListed times.old order.now departures.old.items }
@@ -114,7 +115,7 @@ pub(crate) fn settle<L: Ledger>(
     }
 }
 
-/// Keeps the time of each of these events, lists the departures among them, and counts no step.
+/// Stores the time of each of these events, lists the departures among them, and counts no step.
 pub(crate) fn settle_all<L: Ledger>(
     graph: &Graph,
     order: &[Key],
@@ -129,7 +130,7 @@ pub(crate) fn settle_all<L: Ledger>(
     requires valid { IsValid graph.now.network graph.now.state }
     requires order { IsOrderOf (events graph.now.state) order.now }
     requires held { All (λ k. IsTrue (has_time times.old (node_of k))) order.now }
-    requires labels { AreSized (next_labels graph.now.state) times.old }
+    requires has_times { HasTimesFor graph.now.state times.old }
     requires room { vec_len changed.old + length order.now ≤ vec_capacity changed.old }
     requires departures_room { length order.now ≤ vec_capacity departures.old }
     ensures settled { IsSettled graph.now.network graph.now.state times.new order.now }

@@ -1,6 +1,6 @@
 //! The timetable.
 
-ghost use Rattle.std.specs.Prelude.{◌≡◌, ◌+◌, ◌*◌, ◌≤◌, [], None, IfOk, IfErr, length, map, vec_capacity};
+ghost use Rattle.std.specs.Prelude.{◌≡◌, ◌+◌, ◌*◌, ◌≤◌, [], None, Some, IfOk, IfErr, length, map, vec_capacity};
 ghost use Rattle.delay_model.specs.Events.{events};
 ghost use Rattle.delay_model.specs.Refusals.{refusal};
 ghost use Rattle.delay_model.specs.Touched.{changed_count};
@@ -10,15 +10,11 @@ ghost use Rattle.edge_rules.specs.Held.{network_of};
 ghost use Rattle.graph_edit.specs.Values.{Answers};
 ghost use Rattle.timetable.specs.AtStops.{AreAtStops};
 ghost use Rattle.timetable.specs.Departures.{departures_from};
-ghost use Rattle.timetable.specs.Faults.{IsRefusal};
 ghost use Rattle.timetable.specs.LiveTimes.{live_time};
 ghost use Rattle.timetable.specs.Running.{stepped};
-ghost use Rattle.timetable.specs.declared.faults.StepFault.TheVariants.{OutOfMemory};
-ghost use Rattle.train_nodes.specs.Kinds.{IsShape};
 
 use crate::departure_list::{Departure, Departures, departures_from};
-use crate::events::{first_times, key_order};
-use crate::faults::StepFault;
+use crate::events::key_order;
 use crate::messages::check;
 use crate::prepare::prepare;
 use crate::settle::{settle, settle_all};
@@ -90,7 +86,7 @@ impl Timetable {
         requires nodes { length (events trains) + 2 * trains.spare_calls ≤ 2097152 }
         ensures { IfOk result (λ t. t ≡ record { network = network_of changes waits opts; state = trains; count = 0; changed = [] }) }
     {
-        let mut times = first_times(alloc, &trains)?;
+        let mut times = trains.blank_times(alloc)?;
         let order = key_order(alloc, &trains)?;
         let room = order.len() + 2 * trains.spare_calls() as usize;
         let mut changed = Vec::with_capacity(alloc, 2 * room)?;
@@ -137,24 +133,15 @@ impl Timetable {
     }
 
     /// Takes a message, and answers how many events it changes: those that it takes away or adds, and those whose time is another after
-    /// it. A message that is refused changes nothing, nor does one for which there is no memory. Reports, forecasts and what is chosen
-    /// for connections take no memory.
-    pub fn step<L: Ledger>(
-        &mut self,
-        alloc: Global,
-        m: &Msg,
-        steps: &mut Steps<L>,
-    ) -> Result<u64, StepFault>
-        ensures refused { IfErr result (λ f. IsRefusal (refusal self.old.network self.old.state m.now) f) }
-        ensures kept { IfErr result (λ _. self.new ≡ self.old) }
-        ensures memory { IfErr result (λ f. f ≡ OutOfMemory → (refusal self.old.network self.old.state m.now ≡ None) × IsShape m.now) }
+    /// it. A message that is refused changes nothing. It takes no memory.
+    pub fn step<L: Ledger>(&mut self, m: &Msg, steps: &mut Steps<L>) -> Result<u64, Refusal>
+        ensures refused { IfErr result (λ r. refusal self.old.network self.old.state m.now ≡ Some r) }
+        ensures unchanged { IfErr result (λ _. self.new ≡ self.old) }
         ensures accepted { IfOk result (λ _. refusal self.old.network self.old.state m.now ≡ None) }
         ensures effect { IfOk result (λ _. self.new ≡ stepped self.old m.now) }
         ensures changed { IfOk result (λ n. n ≡ changed_count self.old.network self.old.state m.now) }
     {
-        check(&self.graph, m).map_err(StepFault::Refused)?;
         let same_events = prepare(
-            alloc,
             &mut self.graph,
             &mut self.times,
             &mut self.order,

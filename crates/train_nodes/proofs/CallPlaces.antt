@@ -12,7 +12,7 @@ use Rattle.delay_model.specs.Cuts.{before, after, up_to}
 use Rattle.delay_model.specs.Effect.{is_call, change_labelled, change_event, calls_between}
 use Rattle.delay_model.specs.Refusals.{has_call, stands_before}
 use Rattle.delay_model.specs.Valid.{HasDistinctLabels}
-use Rattle.train_nodes.specs.Kept.{change_at}
+use Rattle.train_nodes.specs.Lists.{change_at}
 use Rattle.train_nodes.specs.Places.{IsFirst, AreInOrder}
 use Rattle.train_nodes.proofs.Numbered.{nat_eq-is, nat_eq-from, nat_eq-apart}
 
@@ -64,7 +64,7 @@ none-head : {X : Type 0} (b : Bool) (x : X) (o : Option X) → cond b (Some x) o
 none-head true x o h = absurd (cc)
 none-head false x o h = (refl, h)
 
-none-any : {X : Type 0} (p : X → Bool) (xs : List X) → find p xs ≡ None → list_any p xs ≡ false
+pub none-any : {X : Type 0} (p : X → Bool) (xs : List X) → find p xs ≡ None → list_any p xs ≡ false
 none-any p [] h = refl
 none-any p (x ∷ xs) h =
     let both = none-head (p x) x (find p xs) h in
@@ -90,7 +90,7 @@ other-none (c ∷ cs) l h =
     ap (λ b. b || list_any (is_call l) cs) (nat_eq-apart c.label l (λ e. All-head (λ (d : Call). l ≢ d.label) c cs h (sym e)))
     ∙ other-none cs l (All-tail (λ (d : Call). l ≢ d.label) c cs h)
 
-past-none : (cs : List Call) (j l m : ℕ) → HasDistinctLabels cs → IsFirst (is_call l) j cs → j < m → list_any (is_call l) (drop m cs) ≡ false
+pub past-none : (cs : List Call) (j l m : ℕ) → HasDistinctLabels cs → IsFirst (is_call l) j cs → j < m → list_any (is_call l) (drop m cs) ≡ false
 past-none [] j l m d h k = absurd h
 past-none (c ∷ cs) j l zero d h k = absurd (omega arith)
 past-none (c ∷ cs) zero l (suc m) d h k =

@@ -1,225 +1,173 @@
--- A cancellation, event by event.
-use Rattle.std.proofs.Common.{◌≡◌, ℕ, zero, suc, ◌+◌, ◌-◌, ◌<◌, ◌≤◌, List, [], ◌∷◌, Bool, true, false, cond, ◌&&◌, ◌||◌, nat_eq, Option, None, Some, length, take, drop, map, refl, sym, ◌∙◌, ap, subst, arith, slice_get, All}
-use mathlib.Core.Bool.{beq}
+-- A cancellation, by the places of calls.
+use Rattle.std.proofs.Common.{◌≡◌, ℕ, ◌+◌, ◌-◌, ◌<◌, List, Bool, true, false, ◌&&◌, ◌||◌, not, nat_eq, nat_lt, nat_le, Option, Some, refl, sym, ◌∙◌, ap, subst, arith, slice_get, map, get_or, length}
 use Rattle.std.specs.Option.{option_map_or}
-use Rattle.std.proofs.lemmas.Bool.{cond-true, cond-false, cond_both, and_right}
-use Rattle.std.proofs.lemmas.List.Elements.{All-nil, All-cons, All-head, All-tail}
-use Rattle.mt_base.specs.Order.{node_of, is_same_node}
+use Rattle.std.specs.FinMap.{retain_keys, len}
+use Rattle.std.specs.Prelude.{Vec, vec_capacity}
+use Rattle.std.specs.declared.alloc.Global.{Global}
+use Rattle.std.proofs.lemmas.Bool.Decides.{nat_tests}
+use Rattle.std.proofs.lemmas.Option.{slice_get_read, slice_get_within}
+use Rattle.mt_base.specs.declared.keys.Node.{Node}
 use Rattle.delay_model.specs.declared.messages.Message.TheVariants.{Cancel}
-use Rattle.delay_model.specs.declared.state.EventValues.{EventValues}
 use Rattle.delay_model.specs.declared.state.Call.{Call}
 use Rattle.delay_model.specs.declared.state.Train.{Train}
 use Rattle.delay_model.specs.declared.state.State.{State}
 use Rattle.delay_model.specs.declared.state.Event.{Event}
-use Rattle.delay_model.specs.Cuts as Cuts
-use Rattle.delay_model.specs.Cuts.{up_to}
-use Rattle.delay_model.specs.Events.{calls_of, events_of, events_at, arrival_of, departure_of, is_event}
-use Rattle.delay_model.specs.Effect.{node_at, is_call, is_among, kill_in, killed, change_train, change_calls, change_labelled, change_event, with_event, stretch, without_overrides_of, effect, calls_between}
-use Rattle.delay_model.specs.Valid.{HasDistinctLabels}
-use Rattle.train_nodes.specs.Places.{IsFirst, AreInOrder}
-use Rattle.train_nodes.specs.Removed.{without_removed}
-use Rattle.train_nodes.proofs.CallPlaces.{first-drop, element, first-labelled, label_of, label-kept, labels-length, between-at, stands}
-use Rattle.train_nodes.proofs.EventLemmas.{name-test}
-use Rattle.train_nodes.proofs.RemovedLemmas.{cancel-among, overrides-removed, turned}
+use Rattle.delay_model.specs.Events.{calls_of}
+use Rattle.delay_model.specs.Effect.{node_at, is_among, kill_in, killed, change_train, change_calls, stretch, effect}
+use Rattle.train_nodes.specs.declared.rows.Row.{Row}
+use Rattle.train_nodes.specs.declared.shapes.Part.{Part}
+use Rattle.train_nodes.specs.declared.stored_call.StoredCall.{StoredCall}
+use Rattle.train_nodes.specs.declared.trains.Trains.TheInside.{Inside}
+use Rattle.train_nodes.specs.Linked.{call_of, values_by, slot_after, is_between, IsCurrentAt, IsRenewed, IsTrainLine}
+use Rattle.train_nodes.specs.Lines.{killed_by, IsKilled}
+use Rattle.train_nodes.specs.Numbering.{NumberedTrain, slot_of}
+use Rattle.train_nodes.specs.Removed.{is_end, is_removed, names_removed, without_removed}
+use Rattle.train_nodes.specs.Stored.{first_slot, seen}
+use Rattle.train_nodes.specs.StoredOverrides.{Overrides}
+use Rattle.train_nodes.proofs.CallPlaces.{stands}
+use Rattle.train_nodes.proofs.FoundParts.{IsFoundPart, found-in, between-test}
+use Rattle.train_nodes.proofs.LineLemmas.{IsLineChange}
+use Rattle.train_nodes.proofs.Numbered.{nat_eq-is, nat_eq-from, nat_eq-same, nat_eq-apart}
+use Rattle.train_nodes.proofs.PartLemmas.{same-tests}
+use Rattle.train_nodes.proofs.RemovedLemmas.{cancel-among, overrides-removed, removed-seen}
+use Rattle.train_nodes.proofs.StoredLemmas.{IsEdit, IsRowAt, changed-line, then-renewed, edited-trains}
+use Rattle.train_nodes.proofs.TrainLines.{one-of}
 
--- the events of a run of so many rides from the first of these calls on: of each ride the departure and the arrival
-abbrev pub run : ℕ → ℕ → ℕ → List Call → List Event
-run t route zero cs = []
-run t route (suc n) [] = []
-run t route (suc n) (c ∷ []) = []
-run t route (suc n) (c ∷ d ∷ ds) = departure_of t route c ∷ arrival_of t route d ∷ run t route n (d ∷ ds)
+-- an arrival goes where its call stands after the first of the part, and not after the last
+arrival-test : (c : Bool) (first p last : ℕ) → first < last → ((c && nat_eq p last) || (c && (nat_lt first p && nat_lt p last))) ≡ (c && (nat_lt first p && nat_le p last))
+arrival-test false first p last l = refl
+arrival-test true first p last l = grind (arith, nat_tests)
 
-run-trains : (t route n : ℕ) (cs : List Call) → All (λ v. v.key.train ≡ t) (run t route n cs)
-run-trains t route zero cs = All-nil (λ (v : Event). v.key.train ≡ t)
-run-trains t route (suc n) [] = All-nil (λ (v : Event). v.key.train ≡ t)
-run-trains t route (suc n) (c ∷ []) = All-nil (λ (v : Event). v.key.train ≡ t)
-run-trains t route (suc n) (c ∷ d ∷ ds) =
-    let P = λ (v : Event). v.key.train ≡ t in
-    let later = run t route n (d ∷ ds) in
-    All-cons P (departure_of t route c) (arrival_of t route d ∷ later) refl (All-cons P (arrival_of t route d) later refl (run-trains t route n (d ∷ ds)))
+-- a departure where it stands before the last, and not before the first
+departure-test : (c : Bool) (first p last : ℕ) → first < last → ((c && nat_eq p first) || (c && (nat_lt first p && nat_lt p last))) ≡ (c && (nat_le first p && nat_lt p last))
+departure-test false first p last l = refl
+departure-test true first p last l = grind (arith, nat_tests)
 
--- the events from a departure on, by the calls from its own on
-from-departure : (t route from first : ℕ) (cs : List Call) (c : Call) (later : List Call) → IsFirst (is_call from) first cs → drop first cs ≡ c ∷ later → Cuts.from (is_event (node_at t from true)) (events_at t route cs) ≡ departure_of t route c ∷ events_at t route later
-from-departure t route from first [] c later h e = absurd h
-from-departure t route from zero (d ∷ ds) c later h e =
-    let p = is_event (node_at t from true) in
-    let es = events_at t route ds in
-    let same : d ≡ c = cc in
-    let rest : ds ≡ later = cc in
-    cond-false (p (arrival_of t route d)) (arrival_of t route d ∷ departure_of t route d ∷ es) (Cuts.from p (departure_of t route d ∷ es)) (name-test t from d.label false true true h)
-    ∙ cond-true (p (departure_of t route d)) (departure_of t route d ∷ es) (Cuts.from p es) (name-test t from d.label true true true h)
-    ∙ ap (λ x. departure_of t route x ∷ es) same ∙ ap (λ xs. departure_of t route c ∷ events_at t route xs) rest
-from-departure t route from (suc first) (d ∷ ds) c later h e =
-    let p = is_event (node_at t from true) in
-    let es = events_at t route ds in
-    cond-false (p (arrival_of t route d)) (arrival_of t route d ∷ departure_of t route d ∷ es) (Cuts.from p (departure_of t route d ∷ es)) (name-test t from d.label false true false h.0)
-    ∙ cond-false (p (departure_of t route d)) (departure_of t route d ∷ es) (Cuts.from p es) (name-test t from d.label true true false h.0)
-    ∙ from-departure t route from first ds c later h.1 e
+and_assoc : (b c d : Bool) → ((b && c) && d) ≡ (b && (c && d))
+and_assoc true c d = refl
+and_assoc false c d = refl
 
--- and of these the ones up to an arrival
-up_to-arrival : (t route to k : ℕ) (c : Call) (ds : List Call) → IsFirst (is_call to) k ds → up_to (is_event (node_at t to false)) (departure_of t route c ∷ events_at t route ds) ≡ run t route (suc k) (c ∷ ds)
-up_to-arrival t route to k c [] h = absurd h
-up_to-arrival t route to zero c (d ∷ ds) h =
-    let p = is_event (node_at t to false) in
-    let es = departure_of t route d ∷ events_at t route ds in
-    cond-false (p (departure_of t route c)) (departure_of t route c ∷ []) (departure_of t route c ∷ up_to p (arrival_of t route d ∷ es)) (name-test t to c.label true false (nat_eq c.label to) refl ∙ and_right (nat_eq c.label to) false refl)
-    ∙ ap (λ vs. departure_of t route c ∷ vs) (cond-true (p (arrival_of t route d)) (arrival_of t route d ∷ []) (arrival_of t route d ∷ up_to p es) (name-test t to d.label false false true h))
-up_to-arrival t route to (suc k) c (d ∷ ds) h =
-    let p = is_event (node_at t to false) in
-    let es = departure_of t route d ∷ events_at t route ds in
-    cond-false (p (departure_of t route c)) (departure_of t route c ∷ []) (departure_of t route c ∷ up_to p (arrival_of t route d ∷ es)) (name-test t to c.label true false (nat_eq c.label to) refl ∙ and_right (nat_eq c.label to) false refl)
-    ∙ ap (λ vs. departure_of t route c ∷ vs) (cond-false (p (arrival_of t route d)) (arrival_of t route d ∷ []) (arrival_of t route d ∷ up_to p es) (name-test t to d.label false false false h.0))
-    ∙ ap (λ vs. departure_of t route c ∷ arrival_of t route d ∷ vs) (up_to-arrival t route to k d ds h.1)
+-- the row that was read is the train's
+pub row-read : (a : Inside) (t : ℕ) (r : Row) (n : NumberedTrain) → IsRowAt a t r n → (k : ℕ) (x : Row) → k ≡ t → x ≡ get_or a.rows.items k x → x ≡ r
+row-read a t r n w k x at read =
+    one-of a.rows.items t x r (slice_get_read a.rows.items (length a.rows.items) t x refl (slice_get_within a.rows.items t r w.row) (read ∙ ap (λ i. get_or a.rows.items i x) at)) w.row
 
-stretch-of : (t from to first last : ℕ) (o : Option Train) → let cs = option_map_or (λ (s : Train). s.calls) o [] in AreInOrder from to first last cs → (route : ℕ) × (up_to (is_event (node_at t to false)) (Cuts.from (is_event (node_at t from true)) (option_map_or (events_of t) o [])) ≡ run t route (last - first) (drop first cs))
-stretch-of t from to first last None w = absurd (w.start)
-stretch-of t from to first last (Some s) w =
-    let order = w.order in
-    let within = w.within in
-    let c = element s.calls first (omega arith) in
-    let later = drop (suc first) s.calls in
-    let n : suc (last - suc first) ≡ last - first = omega arith in (
-      s.route,
-      ap (up_to (is_event (node_at t to false))) (from-departure t s.route from first s.calls c.0 later w.start c.1)
-          ∙ up_to-arrival t s.route to (last - suc first) c.0 later (first-drop (is_call to) (suc first) (last - suc first) last s.calls (omega arith) w.end)
-          ∙ ap (run t s.route (suc (last - suc first))) (sym c.1)
-          ∙ ap (λ k. run t s.route k (drop first s.calls)) n,
-    )
+module _ (a : Inside) (t from to : ℕ) (p : Part) (r : Row) (n : NumberedTrain) (w : IsFoundPart a t from to p r n) where
+  abbrev es : List Event
+  es = stretch (seen a) t from to
 
--- these events taken out one after the other
-abbrev pub kills : List Event → State → State
-kills [] st = st
-kills (v ∷ vs) st = kills vs (with_event (node_of v.key) (killed true) st)
+  abbrev test : ℕ → Bool
+  test = is_between a.calls.items a.slots t p.first p.last
 
-killed-twice : (b : Bool) (e : EventValues) → killed b (killed true e) ≡ killed true e
-killed-twice true e = refl
-killed-twice false e = refl
+  -- an event is in the part exactly where the storage tells so
+  pub among-test : (v : Node) → is_among es v ≡ is_removed t test (Some (from, to)) v
+  among-test v =
+      cancel-among (seen a) t from to v (stands from to p.first p.last (calls_of (seen a) t) w.order)
+      ∙ ap (λ b. nat_eq v.train t && (is_end (Some (from, to)) v || b)) (sym (between-test a t from to p r n w v.label))
 
-kill-event : (d x y b : Bool) (c : Call) → let change = cond b (change_event d (killed true) c) c in record change { arrival = killed x change.arrival; departure = killed y change.departure } ≡ record c { arrival = killed ((b && beq d false) || x) c.arrival; departure = killed ((b && beq d true) || y) c.departure }
-kill-event d x y false c = refl
-kill-event true x y true c = ap (λ e. record c { arrival = killed x c.arrival; departure = e }) (killed-twice y c.departure)
-kill-event false x y true c = ap (λ e. record c { arrival = e; departure = killed y c.departure }) (killed-twice x c.arrival)
+  label-back : (l slot place i : ℕ) (x : StoredCall) → (c : IsCurrentAt a.calls.items a.slots t l slot) → c.call.place ≡ place → slice_get a.calls.items i ≡ Some x → x.train ≡ t → (b d : Bool) → x.current ≡ b → nat_eq x.place place ≡ d → (b && d) ≡ true → nat_eq x.label l ≡ true
+  label-back l slot place i x c at h e true true current there both =
+      let k = found-in a t l slot r n w.of c in
+      let m = w.of.stored.placed i x r n h current (ap (slice_get a.rows.items) e ∙ w.of.row) (ap (slice_get a.slots.trains) e ∙ w.of.number) in
+      let same = sym m.1 ∙ ap (λ j. slot_after a.calls.items j (first_slot n)) (nat_eq-from x.place place there ∙ sym at) ∙ k.slot_is in
+      nat_eq-is x.label l (ap (λ (z : StoredCall). z.label) (one-of a.calls.items i x c.call h (ap (slice_get a.calls.items) same ∙ c.stored)) ∙ k.label_is)
+  label-back l slot place i x c at h e true false current there both = absurd (cc)
+  label-back l slot place i x c at h e false d current there both = absurd (cc)
 
-kept-label : (l : ℕ) (dep : Bool) (f : EventValues → EventValues) (c : Call) → (change_labelled l (change_event dep f) c).label ≡ c.label
-kept-label l dep f c =
-    cond_both (nat_eq c.label l) (change_event dep f c) c (λ (d : Call). d.label ≡ c.label) (λ yes. label-kept dep f c) (λ no. refl)
+  -- a call has a label where it stands at the place of the call of that label now
+  label-test : (l slot place i : ℕ) (x : StoredCall) → (c : IsCurrentAt a.calls.items a.slots t l slot) → c.call.place ≡ place → slice_get a.calls.items i ≡ Some x → x.train ≡ t → nat_eq x.label l ≡ (x.current && nat_eq x.place place)
+  label-test l slot place i x c at h e =
+      same-tests (nat_eq x.label l) (x.current && nat_eq x.place place)
+      (λ yes.
+      let number : slot_of a.slots t l ≡ Some i = ap (slot_of a.slots t) (sym (nat_eq-from x.label l yes)) ∙ ap (λ u. slot_of a.slots u x.label) (sym e) ∙ w.of.stored.numbered i x h in
+      let one : Some slot ≡ Some i = sym c.number ∙ number in
+      let same : slot ≡ i = cc in
+      let is = one-of a.calls.items i x c.call h (ap (slice_get a.calls.items) (sym same) ∙ c.stored) in
+      let current = ap (λ (z : StoredCall). z.current) is ∙ c.current in
+      let stands = nat_eq-is x.place place (ap (λ (z : StoredCall). z.place) is ∙ at) in
+      rw (current, stands) refl)
+      (λ yes. label-back l slot place i x c at h e x.current (nat_eq x.place place) refl refl yes)
 
--- an event more that is taken out of a call
-kill-step : (v : Event) (vs : List Event) (t : ℕ) (c : Call) → v.key.train ≡ t → kill_in vs t (change_labelled v.key.label (change_event v.key.dep (killed true)) c) ≡ kill_in (v ∷ vs) t c
-kill-step v vs t c e =
-    let l = v.key.label in
-    let d = v.key.dep in
-    let changed = change_labelled l (change_event d (killed true)) c in
-    let is = λ (dep : Bool). ap (λ k. is_same_node (node_at k l d) (node_at t c.label dep)) e ∙ name-test t c.label l d dep (nat_eq c.label l) (turned l c.label) in
-    let at = λ (k : ℕ) (dep : Bool). is_among vs (node_at t k dep) in
-    ap (λ k. record changed { arrival = killed (at k false) changed.arrival; departure = killed (at k true) changed.departure }) (kept-label l d (killed true) c)
-    ∙ kill-event d (at c.label false) (at c.label true) (nat_eq c.label l) c
-    ∙ ap (λ b. record c { arrival = killed (b || at c.label false) c.arrival; departure = killed ((nat_eq c.label l && beq d true) || at c.label true) c.departure }) (sym (is false))
-    ∙ ap (λ b. record c { arrival = killed (is_event (node_at t c.label false) v || at c.label false) c.arrival; departure = killed (b || at c.label true) c.departure }) (sym (is true))
+  -- whether a call of the train stands between the ends
+  within-test : (i : ℕ) (x : StoredCall) → slice_get a.calls.items i ≡ Some x → x.train ≡ t → test x.label ≡ (x.current && (nat_lt p.first x.place && nat_lt x.place p.last))
+  within-test i x h e =
+      let number : slot_of a.slots t x.label ≡ Some i = ap (λ u. slot_of a.slots u x.label) (sym e) ∙ w.of.stored.numbered i x h in
+      let inner = λ (o : Option StoredCall). option_map_or (λ (c : StoredCall). c.current && (nat_lt p.first c.place && nat_lt c.place p.last)) o false in
+      ap (λ o. option_map_or (λ (slot : ℕ). inner (slice_get a.calls.items slot)) o false) number ∙ ap inner h
 
--- a train that a change leaves is left
-left : (ts : List Train) (t : ℕ) (f : Train → Train) → ((s : Train) → f s ≡ s) → change_train t f ts ≡ ts
-left [] t f h = refl
-left (s ∷ ts) zero f h = ap (λ r. r ∷ ts) (h s)
-left (s ∷ ts) (suc t) f h = ap (λ rs. s ∷ rs) (left ts t f h)
+  -- which of its events are in the part
+  arrival-among : (i : ℕ) (x : StoredCall) → slice_get a.calls.items i ≡ Some x → x.train ≡ t → is_among es (node_at t x.label false) ≡ ((nat_eq x.train t && x.current) && (nat_lt p.first x.place && nat_le x.place p.last))
+  arrival-among i x h e =
+      let c = w.part.end in
+      among-test (node_at t x.label false)
+      ∙ ap (λ b. b && (nat_eq x.label to || test x.label)) (nat_eq-same t ∙ sym (nat_eq-is x.train t e))
+      ∙ ap (λ b. nat_eq x.train t && (b || test x.label)) (label-test to p.to p.last i x c w.part.last_is h e)
+      ∙ ap (λ b. nat_eq x.train t && ((x.current && nat_eq x.place p.last) || b)) (within-test i x h e)
+      ∙ ap (λ b. nat_eq x.train t && b) (arrival-test x.current p.first x.place p.last w.part.order)
+      ∙ sym (and_assoc (nat_eq x.train t) x.current (nat_lt p.first x.place && nat_le x.place p.last))
 
--- two changes of one train are one
-twice : (ts : List Train) (t : ℕ) (f g h : Train → Train) → ((s : Train) → f (g s) ≡ h s) → change_train t f (change_train t g ts) ≡ change_train t h ts
-twice [] t f g h e = refl
-twice (s ∷ ts) zero f g h e = ap (λ r. r ∷ ts) (e s)
-twice (s ∷ ts) (suc t) f g h e = ap (λ rs. s ∷ rs) (twice ts t f g h e)
+  departure-among : (i : ℕ) (x : StoredCall) → slice_get a.calls.items i ≡ Some x → x.train ≡ t → is_among es (node_at t x.label true) ≡ ((nat_eq x.train t && x.current) && (nat_le p.first x.place && nat_lt x.place p.last))
+  departure-among i x h e =
+      let c = w.part.start in
+      among-test (node_at t x.label true)
+      ∙ ap (λ b. b && (nat_eq x.label from || test x.label)) (nat_eq-same t ∙ sym (nat_eq-is x.train t e))
+      ∙ ap (λ b. nat_eq x.train t && (b || test x.label)) (label-test from p.from p.first i x c w.part.first_is h e)
+      ∙ ap (λ b. nat_eq x.train t && ((x.current && nat_eq x.place p.first) || b)) (within-test i x h e)
+      ∙ ap (λ b. nat_eq x.train t && b) (departure-test x.current p.first x.place p.last w.part.order)
+      ∙ sym (and_assoc (nat_eq x.train t) x.current (nat_le p.first x.place && nat_lt x.place p.last))
 
-kill-none : (t : ℕ) (cs : List Call) → map (kill_in [] t) cs ≡ cs
-kill-none t [] = refl
-kill-none t (c ∷ cs) = ap (λ ds. c ∷ ds) (kill-none t cs)
+  -- what is killed by places is killed by the model
+  killed-call : (i : ℕ) (x : StoredCall) → slice_get a.calls.items i ≡ Some x → x.train ≡ t → killed_by t p.first p.last x ≡ kill_in es t (call_of x)
+  killed-call i x h e =
+      let call = λ (b d : Bool). let c : Call = record (call_of x) { arrival = killed b (values_by x.arrival); departure = killed d (values_by x.departure) } in c in
+      let mine = nat_eq x.train t && x.current in
+      ap (λ b. call b (mine && (nat_le p.first x.place && nat_lt x.place p.last))) (sym (arrival-among i x h e))
+      ∙ ap (call (is_among es (node_at t x.label false))) (sym (departure-among i x h e))
 
-kill-more : (v : Event) (vs : List Event) (t : ℕ) (cs : List Call) → v.key.train ≡ t → map (kill_in vs t) (map (change_labelled v.key.label (change_event v.key.dep (killed true))) cs) ≡ map (kill_in (v ∷ vs) t) cs
-kill-more v vs t [] e = refl
-kill-more v vs t (c ∷ cs) e =
-    let change = change_labelled v.key.label (change_event v.key.dep (killed true)) in
-    ap (λ d. d ∷ map (kill_in vs t) (map change cs)) (kill-step v vs t c e)
-    ∙ ap (λ ds. kill_in (v ∷ vs) t c ∷ ds) (kill-more v vs t cs e)
+  cancel-change : (ds : List StoredCall) → IsKilled t p.first p.last a.calls.items ds → IsLineChange t (kill_in es t) a.calls.items ds
+  cancel-change ds k =
+      record {
+        count = k.same_count;
+        at = λ i x h.
+            let y = k.calls i x h in (
+              y.0,
+              y.1,
+              record {
+                train_same = ap (λ (c : StoredCall). c.train) y.2.rest;
+                label_same = ap (λ (c : StoredCall). c.label) y.2.rest;
+                before_same = ap (λ (c : StoredCall). c.before) y.2.rest;
+                after_same = ap (λ (c : StoredCall). c.after) y.2.rest;
+                current_same = ap (λ (c : StoredCall). c.current) y.2.rest;
+                call_is = λ e. y.2.call ∙ killed-call i x h e;
+                other = λ e. y.2.other (ap (λ b. b && x.current) (nat_eq-apart x.train t e));
+              },
+            );
+      }
 
--- to take events of one train out one after the other is to take out all
-kills-all : (vs : List Event) (t : ℕ) (st : State) → All (λ v. v.key.train ≡ t) vs → kills vs st ≡ record st { trains = change_train t (change_calls (map (kill_in vs t))) st.trains }
-kills-all [] t st h =
-    sym (ap (λ ts. record st { trains = ts }) (left st.trains t (change_calls (map (kill_in [] t))) (λ s. ap (λ cs. record s { calls = cs }) (kill-none t s.calls))))
-kills-all (v ∷ vs) t st h =
-    let e = All-head (λ (v : Event). v.key.train ≡ t) v vs h in
-    let change = change_calls (map (change_labelled v.key.label (change_event v.key.dep (killed true)))) in
-    kills-all vs t (with_event (node_of v.key) (killed true) st) (All-tail (λ (v : Event). v.key.train ≡ t) v vs h)
-    ∙ ap (λ k. record st { trains = change_train t (change_calls (map (kill_in vs t))) (change_train k change st.trains) }) e
-    ∙ ap (λ ts. record st { trains = ts }) (twice st.trains t (change_calls (map (kill_in vs t))) change (change_calls (map (kill_in (v ∷ vs) t))) (λ s. ap (λ cs. record s { calls = cs }) (kill-more v vs t s.calls e)))
+  -- a cancellation, after which each call of the train knows its place and the first report after it
+  pub cancel-edit : (mid ys : Vec StoredCall Global) (k : ℕ) (x : Row) → k ≡ t → x ≡ get_or a.rows.items k x → IsKilled p.train p.first p.last a.calls.items mid.items → vec_capacity mid ≡ vec_capacity a.calls → vec_capacity ys ≡ vec_capacity mid → ((first : ℕ) → IsTrainLine a.slots t first x.len mid.items → IsRenewed t first x.len mid.items ys.items) → IsEdit a ys t (kill_in es t) r n
+  cancel-edit mid ys k x at read killed capacity more renew =
+      let change = cancel-change mid.items (subst (λ u. IsKilled u p.first p.last a.calls.items mid.items) w.part.train_is killed) in
+      let len = ap (λ (q : Row). q.len) (row-read a t r n w.of k x at read) in
+      let line = changed-line a t (kill_in es t) mid.items r n w.of change in
+      let renewed = subst (λ m. IsRenewed t (first_slot n) m mid.items ys.items) len (renew (first_slot n) (subst (λ m. IsTrainLine a.slots t (first_slot n) m mid.items) (sym len) line)) in
+      record {
+        of = w.of;
+        change = then-renewed t r.len (first_slot n) (kill_in es t) a.calls.items mid.items ys.items change renewed;
+        capacity = more ∙ capacity;
+        places = renewed.places;
+        reports = renewed.reports;
+      }
 
-mapped-labels : (l : ℕ) (dep : Bool) (f : EventValues → EventValues) (cs : List Call) → map label_of (map (change_labelled l (change_event dep f)) cs) ≡ map label_of cs
-mapped-labels l dep f [] = refl
-mapped-labels l dep f (c ∷ cs) =
-    ap (λ k. k ∷ map label_of (map (change_labelled l (change_event dep f)) cs)) (kept-label l dep f c)
-    ∙ ap (λ ks. c.label ∷ ks) (mapped-labels l dep f cs)
-
-train-labels : (ts : List Train) (i t l : ℕ) (dep : Bool) (f : EventValues → EventValues) → map label_of (option_map_or (λ (t : Train). t.calls) (slice_get (change_train i (change_calls (map (change_labelled l (change_event dep f)))) ts) t) []) ≡ map label_of (option_map_or (λ (t : Train). t.calls) (slice_get ts t) [])
-train-labels [] i t l dep f = refl
-train-labels (s ∷ ts) zero zero l dep f = mapped-labels l dep f s.calls
-train-labels (s ∷ ts) zero (suc t) l dep f = refl
-train-labels (s ∷ ts) (suc i) zero l dep f = refl
-train-labels (s ∷ ts) (suc i) (suc t) l dep f = train-labels ts i t l dep f
-
--- of the events from a place on, those before another place are taken out
-pub record IsPart (before : State) (t first last place : ℕ) (st : State) : Type 0 where
-  pub labels : map label_of (calls_of st t) ≡ map label_of (calls_of before t)
-  pub rest : (route : ℕ) → kills (run t route (last - place) (drop place (calls_of before t))) st ≡ kills (run t route (last - first) (drop first (calls_of before t))) before
-
--- the places are there
-pub part-within : (before : State) (t first last place k : ℕ) (st : State) → IsPart before t first last place st → k < length (calls_of before t) → k < length (calls_of st t)
-part-within before t first last place k st w l =
-    let n = labels-length (calls_of st t) (calls_of before t) w.labels in omega arith
-
--- the labels stay with the departure's event taken out
-pub part-labels : (before st mid : State) (t first last place : ℕ) → HasDistinctLabels (calls_of before t) → place < length (calls_of before t) → IsPart before t first last place st → ((l : ℕ) → IsFirst (is_call l) place (calls_of st t) → mid ≡ with_event (node_at t l true) (killed true) st) → map label_of (calls_of mid t) ≡ map label_of (calls_of before t)
-part-labels before st mid t first last place distinct l w dep =
-    let c = element (calls_of before t) place l in
-    ap (λ (s : State). map label_of (calls_of s t)) (dep c.0.label (first-labelled (calls_of before t) (calls_of st t) place c.0 distinct w.labels l c.2))
-    ∙ train-labels st.trains t t c.0.label true (killed true)
-    ∙ w.labels
-
--- one ride more
-pub part-more : (before st mid new : State) (t first last place : ℕ) → HasDistinctLabels (calls_of before t) → last < length (calls_of before t) → place < last → IsPart before t first last place st → ((l : ℕ) → IsFirst (is_call l) place (calls_of st t) → mid ≡ with_event (node_at t l true) (killed true) st) → ((l : ℕ) → IsFirst (is_call l) (place + 1) (calls_of mid t) → new ≡ with_event (node_at t l false) (killed true) mid) → IsPart before t first last (place + 1) new
-part-more before st mid new t first last place distinct within l w dep arr =
-    let cs = calls_of before t in
-    let one : place + 1 ≡ suc place = omega arith in
-    let c = element cs place (omega arith) in
-    let d = element cs (suc place) (omega arith) in
-    let c_at = first-labelled cs (calls_of st t) place c.0 distinct w.labels (omega arith) c.2 in
-    let is_mid = dep c.0.label c_at in
-    let mid_labels = part-labels before st mid t first last place distinct (omega arith) w dep in
-    let d_at = first-labelled cs (calls_of mid t) (suc place) d.0 distinct mid_labels (omega arith) d.2 in
-    let is_new = arr d.0.label (subst (λ k. IsFirst (is_call d.0.label) k (calls_of mid t)) (sym one) d_at) in
-    let n : last - place ≡ suc (last - (place + 1)) = omega arith in
-    record {
-      labels = ap (λ (s : State). map label_of (calls_of s t)) is_new ∙ train-labels mid.trains t t d.0.label false (killed true) ∙ mid_labels;
-      rest = λ route.
-          let more = run t route (last - (place + 1)) (d.0 ∷ drop (suc (suc place)) cs) in
-          ap (λ s. kills (run t route (last - (place + 1)) (drop (place + 1) cs)) s) (is_new ∙ ap (with_event (node_at t d.0.label false) (killed true)) is_mid)
-          ∙ ap (λ ds. kills (run t route (last - (place + 1)) ds) (with_event (node_at t d.0.label false) (killed true) (with_event (node_at t c.0.label true) (killed true) st))) (ap (λ k. drop k cs) one ∙ d.1)
-          ∙ ap (λ ds. kills (run t route (suc (last - (place + 1))) ds) st) (sym (c.1 ∙ ap (λ ds. c.0 ∷ ds) d.1))
-          ∙ ap (λ k. kills (run t route k (drop place cs)) st) (sym n)
-          ∙ w.rest route;
-    }
-
--- the state of the storage after a cancellation is that of the model
-pub cancelled-state : (st left new : State) (t from to first last place : ℕ) → AreInOrder from to first last (calls_of st t) → left ≡ without_removed t (take (last - (first + 1)) (drop (first + 1) (calls_of st t))) (Some (from, to)) st → last ≤ place → IsPart left t first last place new → new ≡ effect st (Cancel t from to)
-unfolding effect
-cancelled-state st left new t from to first last place w e m part =
-    let cs = calls_of st t in
-    let es = stretch st t from to in
-    let one : first + 1 ≡ suc first = omega arith in
-    let end : last - place ≡ 0 = omega arith in
-    let is = stretch-of t from to first last (slice_get st.trains t) w in
-    let removed = e ∙ ap (λ k. without_removed t (take (last - k) (drop k cs)) (Some (from, to)) st) one
-    ∙ ap (λ ds. without_removed t ds (Some (from, to)) st) (sym (between-at from to first last cs w))
-    ∙ sym (overrides-removed es t (calls_between from to cs) (Some (from, to)) (λ n. cancel-among st t from to n (stands from to first last cs w)) st) in
-    let all = (subst (λ s. IsPart s t first last place new) removed part).rest is.0 in
-    ap (λ k. kills (run t is.0 k (drop place cs)) new) (sym end)
-    ∙ all
-    ∙ kills-all (run t is.0 (last - first) (drop first cs)) t (without_overrides_of es st) (run-trains t is.0 (last - first) (drop first cs))
-    ∙ ap (λ vs. without_overrides_of es (record st { trains = change_train t (change_calls (map (kill_in vs t))) st.trains })) (sym is.1)
+  -- it is seen as the model's
+  pub cancel-seen : (ys : Vec StoredCall Global) (o : Overrides) (cs : List StoredCall) → IsEdit a ys t (kill_in es t) r n → cs ≡ a.calls.items → o.choices ≡ retain_keys a.overrides.choices (λ q. not (names_removed p.train (is_between cs a.slots p.train p.first p.last) (Some (from, to)) q)) → o.spare ≡ a.overrides.spare + (len a.overrides.choices - len o.choices) → seen (record a { calls = ys; overrides = o }) ≡ effect (seen a) (Cancel t from to)
+  unfolding effect
+  cancel-seen ys o cs edit same choices spare =
+      let st = seen a in
+      let by = λ (ts : List Train). let s : State = record st { trains = ts } in s in
+      let new = by (change_train t (change_calls (map (kill_in es t))) st.trains) in
+      let kept = λ (u : ℕ) (cs : List StoredCall). retain_keys a.overrides.choices (λ q. not (names_removed u (is_between cs a.slots u p.first p.last) (Some (from, to)) q)) in
+      let left = choices ∙ ap (λ u. kept u cs) w.part.train_is ∙ ap (kept t) same in
+      removed-seen (record a { calls = ys }) o t test (Some (from, to)) left spare
+      ∙ ap (λ ts. without_removed t test (Some (from, to)) (by ts)) (edited-trains a ys o t (kill_in es t) r n edit)
+      ∙ sym (overrides-removed es t test (Some (from, to)) among-test new)

@@ -1,83 +1,147 @@
 -- A change of one event's values, in the storage and in the state.
-use Rattle.std.proofs.Common.{◌≡◌, ℕ, ◌+◌, ◌<◌, ◌≤◌, List, Bool, false, Option, Some, None, is_some, unwrap_or, length, sym, ◌∙◌, ap, subst, arith, map, vec_capacity}
+use Rattle.std.proofs.Common.{◌≡◌, ◌≢◌, ℕ, ◌-◌, ◌<◌, ◌≤◌, List, Bool, true, false, nat_eq, Some, None, length, refl, sym, ◌∙◌, ap, subst, arith, slice_get, vec_capacity, inl, inr}
 use Rattle.std.proofs.Math.ListN.{set}
+use Rattle.std.specs.Prelude.{Vec}
+use Rattle.std.specs.declared.alloc.Global.{Global}
+use Rattle.std.specs.Option.{option_map, option_and_then}
+use Rattle.std.proofs.lemmas.Bool.{cond-true, cond-false, cond_both, cases_eq}
+use Rattle.std.proofs.lemmas.List.{length-set}
+use Rattle.std.proofs.lemmas.Option.{slice_get_within, slice_get_cases}
 use Rattle.delay_model.specs.declared.state.Call.{Call}
-use Rattle.delay_model.specs.declared.state.Train.{Train}
-use Rattle.delay_model.specs.Effect.{is_call, change_train, change_calls, change_labelled, change_event}
-use Rattle.delay_model.specs.Events.{calls_of}
-use Rattle.train_nodes.specs.declared.calls.Edit.{Edit}
+use Rattle.delay_model.specs.Effect.{change_labelled, change_event}
+use Rattle.train_nodes.specs.declared.calls.Edit.TheVariants.{Forecast}
 use Rattle.train_nodes.specs.declared.rows.Row.{Row}
+use Rattle.train_nodes.specs.declared.stored_call.StoredCall.{StoredCall}
 use Rattle.train_nodes.specs.declared.trains.Trains.TheInside.{Inside}
-use Rattle.train_nodes.specs.Edits.{edited, reported_after}
-use Rattle.train_nodes.specs.Kept.{change_at}
-use Rattle.train_nodes.specs.Places.{IsFirst}
-use Rattle.train_nodes.specs.Rows.{calls_by, IsChangedWithin}
-use Rattle.train_nodes.specs.Stretches.{stretch}
-use Rattle.train_nodes.specs.Stored.{train_of, AreLabelled, IsTrainStored, IsRowStored, seen}
-use Rattle.train_nodes.proofs.StretchLemmas.{stretch-inside, length-stretch}
-use Rattle.train_nodes.proofs.CallPlaces.{changed-at, labels-at, labels-length, All-labels, distinct-labels, label_of}
-use Rattle.train_nodes.proofs.ReportLemmas.{reported-edited}
-use Rattle.train_nodes.proofs.StoredLemmas.{IsRowOf, row-calls, row-known, IsRowChange, changed-trains}
+use Rattle.train_nodes.specs.Edits.{edited}
+use Rattle.train_nodes.specs.Linked.{walk, call_of, call_report, next_report_of, HasPlaces, HasNextReports, IsEdited, IsRenewed, IsTrainLine}
+use Rattle.train_nodes.specs.Numbering.{NumberedTrain, Numbering, slot_of}
+use Rattle.train_nodes.specs.Stored.{first_slot, line_of}
+use Rattle.train_nodes.proofs.Numbered.{nat_eq-is, nat_eq-apart}
+use Rattle.train_nodes.proofs.RenewLemmas.{slice_get-set_same, slice_get-set_other}
+use Rattle.train_nodes.proofs.LineLemmas.{IsChangedBy, IsLineChange, KeepsReport, kept-places, kept-reports}
+use Rattle.train_nodes.proofs.StoredLemmas.{IsRowAt, row-stored, IsFound, IsEdit, then-renewed, changed-line}
 
--- a call is put among those of a train that has none of its own
-pub put-by : (own : Option (List Call)) (first len place : ℕ) (cs : List Call) (c : Call) → is_some own ≡ false → first + len ≤ length cs → place < length (unwrap_or own (stretch first len cs)) → unwrap_or own (stretch first len (set cs (first + place) c)) ≡ set (unwrap_or own (stretch first len cs)) place c
-put-by (Some ds) first len place cs c h l m = absurd (cc)
-put-by None first len place cs c h l m =
-    let n = length-stretch cs first len l in stretch-inside cs first len place c (omega arith)
+module _ (a : Inside) (t l slot : ℕ) (x y : StoredCall) (r : Row) (n : NumberedTrain) (h : Call → Call) (w : IsFound a t l slot x r n) (call : call_of y ≡ h (call_of x)) (rest : IsEdited x y) where
+  abbrev old : List StoredCall
+  old = a.calls.items
 
--- calls with the same labels are labelled as well
-pub labelled-same : (spare next : ℕ) (cs ds : List Call) → map label_of cs ≡ map label_of ds → AreLabelled spare next cs → AreLabelled spare next ds
-labelled-same spare next cs ds e h =
-    let len = labels-length cs ds e in
-    let some = h.some in
-    let count = h.count in
-    record { distinct = distinct-labels cs ds e h.distinct; below = All-labels (λ n. n < next) cs ds e h.below; some = omega arith; count = omega arith; small = h.small }
+  abbrev new : List StoredCall
+  new = set old slot y
 
--- an event of the call at a place among those of a train is changed
-pub record IsEdit (a b : Inside) (t place : ℕ) (dep : Bool) (e : Edit) (r q : Row) : Type 0 where
-  pub row : IsRowOf a t r
-  pub below : place < length (calls_by a.calls.items r)
-  pub rows : b.rows.items ≡ set a.rows.items t q
-  pub is : q ≡ record r { reported = reported_after r.reported place e; own = q.own }
-  pub calls : calls_by b.calls.items q ≡ change_at place (change_event dep (edited e)) (calls_by a.calls.items r)
-  pub within : IsChangedWithin r.first r.len a.calls.items b.calls.items
-  pub rows_capacity : vec_capacity b.rows ≡ vec_capacity a.rows
-  pub calls_capacity : vec_capacity b.calls ≡ vec_capacity a.calls
-  pub spare_trains : b.spare_trains ≡ a.spare_trains
-  pub spare_calls : b.spare_calls ≡ a.spare_calls
+  there : slot < length old
+  there = slice_get_within old slot x w.stored
 
-module _ (a b : Inside) (t place : ℕ) (dep : Bool) (e : Edit) (r q : Row) (w : IsEdit a b t place dep e r q) where
-  pub edit-known : IsRowStored b.spare_calls b.calls.items q
-  edit-known =
-      let old = row-known a t r w.row in
-      let ds = calls_by a.calls.items r in
-      let f = change_event dep (edited e) in
-      let new : IsTrainStored a.spare_calls r.next_label (reported_after r.reported place e) (change_at place f ds) = record { labels = labelled-same a.spare_calls r.next_label ds (change_at place f ds) (sym (labels-at place dep (edited e) ds)) old.labels; reports = reported-edited ds r.reported place dep e w.below old.reports } in
-      subst (λ k. IsTrainStored k q.next_label q.reported (calls_by b.calls.items q)) (sym w.spare_calls)
-      (subst (IsTrainStored a.spare_calls q.next_label q.reported) (sym w.calls)
-      (subst (λ (s : Row). IsTrainStored a.spare_calls s.next_label s.reported (change_at place f ds)) (sym w.is) new))
-
-  pub edit-change : IsRowChange a b t r q
-  edit-change = record {
-    row = w.row;
-    rows = w.rows;
-    first = ap (λ (s : Row). s.first) w.is;
-    len = ap (λ (s : Row). s.len) w.is;
-    within = w.within;
-    rows_capacity = w.rows_capacity;
-    calls_capacity = w.calls_capacity;
-    spare_trains = w.spare_trains;
-    spare_calls = let same = w.spare_calls in omega arith;
-    stored = edit-known;
+  own-change : IsChangedBy t (change_labelled l h) x y
+  own-change = record {
+    train_same = ap (λ (c : StoredCall). c.train) rest;
+    label_same = ap (λ (c : StoredCall). c.label) rest;
+    before_same = ap (λ (c : StoredCall). c.before) rest;
+    after_same = ap (λ (c : StoredCall). c.after) rest;
+    current_same = ap (λ (c : StoredCall). c.current) rest;
+    call_is = λ _. call ∙ sym (cond-true (nat_eq x.label l) (h (call_of x)) (call_of x) (nat_eq-is x.label l w.label_is));
+    other = λ ne. absurd (ne w.train_is);
   }
 
-  -- in the state the event of that label is changed
-  pub edit-trains : (label : ℕ) → IsFirst (is_call label) place (calls_of (seen a) t) → map (train_of b.calls.items) b.rows.items ≡ change_train t (change_calls (map (change_labelled label (change_event dep (edited e))))) (map (train_of a.calls.items) a.rows.items)
-  edit-trains label h =
-      let xs = a.calls.items in
-      let f = change_event dep (edited e) in
-      let to_train = λ (s : Row) (ds : List Call). let t : Train = record { day = s.day; route = s.route; next_label = s.next_label; calls = ds } in t in
-      let first = subst (IsFirst (is_call label) place) (row-calls a t r w.row) h in
-      changed-trains a b t r q edit-change (change_calls (map (change_labelled label f)))
-      (ap (to_train r) (sym (w.calls ∙ changed-at (calls_by xs r) place label f (row-known a t r w.row).labels.distinct first))
-      ∙ ap (λ (s : Row). to_train s (calls_by b.calls.items q)) (sym w.is))
+  other-change : (i : ℕ) (z : StoredCall) → slice_get old i ≡ Some z → i ≢ slot → IsChangedBy t (change_labelled l h) z z
+  other-change i z is ne = record {
+    train_same = refl;
+    label_same = refl;
+    before_same = refl;
+    after_same = refl;
+    current_same = refl;
+    call_is = λ train. sym (cond-false (nat_eq z.label l) (h (call_of z)) (call_of z) (nat_eq-apart z.label l (λ label.
+        let s = w.of.stored in
+        let p = s.numbered i z is in
+        let q = s.numbered slot x w.stored in
+        let trains : z.train ≡ x.train = train ∙ sym w.train_is in
+        let labels : z.label ≡ x.label = label ∙ sym w.label_is in
+        let same : slot_of a.slots z.train z.label ≡ slot_of a.slots x.train x.label = ap (λ u. slot_of a.slots u z.label) trains ∙ ap (slot_of a.slots x.train) labels in
+        ne (cc))));
+    other = λ _. refl;
+  }
+
+  -- to change the call in a slot is to change the call with its label
+  pub slot-changed : IsLineChange t (change_labelled l h) old new
+  slot-changed = record {
+    count = length-set old slot y;
+    at = λ i z is. elim (cases_eq i slot) [
+      | inl same ↦ (
+          let stored = w.stored in
+          let e : x ≡ z = cc in
+          (y, ap (slice_get new) same ∙ slice_get-set_same old slot y there, subst (λ z. IsChangedBy t (change_labelled l h) z y) e own-change))
+      | inr ne ↦ (z, slice_get-set_other old slot i y ne ∙ is, other-change i z is ne)
+    ];
+  }
+
+  slot-keeps : (i : ℕ) (u v : StoredCall) → slice_get old i ≡ Some u → slice_get new i ≡ Some v → KeepsReport u v
+  slot-keeps i u v is now = elim (cases_eq i slot) [
+    | inl same ↦ (
+        let stored = w.stored in
+        let put = slice_get-set_same old slot y there in
+        let e : x ≡ u = cc in
+        let f : y ≡ v = (let at = ap (slice_get new) same in cc) in
+        subst (λ v. KeepsReport u v) f (subst (λ u. KeepsReport u y) e (record { place_same = ap (λ (c : StoredCall). c.place) rest; next_same = ap next_report_of rest })))
+    | inr ne ↦ (
+        let kept = slice_get-set_other old slot i y ne in
+        let e : u ≡ v = cc in
+        subst (λ v. KeepsReport u v) e (record { place_same = refl; next_same = refl }))
+  ]
+
+  -- where no report changes, all stays in place
+  pub slot-edit : (calls : Vec StoredCall Global) → calls.items ≡ new → vec_capacity calls ≡ vec_capacity a.calls → ((c : Call) → call_report (h c) ≡ call_report c) → IsEdit a calls t (change_labelled l h) r n
+  slot-edit calls items capacity same =
+      let f = first_slot n in
+      let line = line_of old r.len n in
+      let own = row-stored a t r n w.of in
+      let reports = λ (c : Call). cond_both (nat_eq c.label l) (h c) c (λ d. call_report d ≡ call_report c) (λ _. same c) (λ _. refl) in
+      record {
+        of = w.of;
+        change = subst (IsLineChange t (change_labelled l h) old) (sym items) slot-changed;
+        capacity = capacity;
+        places = subst (λ cs. HasPlaces 0 (line_of cs r.len n)) (sym items) (subst (λ k. HasPlaces 0 (walk new k f)) own.whole
+            (kept-places t (change_labelled l h) old new slot-changed slot-keeps reports t 0 f f line own.linked));
+        reports = subst (λ cs. HasNextReports (line_of cs r.len n)) (sym items) (subst (λ k. HasNextReports (walk new k f)) own.whole
+            (kept-reports t (change_labelled l h) old new slot-changed slot-keeps reports t 0 f f line own.linked refl own.reports));
+      }
+
+-- a forecast changes no report
+pub forecast-reports : (dep : Bool) (time : ℕ) (c : Call) → call_report (change_event dep (edited (Forecast time)) c) ≡ call_report c
+forecast-reports true time c = refl
+forecast-reports false time c = refl
+
+-- calls that were changed and then renewed
+pub renewed-edit : (a : Inside) (calls : Vec StoredCall Global) (t len : ℕ) (g : Call → Call) (mid : List StoredCall) (r : Row) (n : NumberedTrain) → IsRowAt a t r n → IsLineChange t g a.calls.items mid → len ≡ r.len → ((first : ℕ) → IsTrainLine a.slots t first len mid → IsRenewed t first len mid calls.items) → vec_capacity calls ≡ vec_capacity a.calls → IsEdit a calls t g r n
+renewed-edit a calls t len g mid r n w k e renew capacity =
+    let f = first_slot n in
+    let done = subst (λ len. (first : ℕ) → IsTrainLine a.slots t first len mid → IsRenewed t first len mid calls.items) e renew f (changed-line a t g mid r n w k) in
+    record { of = w; change = then-renewed t r.len f g a.calls.items mid calls.items k done; capacity = capacity; places = done.places; reports = done.reports }
+
+-- with how many calls a train was loaded
+pub record IsLoadedBy (ns : List NumberedTrain) (t k : ℕ) : Type 0 where
+  pub train : NumberedTrain
+  pub there : slice_get ns t ≡ Some train
+  pub loaded : train.loaded ≡ k
+  pub some : 1 ≤ k
+  pub within : k ≤ length train.slots
+
+pub loaded-read : (ns : List NumberedTrain) (t k : ℕ) → ((t : ℕ) (n : NumberedTrain) → slice_get ns t ≡ Some n → (1 ≤ n.loaded) × (n.loaded ≤ length n.slots)) → option_map (λ (n : NumberedTrain). n.loaded) (slice_get ns t) ≡ Some k → IsLoadedBy ns t k
+loaded-read ns t k law h =
+    elim (slice_get_cases ns t).1 [
+      | inl n ↦ (
+          let is : n.0.loaded ≡ k = (let e = ap (option_map (λ (n : NumberedTrain). n.loaded)) n.2 in cc) in
+          let both = law t n.0 n.2 in
+          record { train = n.0; there = n.2; loaded = is; some = omega (arith, both.0); within = omega (arith, both.1) })
+      | inr past ↦ (let e = ap (option_map (λ (n : NumberedTrain). n.loaded)) past.1 in absurd (cc))
+    ]
+
+-- the slot of its last call
+pub last-there : (nb : Numbering) (t k : ℕ) → IsLoadedBy nb.trains t k → slot_of nb t (k - 1) ≡ None → ⊥
+last-there nb t k w h =
+    let some = w.some in
+    let within = w.within in
+    let at = ap (λ o. option_and_then (λ (n : NumberedTrain). slice_get n.slots (k - 1)) o) w.there in
+    elim (slice_get_cases w.train.slots (k - 1)).1 [
+      | inl s ↦ (let is = s.2 in absurd (cc))
+      | inr past ↦ (let p = past.0 in absurd (omega arith))
+    ]

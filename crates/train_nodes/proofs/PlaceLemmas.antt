@@ -8,7 +8,7 @@ use Rattle.std.specs.Ordering.{is_eq, is_lt, eq_by_cmp, ordering_index, ordering
 use Rattle.std.specs.List.{HoldsAt, insert, remove}
 use Rattle.std.specs.List.Sorted.{IsNonDecreasingBy, IsPartitionPoint, IsSearchInRange, IsBinarySearchResult}
 use Rattle.std.specs.FinMap as map
-use Rattle.std.specs.FinMap.{IsAntisymmetric, find, put, is_sorted, from_sorted, same_map, get-from_sorted, get-insert, get-remove}
+use Rattle.std.specs.FinMap.{IsAntisymmetric, find, put, is_sorted, from_sorted, same_map, retain_keys, get-from_sorted, get-insert, get-remove, get-retain_keys}
 use Rattle.std.specs.FinMap.Entries.{below_all, where_key, is_sorted-put, is_sorted-where_key, find-put, find-where_key}
 use Rattle.std.proofs.lemmas.Bool.{and_parts}
 use Rattle.std.proofs.lemmas.Cmp.{tied_back, alike_right, eq_by_cmp_equiv}
@@ -18,12 +18,12 @@ is_lt-Less Less h = refl
 is_lt-Less Equal h = absurd (cc)
 is_lt-Less Greater h = absurd (cc)
 
-truth : (b : Bool) → T b → b ≡ true
+pub truth : (b : Bool) → T b → b ≡ true
 truth true h = refl
 truth false h = absurd h
 
 -- of two answers of a comparison with one key, the first is no greater
-index-rises : (a b : Ordering) → (a ≡ Equal → b ≡ Greater) → (a ≡ Greater → b ≡ Greater) → ordering_index a ≤ ordering_index b
+pub index-rises : (a b : Ordering) → (a ≡ Equal → b ≡ Greater) → (a ≡ Greater → b ≡ Greater) → ordering_index a ≤ ordering_index b
 index-rises Less b f g = omega arith
 index-rises Equal b f g = rw (f refl) (omega arith)
 index-rises Greater b f g = rw (g refl) (omega arith)
@@ -33,21 +33,26 @@ turned true x y = refl
 turned false x y = refl
 
 module _ {K : Type 0} {R : K → K → Ordering} (o : IsTotalOrder R) where
-  above : (x y : K) → R x y ≡ Less → R y x ≡ Greater
+  pub above : (x y : K) → R x y ≡ Less → R y x ≡ Greater
   above x y h = o.antisymm y x ∙ ap ordering_reverse h
 
-  below : (x y : K) → R x y ≡ Greater → R y x ≡ Less
+  pub below : (x y : K) → R x y ≡ Greater → R y x ≡ Less
   below x y h = o.antisymm y x ∙ ap ordering_reverse h
 
   module _ {X : Type 0} where
     -- the entries of the other keys
-    abbrev others : K → List (K × X) → List (K × X)
+    abbrev pub others : K → List (K × X) → List (K × X)
     others k = where_key R (λ x. not (eq_by_cmp R k x))
 
-    first-below : (x : K) (e : K × X) (es : List (K × X)) → below_all R x (e ∷ es) ≡ true → R x e.0 ≡ Less
+    pub first-below : (x : K) (e : K × X) (es : List (K × X)) → below_all R x (e ∷ es) ≡ true → R x e.0 ≡ Less
     first-below x e es h = is_lt-Less (R x e.0) (and_parts (is_lt (R x e.0)) (below_all R x es) h).0
 
-    below-at : (x : K) (es : List (K × X)) (i : ℕ) (d : K × X) → below_all R x es ≡ true → i < length es → R x (get_or es i d).0 ≡ Less
+    -- a key below all keys has no entry
+    pub find-below : (x : K) (es : List (K × X)) → below_all R x es ≡ true → find R x es ≡ None
+    find-below x [] h = refl
+    find-below x (e ∷ es) h = rw (first-below x e es h) (find-below x es (and_parts _ _ h).1)
+
+    pub below-at : (x : K) (es : List (K × X)) (i : ℕ) (d : K × X) → below_all R x es ≡ true → i < length es → R x (get_or es i d).0 ≡ Less
     below-at x [] i d h l = absurd (omega arith)
     below-at x (e ∷ es) zero d h l = first-below x e es h
     below-at x (e ∷ es) (suc i) d h l = below-at x es i d (and_parts _ _ h).1 (omega arith)
@@ -67,13 +72,13 @@ module _ {K : Type 0} {R : K → K → Ordering} (o : IsTotalOrder R) where
     no_key k x (e ∷ es) same h = rw (o.congr k x e.0 same ∙ first-below x e es h) (ap (λ l. e ∷ l) (no_key k x es same (and_parts _ _ h).1))
 
     -- the entry of the key is at this place
-    record IsFound (k : K) (es : List (K × X)) (i : ℕ) : Type 0 where
+    pub record IsFound (k : K) (es : List (K × X)) (i : ℕ) : Type 0 where
       pub find_is : (d : K × X) → find R k es ≡ Some (get_or es i d).1
       pub put_is : (v : X) (d : K × X) → put R k v es ≡ set es i ((get_or es i d).0, v)
       pub others_are : others k es ≡ remove es i
 
     -- no entry has the key, and one of it would go to this place
-    record IsMissed (k : K) (es : List (K × X)) (i : ℕ) : Type 0 where
+    pub record IsMissed (k : K) (es : List (K × X)) (i : ℕ) : Type 0 where
       pub find_is : find R k es ≡ None
       pub put_is : (v : X) → put R k v es ≡ insert es i (k, v)
       pub others_are : others k es ≡ es
@@ -111,53 +116,31 @@ module _ {K : Type 0} {R : K → K → Ordering} (o : IsTotalOrder R) where
       pub sorted : is_sorted R es ≡ true
       pub is : from_sorted es ≡ m
 
-    module _ (same : IsAntisymmetric R) (es : List (K × X)) (k : K) (s : is_sorted R es ≡ true) where
-      put-is : (v : X) → IsListOf (put R k v es) (map.insert (from_sorted es) k v)
-      put-is v =
-          let t = is_sorted-put R o k v es (passes _ s) in
-          record {
-            sorted = truth _ t;
-            is = same_map o same _ _ (λ q.
-                get-from_sorted R (put R k v es) q t ∙ find-put R o q k v es
-                ∙ sym (get-insert o (from_sorted es) k v q ∙ ap (cond (eq_by_cmp R q k) (Some v)) (get-from_sorted R es q (passes _ s))));
-          }
+    -- the same of a list that is read as another
+    pub at-found : (es fs : List (K × X)) (k : K) (i : ℕ) → fs ≡ es → is_sorted R es ≡ true → i < length fs → HoldsAt (λ e. R e.0 k ≡ Equal) fs i → IsFound k es i
+    at-found es fs k i f s l h = found k es i s (rw f at l) (rw f at h)
 
-      others-is : IsListOf (others k es) (map.remove (from_sorted es) k)
-      others-is =
-          let t = is_sorted-where_key R (λ x. not (eq_by_cmp R k x)) es (passes _ s) in
-          record {
-            sorted = truth _ t;
-            is = same_map o same _ _ (λ q.
-                get-from_sorted R (others k es) q t
-                ∙ find-where_key R _ q (λ x u. ap (λ r. not (is_eq r)) (sym (alike_right o q x k u))) es
-                ∙ turned (eq_by_cmp R k q) _ _ ∙ ap (λ b. cond b None (find R q es)) ((eq_by_cmp_equiv o).symm k q)
-                ∙ sym (get-remove o (from_sorted es) k q ∙ ap (cond (eq_by_cmp R q k) None) (get-from_sorted R es q (passes _ s))));
-          }
+    pub at-gap : (es fs : List (K × X)) (k : K) (i : ℕ) → fs ≡ es → is_sorted R es ≡ true → i ≤ length fs → IsPartitionPoint (λ e. R e.0 k ≡ Less) (λ e. R e.0 k ≡ Greater) fs i → IsMissed k es i
+    at-gap es fs k i f s l h = missed k es i (rw f at l) (rw f at h)
 
-      -- what edits at the place of a key do
-      pub at-found : (fs : List (K × X)) (i : ℕ) → fs ≡ es → i < length fs → HoldsAt (λ e. R e.0 k ≡ Equal) fs i → record {
-        get : (e : K × X) → e ≡ get_or es i e → map.get (from_sorted {R = R} es) k ≡ Some e.1;
-        set : (e : K × X) (v : X) → e ≡ get_or es i e → IsListOf (set es i (e.0, v)) (map.insert (from_sorted es) k v);
-        remove : IsListOf (remove es i) (map.remove (from_sorted es) k);
-      }
-      at-found fs i f l h =
-          let there = found k es i s (rw f at l) (rw f at h) in
-          record {
-            get = λ e at. get-from_sorted R es k (passes _ s) ∙ there.find_is e ∙ ap (λ (d : K × X). Some d.1) (sym at);
-            set = λ e v at. rw (there.put_is v e, ← at) at (put-is v);
-            remove = rw there.others_are at others-is;
-          }
+    -- a list in order is the finite map
+    module _ (same : IsAntisymmetric R) (es : List (K × X)) (s : is_sorted R es ≡ true) where
+      pub put-is : (k : K) (v : X) → from_sorted {R = R} (put R k v es) ≡ map.insert (from_sorted es) k v
+      put-is k v = same_map o same _ _ (λ q.
+          get-from_sorted R (put R k v es) q (is_sorted-put R o k v es (passes _ s)) ∙ find-put R o q k v es
+          ∙ sym (get-insert o (from_sorted es) k v q ∙ ap (cond (eq_by_cmp R q k) (Some v)) (get-from_sorted R es q (passes _ s))))
 
-      -- and at the place where it would be
-      pub at-gap : (fs : List (K × X)) (i : ℕ) → fs ≡ es → i ≤ length fs → IsPartitionPoint (λ e. R e.0 k ≡ Less) (λ e. R e.0 k ≡ Greater) fs i → record {
-        get : map.get (from_sorted {R = R} es) k ≡ None;
-        insert : (v : X) → IsListOf (insert es i (k, v)) (map.insert (from_sorted es) k v);
-        remove : from_sorted {R = R} es ≡ map.remove (from_sorted es) k;
-      }
-      at-gap fs i f l h =
-          let gap = missed k es i (rw f at l) (rw f at h) in
-          record {
-            get = get-from_sorted R es k (passes _ s) ∙ gap.find_is;
-            insert = λ v. rw gap.put_is at (put-is v);
-            remove = (rw gap.others_are at others-is).is;
-          }
+      -- and the entries that pass a test by key
+      pub kept-is : (p : K → Bool) → from_sorted {R = R} (where_key R p es) ≡ retain_keys (from_sorted es) p
+      kept-is p =
+          let alike : (q x : K) → R q x ≡ Equal → p x ≡ p q = λ q x u. ap p (sym (same q x u)) in
+          same_map o same _ _ (λ q.
+          get-from_sorted R (where_key R p es) q (is_sorted-where_key R p es (passes _ s)) ∙ find-where_key R p q (alike q) es
+          ∙ sym (get-retain_keys (from_sorted es) p q (alike q) ∙ ap (λ v. cond (p q) v None) (get-from_sorted R es q (passes _ s))))
+
+      pub without-is : (k : K) → from_sorted {R = R} (others k es) ≡ map.remove (from_sorted es) k
+      without-is k = same_map o same _ _ (λ q.
+          get-from_sorted R (others k es) q (is_sorted-where_key R (λ x. not (eq_by_cmp R k x)) es (passes _ s))
+          ∙ find-where_key R _ q (λ x u. ap (λ r. not (is_eq r)) (sym (alike_right o q x k u))) es
+          ∙ turned (eq_by_cmp R k q) _ _ ∙ ap (λ b. cond b None (find R q es)) ((eq_by_cmp_equiv o).symm k q)
+          ∙ sym (get-remove o (from_sorted es) k q ∙ ap (cond (eq_by_cmp R q k) None) (get-from_sorted R es q (passes _ s))))

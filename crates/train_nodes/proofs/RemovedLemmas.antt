@@ -1,12 +1,9 @@
 -- What a cancellation or a rerouting takes out of a train, by the train's calls.
-use Rattle.std.proofs.Common.{◌≡◌, ℕ, List, [], ◌∷◌, Bool, true, false, cond, ◌&&◌, ◌||◌, not, nat_eq, T, length, refl, sym, ◌∙◌, ap, arith, ◌+◌, ◌-◌, Option, Some, None, slice_get}
+use Rattle.std.proofs.Common.{◌≡◌, ℕ, List, [], ◌∷◌, Bool, true, false, cond, ◌&&◌, ◌||◌, not, nat_eq, length, refl, sym, ◌∙◌, ap, arith, ◌+◌, ◌-◌, Option, Some, None, slice_get}
 use mathlib.Core.Bool.{beq}
 use Rattle.std.specs.Option.{option_map_or}
-use Rattle.std.specs.List.{filter}
 use Rattle.std.specs.Bool.{passes}
-use Rattle.std.specs.FinMap.{FinMap, retain_keys, len, len-entries, entries-from_sorted, same_map, get-from_sorted, get-retain_keys, from_sorted, is_sorted}
-use Rattle.std.specs.declared.cmp.Ordering.TheVariants.{Equal}
-use Rattle.std.specs.FinMap.Entries.{where_key, is_sorted-where_key, find-where_key}
+use Rattle.std.specs.FinMap.{FinMap, retain_keys, len, len-entries, entries-from_sorted, from_sorted, is_sorted}
 use Rattle.std.proofs.lemmas.Bool.{cond-false, eqb-true, and_parts, and_right}
 use Rattle.std.proofs.lemmas.Bool.Decides.{nat_tests}
 use Rattle.mt_base.specs.declared.keys.Node.{Node}
@@ -23,7 +20,6 @@ use Rattle.delay_model.specs.Events.{calls_of, events_at, events_of, is_event, a
 use Rattle.delay_model.specs.Effect.{is_call, node_at, stretch, is_among, names_one_of, events_between, calls_between, without_overrides_of}
 use Rattle.delay_model.specs.Refusals.{has_call, stands_before}
 use Rattle.delay_model.specs.Overrides.{connection_cmp}
-use Rattle.delay_model.proofs.ConnectionLemmas.{connections_total, exact_connections}
 use Rattle.train_nodes.specs.declared.trains.Trains.TheInside.{Inside}
 use Rattle.train_nodes.specs.Removed.{is_removed, names_removed, without_removed}
 use Rattle.train_nodes.specs.Stored.{seen}
@@ -111,7 +107,7 @@ with-ends false from to label d r = refl
 with-ends true from to label true r = both-ends (nat_eq from label) (nat_eq to label) r
 with-ends true from to label false r = last-end (nat_eq from label) (nat_eq to label) r
 
-calls-removed : (train route from to : ℕ) (cs : List Call) (n : Node) → stands_before from to cs ≡ true → is_among (up_to (is_event (node_at train to false)) (Cuts.from (is_event (node_at train from true)) (events_at train route cs))) n ≡ is_removed train (calls_between from to cs) (Some (from, to)) n
+calls-removed : (train route from to : ℕ) (cs : List Call) (n : Node) → stands_before from to cs ≡ true → is_among (up_to (is_event (node_at train to false)) (Cuts.from (is_event (node_at train from true)) (events_at train route cs))) n ≡ is_removed train (λ l. has_call l (calls_between from to cs)) (Some (from, to)) n
 unfolding is_same_node
 calls-removed train route from to cs n h =
     let both = and_parts _ _ h in
@@ -127,59 +123,42 @@ calls-removed train route from to cs n h =
     ∙ ap (λ b. b && (nat_eq (cond n.dep from to) n.label || has_call n.label (calls_between from to cs))) (turned train n.train)
     ∙ ap (λ b. nat_eq n.train train && (b || has_call n.label (calls_between from to cs))) (turned (cond n.dep from to) n.label)
 
-cancelled-of : (train from to : ℕ) (o : Option Train) (n : Node) → stands_before from to (option_map_or (λ (t : Train). t.calls) o []) ≡ true → is_among (up_to (is_event (node_at train to false)) (Cuts.from (is_event (node_at train from true)) (option_map_or (events_of train) o []))) n ≡ is_removed train (calls_between from to (option_map_or (λ (t : Train). t.calls) o [])) (Some (from, to)) n
+cancelled-of : (train from to : ℕ) (o : Option Train) (n : Node) → stands_before from to (option_map_or (λ (t : Train). t.calls) o []) ≡ true → is_among (up_to (is_event (node_at train to false)) (Cuts.from (is_event (node_at train from true)) (option_map_or (events_of train) o []))) n ≡ is_removed train (λ l. has_call l (calls_between from to (option_map_or (λ (t : Train). t.calls) o []))) (Some (from, to)) n
 cancelled-of train from to None n h = absurd (cc)
 cancelled-of train from to (Some t) n h = calls-removed train t.route from to t.calls n h
 
 -- a cancellation takes out the events of the calls between, and the ends
-pub cancel-among : (st : State) (train from to : ℕ) (n : Node) → stands_before from to (calls_of st train) ≡ true → is_among (stretch st train from to) n ≡ is_removed train (calls_between from to (calls_of st train)) (Some (from, to)) n
+pub cancel-among : (st : State) (train from to : ℕ) (n : Node) → stands_before from to (calls_of st train) ≡ true → is_among (stretch st train from to) n ≡ is_removed train (λ l. has_call l (calls_between from to (calls_of st train))) (Some (from, to)) n
 cancel-among st train from to n h = cancelled-of train from to (slice_get st.trains train) n h
 
-rerouted-of : (train from to : ℕ) (o : Option Train) (n : Node) → is_among (option_map_or (λ (t : Train). events_at train t.route (calls_between from to t.calls)) o []) n ≡ is_removed train (calls_between from to (option_map_or (λ (t : Train). t.calls) o [])) None n
+rerouted-of : (train from to : ℕ) (o : Option Train) (n : Node) → is_among (option_map_or (λ (t : Train). events_at train t.route (calls_between from to t.calls)) o []) n ≡ is_removed train (λ l. has_call l (calls_between from to (option_map_or (λ (t : Train). t.calls) o []))) None n
 rerouted-of train from to None n = sym (and_right (nat_eq n.train train) false refl)
 rerouted-of train from to (Some t) n =
     calls-among train t.route (calls_between from to t.calls) n
     ∙ ap (λ b. b && has_call n.label (calls_between from to t.calls)) (turned train n.train)
 
 -- a rerouting takes out the events of the calls between
-pub reroute-among : (st : State) (train from to : ℕ) (n : Node) → is_among (events_between st train from to) n ≡ is_removed train (calls_between from to (calls_of st train)) None n
+pub reroute-among : (st : State) (train from to : ℕ) (n : Node) → is_among (events_between st train from to) n ≡ is_removed train (λ l. has_call l (calls_between from to (calls_of st train))) None n
 reroute-among st train from to n = rerouted-of train from to (slice_get st.trains train) n
 
-names-same : (es : List Event) (train : ℕ) (cs : List Call) (ends : Option (ℕ × ℕ)) → ((n : Node) → is_among es n ≡ is_removed train cs ends n) → (p : Connection) → names_one_of es p ≡ names_removed train cs ends p
-names-same es train cs ends h p = ap (λ b. b || is_among es p.departure) (h p.arrival) ∙ ap (λ b. is_removed train cs ends p.arrival || b) (h p.departure)
+names-same : (es : List Event) (train : ℕ) (test : ℕ → Bool) (ends : Option (ℕ × ℕ)) → ((n : Node) → is_among es n ≡ is_removed train test ends n) → (p : Connection) → names_one_of es p ≡ names_removed train test ends p
+names-same es train test ends h p = ap (λ b. b || is_among es p.departure) (h p.arrival) ∙ ap (λ b. is_removed train test ends p.arrival || b) (h p.departure)
 
 -- where an event is among these exactly where it is taken out, the same overrides go
-pub overrides-removed : (es : List Event) (train : ℕ) (cs : List Call) (ends : Option (ℕ × ℕ)) → ((n : Node) → is_among es n ≡ is_removed train cs ends n) → (st : State) → without_overrides_of es st ≡ without_removed train cs ends st
-overrides-removed es train cs ends h st =
+pub overrides-removed : (es : List Event) (train : ℕ) (test : ℕ → Bool) (ends : Option (ℕ × ℕ)) → ((n : Node) → is_among es n ≡ is_removed train test ends n) → (st : State) → without_overrides_of es st ≡ without_removed train test ends st
+overrides-removed es train test ends h st =
     let left = λ (p : Connection → Bool). retain_keys st.overrides (λ q. not (p q)) in
     let without = λ (p : Connection → Bool). let s : State = record st { overrides = left p; spare_overrides = st.spare_overrides + (len st.overrides - len (left p)) } in s in
-    λ i. without (λ p. names-same es train cs ends h p i)
-
-truth : (b : Bool) → T b → b ≡ true
-truth true h = refl
-truth false h = absurd h
-
--- rows in order that pass a test by key stay in order
-pub kept-sorted : (p : Connection → Bool) (es : List (Connection × Override)) → is_sorted connection_cmp es ≡ true → is_sorted connection_cmp (filter (λ e. p e.0) es) ≡ true
-kept-sorted p es s = truth _ (is_sorted-where_key connection_cmp p es (passes _ s))
-
--- and are the entries of the finite map that pass it
-pub kept-rows : (p : Connection → Bool) (es : List (Connection × Override)) → is_sorted connection_cmp es ≡ true → from_sorted {R = connection_cmp} (filter (λ e. p e.0) es) ≡ retain_keys (from_sorted es) p
-kept-rows p es s =
-    let t = is_sorted-where_key connection_cmp p es (passes _ s) in
-    let alike : (q x : Connection) → connection_cmp q x ≡ Equal → p x ≡ p q = λ q x u. ap p (sym (exact_connections q x u)) in
-    same_map connections_total exact_connections _ _ (λ q.
-    get-from_sorted connection_cmp (where_key connection_cmp p es) q t ∙ find-where_key connection_cmp p q (alike q) es
-    ∙ sym (get-retain_keys (from_sorted es) p q (alike q) ∙ ap (λ o. cond (p q) o None) (get-from_sorted connection_cmp es q (passes _ s))))
+    λ i. without (λ p. names-same es train test ends h p i)
 
 -- there are as many entries as rows
 pub sorted-len : (es : List (Connection × Override)) → is_sorted connection_cmp es ≡ true → len (from_sorted {R = connection_cmp} es) ≡ length es
 sorted-len es s = len-entries (from_sorted es) ∙ ap length (entries-from_sorted connection_cmp es (passes _ s))
 
 -- the overrides that are stored after some went
-pub removed-seen : (a : Inside) (o : Overrides) (train : ℕ) (cs : List Call) (ends : Option (ℕ × ℕ)) → o.choices ≡ retain_keys a.overrides.choices (λ p. not (names_removed train cs ends p)) → o.spare ≡ a.overrides.spare + (len a.overrides.choices - len o.choices) → seen (record a { overrides = o }) ≡ without_removed train cs ends (seen a)
-removed-seen a o train cs ends h k =
+pub removed-seen : (a : Inside) (o : Overrides) (train : ℕ) (test : ℕ → Bool) (ends : Option (ℕ × ℕ)) → o.choices ≡ retain_keys a.overrides.choices (λ p. not (names_removed train test ends p)) → o.spare ≡ a.overrides.spare + (len a.overrides.choices - len o.choices) → seen (record a { overrides = o }) ≡ without_removed train test ends (seen a)
+removed-seen a o train test ends h k =
     let st = seen a in
     let with = λ (ch : FinMap connection_cmp Override) (n : ℕ). let s : State = record st { overrides = ch; spare_overrides = n } in s in
     ap (λ ch. with ch o.spare) h
-    ∙ ap (with (retain_keys st.overrides (λ p. not (names_removed train cs ends p)))) (k ∙ ap (λ ch. st.spare_overrides + (len st.overrides - len ch)) h)
+    ∙ ap (with (retain_keys st.overrides (λ p. not (names_removed train test ends p)))) (k ∙ ap (λ ch. st.spare_overrides + (len st.overrides - len ch)) h)

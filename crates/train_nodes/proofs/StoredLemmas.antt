@@ -1,293 +1,373 @@
 -- Stored trains and seen ones.
-use Rattle.std.proofs.Common.{◌≡◌, ℕ, zero, suc, ◌+◌, ◌<◌, ◌≤◌, List, [], ◌∷◌, ◌++◌, length, get_or, take, drop, refl, sym, ◌∙◌, ap, subst, arith, None, Some, slice_get, map, unwrap_or, vec_capacity, All}
-use Rattle.std.proofs.Math.ListN.{set}
-use Rattle.std.specs.Option.{option_map_or}
-use Rattle.std.proofs.lemmas.Option.{slice_get-get_or}
-use Rattle.std.proofs.lemmas.List.{length-map, length-set, length-append, length-drop, length_push, get_or-map, take-append-le, map-append}
-use Rattle.std.proofs.lemmas.List.Elements.{All-map, All-set, All-push, All-weaker}
+use Rattle.std.proofs.Common.{◌≡◌, ◌≢◌, ℕ, zero, suc, ◌+◌, ◌-◌, ◌<◌, ◌≤◌, List, [], ◌∷◌, true, nat_eq, length, refl, sym, ◌∙◌, ap, subst, arith, Some, None, slice_get, find, map, All, inl, inr, vec_capacity}
+use Rattle.std.specs.Prelude.{Vec}
+use Rattle.std.specs.declared.alloc.Global.{Global}
+use Rattle.std.specs.Option.{option_map, option_map_or}
+use Rattle.std.proofs.lemmas.Bool.{cond-false, cases_eq}
+use Rattle.std.proofs.lemmas.List.{length-map}
+use Rattle.std.proofs.lemmas.Option.{slice_get_within, slice_get_cases, slice_get-map, get_or_from_slice_get, option_and_then_some}
 use Rattle.delay_model.specs.declared.state.Call.{Call}
 use Rattle.delay_model.specs.declared.state.Train.{Train}
-use Rattle.delay_model.specs.declared.state.State.{State}
-use Rattle.delay_model.specs.Effect.{change_train}
+use Rattle.delay_model.specs.Effect.{is_call, change_train, change_calls}
 use Rattle.delay_model.specs.Events.{calls_of}
 use Rattle.delay_model.specs.Valid.{HasDistinctLabels}
 use Rattle.train_nodes.specs.declared.rows.Row.{Row}
+use Rattle.train_nodes.specs.declared.stored_call.StoredCall.{StoredCall}
 use Rattle.train_nodes.specs.declared.trains.Trains.TheInside.{Inside}
-use Rattle.train_nodes.specs.Rows.{calls_by, IsChangedWithin}
-use Rattle.train_nodes.specs.Stretches.{stretch, IsLaidOut}
-use Rattle.train_nodes.specs.Stored.{train_of, first_of, len_of, HasReportsWithin, IsTrainStored, IsRowStored, IsStored, seen}
-use Rattle.train_nodes.proofs.StretchLemmas.{laid-ends, laid-within, laid-set, laid-push, stretch-front, stretch-back, stretch-end}
+use Rattle.train_nodes.specs.Calls.{call_named, last_label}
+use Rattle.train_nodes.specs.Linked.{walk, call_of, slot_after, HasPlaces, HasNextReports, IsChained, IsCurrentAt, HasNoCurrent, IsRenewed, IsTrainLine}
+use Rattle.train_nodes.specs.Numbering.{NumberedTrain, slot_of}
+use Rattle.train_nodes.specs.Places.{IsFirst}
+use Rattle.train_nodes.specs.StoredOverrides.{Overrides}
+use Rattle.train_nodes.specs.Stored.{first_slot, line_of, train_by, trains_by, seen, IsLinked, AreLabelled, IsTrainStored, IsStored}
+use Rattle.train_nodes.proofs.Numbered.{nat_eq-apart}
+use Rattle.train_nodes.proofs.CallPlaces.{label_of, labels-length, All-labels, distinct-labels, at-label, first-found}
+use Rattle.train_nodes.proofs.LineLemmas.{walk-linked, walk-at, linked-at, IsLineChange, changed-back, changed-length, changed-calls, changed-labels, changed-other, changed-linked, changed-chained, changed-mine, changed-after}
 
-module _ {Y : Type 0} (F : Row → List Call → Y) where
-  -- what rows stand for, from which something is made
-  pub made : List Call → List Row → List Y
-  made cs rs = map (λ r. F r (calls_by cs r)) rs
+pub train-at : (cs : List StoredCall) (rs : List Row) (ns : List NumberedTrain) (t : ℕ) (r : Row) (n : NumberedTrain) → slice_get rs t ≡ Some r → slice_get ns t ≡ Some n → slice_get (trains_by cs rs ns) t ≡ Some (train_by cs r n)
+train-at cs [] ns t r n h k = absurd (cc)
+train-at cs (q ∷ rs) [] t r n h k = absurd (cc)
+train-at cs (q ∷ rs) (m ∷ ns) zero r n h k =
+    let a : q ≡ r = cc in
+    let b : m ≡ n = cc in
+    ap (λ q. Some (train_by cs q m)) a ∙ ap (λ m. Some (train_by cs r m)) b
+train-at cs (q ∷ rs) (m ∷ ns) (suc t) r n h k = train-at cs rs ns t r n h k
 
-  -- it stays where calls change before these rows
-  later : (rs : List Row) (from end start : ℕ) (xs ys : List Call) → IsLaidOut first_of len_of from rs end → start ≤ from → drop start ys ≡ drop start xs → made ys rs ≡ made xs rs
-  unfolding IsLaidOut made
-  later [] from end start xs ys h l e = refl
-  later (r ∷ rs) from end start xs ys h l e =
-      let at : r.first ≡ from = h.0 in
-      ap (λ ds. F r (unwrap_or r.own ds) ∷ made ys rs) (stretch-back xs ys r.first r.len start (omega arith) e)
-      ∙ ap (λ zs. F r (calls_by xs r) ∷ zs) (later rs (from + r.len) end start xs ys h.1 (omega arith) e)
+pub train-none : (cs : List StoredCall) (rs : List Row) (ns : List NumberedTrain) (t : ℕ) → slice_get ns t ≡ None → slice_get (trains_by cs rs ns) t ≡ None
+train-none cs [] ns t h = refl
+train-none cs (q ∷ rs) [] t h = refl
+train-none cs (q ∷ rs) (m ∷ ns) zero h = absurd (cc)
+train-none cs (q ∷ rs) (m ∷ ns) (suc t) h = train-none cs rs ns t h
 
-  -- and after them
-  pub earlier : (rs : List Row) (from end : ℕ) (xs ys : List Call) → IsLaidOut first_of len_of from rs end → take end ys ≡ take end xs → made ys rs ≡ made xs rs
-  unfolding IsLaidOut made
-  earlier [] from end xs ys h e = refl
-  earlier (r ∷ rs) from end xs ys h e =
-      let at : r.first ≡ from = h.0 in
-      let ends = laid-ends first_of len_of (from + r.len) rs end h.1 in
-      ap (λ ds. F r (unwrap_or r.own ds) ∷ made ys rs) (stretch-front xs ys r.first r.len end (omega arith) e)
-      ∙ ap (λ zs. F r (calls_by xs r) ∷ zs) (earlier rs (from + r.len) end xs ys h.1 e)
+pub trains-length : (cs : List StoredCall) (rs : List Row) (ns : List NumberedTrain) → length rs ≡ length ns → length (trains_by cs rs ns) ≡ length ns
+trains-length cs [] ns e = e
+trains-length cs (q ∷ rs) [] e = refl
+trains-length cs (q ∷ rs) (m ∷ ns) e = ap suc (trains-length cs rs ns (omega arith))
 
-  -- where another row takes the place of one, and calls change where that has its own, only that changes
-  pub changed : (rs : List Row) (t from end : ℕ) (q d : Row) (xs ys : List Call) → IsLaidOut first_of len_of from rs end → t < length rs → IsChangedWithin (get_or rs t d).first (get_or rs t d).len xs ys → made ys (set rs t q) ≡ set (made xs rs) t (F q (calls_by ys q))
-  unfolding IsLaidOut made
-  changed [] t from end q d xs ys h l w = absurd (omega arith)
-  changed (r ∷ rs) zero from end q d xs ys h l w =
-      let at : r.first ≡ from = h.0 in
-      ap (λ zs. F q (calls_by ys q) ∷ zs) (later rs (from + r.len) end (r.first + r.len) xs ys h.1 (omega arith) w.after)
-  changed (r ∷ rs) (suc t) from end q d xs ys h l w =
-      let at : r.first ≡ from = h.0 in
-      let k = laid-within first_of len_of (from + r.len) rs end t d h.1 (omega arith) in
-      let ends : from + r.len ≤ (get_or rs t d).first = k.0 in
-      ap (λ ds. F r (unwrap_or r.own ds) ∷ made ys (set rs t q)) (stretch-front xs ys r.first r.len (get_or rs t d).first (omega arith) w.before)
-      ∙ ap (λ zs. F r (calls_by xs r) ∷ zs) (changed rs t (from + r.len) end q d xs ys h.1 (omega arith) w)
+-- as many trains are seen as are numbered
+pub seen-length : (a : Inside) → IsStored a → length (seen a).trains ≡ length a.slots.trains
+seen-length a s = trains-length a.calls.items a.rows.items a.slots.trains s.rows_count
 
-abbrev to_train : Row → List Call → Train
-to_train r cs = record { day = r.day; route = r.route; next_label = r.next_label; calls = cs }
+pub same-trains : (cs ds : List StoredCall) (rs : List Row) (ns : List NumberedTrain) → ((u : ℕ) (r : Row) (n : NumberedTrain) → slice_get rs u ≡ Some r → slice_get ns u ≡ Some n → train_by ds r n ≡ train_by cs r n) → trains_by ds rs ns ≡ trains_by cs rs ns
+same-trains cs ds [] ns h = refl
+same-trains cs ds (r ∷ rs) [] h = refl
+same-trains cs ds (r ∷ rs) (n ∷ ns) h =
+    ap (λ t. t ∷ trains_by ds rs ns) (h 0 r n refl refl) ∙ ap (λ ts. train_by cs r n ∷ ts) (same-trains cs ds rs ns (λ u. h (suc u)))
 
--- what is known of a row's calls
-abbrev to_known : Row → List Call → ℕ × ℕ × List Call
-to_known r cs = (r.next_label, r.reported, cs)
+-- where the calls of one train change, one train changes
+pub changed-trains : (cs ds : List StoredCall) (rs : List Row) (ns : List NumberedTrain) (t : ℕ) (f : Train → Train) → ((r : Row) (n : NumberedTrain) → slice_get rs t ≡ Some r → slice_get ns t ≡ Some n → train_by ds r n ≡ f (train_by cs r n)) → ((u : ℕ) (r : Row) (n : NumberedTrain) → u ≢ t → slice_get rs u ≡ Some r → slice_get ns u ≡ Some n → train_by ds r n ≡ train_by cs r n) → trains_by ds rs ns ≡ change_train t f (trains_by cs rs ns)
+changed-trains cs ds [] ns t f own other = refl
+changed-trains cs ds (r ∷ rs) [] t f own other = refl
+changed-trains cs ds (r ∷ rs) (n ∷ ns) zero f own other =
+    ap (λ t. t ∷ trains_by ds rs ns) (own r n refl refl)
+    ∙ ap (λ ts. f (train_by cs r n) ∷ ts) (same-trains cs ds rs ns (λ u q m. other (suc u) q m (λ e. absurd (omega arith))))
+changed-trains cs ds (r ∷ rs) (n ∷ ns) (suc t) f own other =
+    ap (λ t. t ∷ trains_by ds rs ns) (other 0 r n (λ e. absurd (omega arith)) refl refl)
+    ∙ ap (λ ts. train_by cs r n ∷ ts) (changed-trains cs ds rs ns t f own (λ u q m ne. other (suc u) q m (λ e. ne (omega arith))))
 
-abbrev IsKnown : ℕ → ℕ × ℕ × List Call → Type 0
-IsKnown spare k = IsTrainStored spare k.0 k.1 k.2
-
-unmapped : {X Y : Type 0} (P : Y → Type 0) (f : X → Y) (xs : List X) → All P (map f xs) → All (λ x. P (f x)) xs
-unmapped P f xs h = λ k d l.
-    let len = length-map xs f in
-    subst P (get_or-map f xs k d (f d) l) (h k (f d) (omega arith))
-
--- what is known of all rows, by what is made of them
-known : (spare : ℕ) (cs : List Call) (rs : List Row) → All (IsRowStored spare cs) rs → All (IsKnown spare) (made to_known cs rs)
-unfolding made
-known spare cs rs h = All-map (IsKnown spare) (λ r. to_known r (calls_by cs r)) rs h
-
-known-rows : (spare : ℕ) (cs : List Call) (rs : List Row) → All (IsKnown spare) (made to_known cs rs) → All (IsRowStored spare cs) rs
-unfolding made
-known-rows spare cs rs h = unmapped (IsKnown spare) (λ r. to_known r (calls_by cs r)) rs h
-
-pub less-spare : (more less : ℕ) → less ≤ more → (next reported : ℕ) (cs : List Call) → IsTrainStored more next reported cs → IsTrainStored less next reported cs
-less-spare more less l next reported cs h =
-    let small = h.labels.small in
-    record {
-      labels = record { distinct = h.labels.distinct; below = h.labels.below; some = h.labels.some; count = h.labels.count; small = omega arith };
-      reports = h.reports;
-    }
-
-all-less : (more less : ℕ) (cs : List Call) (rs : List Row) → less ≤ more → All (IsRowStored more cs) rs → All (IsRowStored less cs) rs
-all-less more less cs rs l h =
-    All-weaker (IsRowStored more cs) (IsRowStored less cs) (λ r. less-spare more less l r.next_label r.reported (calls_by cs r)) rs h
-
-set-train : (ts : List Train) (t : ℕ) (f : Train → Train) (x d : Train) → f (get_or ts t d) ≡ x → set ts t x ≡ change_train t f ts
-set-train [] t f x d e = refl
-set-train (s ∷ ts) zero f x d e = ap (λ r. r ∷ ts) (sym e)
-set-train (s ∷ ts) (suc t) f x d e = ap (λ rs. s ∷ rs) (set-train ts t f x d e)
-
-pub calls_at-row : (cs : List Call) (rs : List Row) (i : ℕ) (d : Row) → i < length rs → option_map_or (λ (t : Train). t.calls) (slice_get (map (train_of cs) rs) i) [] ≡ calls_by cs (get_or rs i d)
-calls_at-row cs [] i d l = absurd (omega arith)
-calls_at-row cs (r ∷ rs) zero d l = refl
-calls_at-row cs (r ∷ rs) (suc i) d l = calls_at-row cs rs i d (omega arith)
-
--- the row of a train that is there
-pub record IsRowOf (a : Inside) (t : ℕ) (r : Row) : Type 0 where
+-- the row of a train that is there, and its numbers
+pub record IsRowAt (a : Inside) (t : ℕ) (r : Row) (n : NumberedTrain) : Type 0 where
   pub stored : IsStored a
-  pub there : t < length a.rows.items
-  pub at : r ≡ get_or a.rows.items t r
+  pub row : slice_get a.rows.items t ≡ Some r
+  pub number : slice_get a.slots.trains t ≡ Some n
 
-pub row-of : (a : Inside) (t i : ℕ) (r : Row) → IsStored a → t < length a.rows.items → r ≡ get_or a.rows.items i r → i ≡ t → IsRowOf a t r
-row-of a t i r s l e f =
-    record { stored = s; there = l; at = e ∙ ap (λ k. get_or a.rows.items k r) f }
+pub row-numbered : (a : Inside) (t : ℕ) (n : NumberedTrain) → IsStored a → slice_get a.slots.trains t ≡ Some n → (r : Row) × IsRowAt a t r n
+row-numbered a t n s h =
+    let l = slice_get_within a.slots.trains t n h in
+    let count = s.rows_count in
+    elim (slice_get_cases a.rows.items t).1 [
+      | inl some ↦ (some.0, record { stored = s; row = some.2; number = h })
+      | inr none ↦ (let past = none.0 in absurd (omega arith))
+    ]
 
-module _ (a : Inside) (t : ℕ) (r : Row) (w : IsRowOf a t r) where
-  -- what its calls are
-  pub row-calls : calls_of (seen a) t ≡ calls_by a.calls.items r
-  row-calls = calls_at-row a.calls.items a.rows.items t r w.there ∙ ap (calls_by a.calls.items) (sym w.at)
+-- a train that is there has a row and numbers
+pub row-there : (a : Inside) (t : ℕ) → IsStored a → t < length a.slots.trains → (r : Row) × (n : NumberedTrain) × IsRowAt a t r n
+row-there a t s l =
+    elim (slice_get_cases a.slots.trains t).1 [
+      | inl some ↦ (let w = row-numbered a t some.0 s some.2 in (w.0, some.0, w.1))
+      | inr none ↦ (let past = none.0 in absurd (omega arith))
+    ]
 
-  -- and what is known of them
-  pub row-known : IsRowStored a.spare_calls a.calls.items r
-  row-known =
-      subst (IsRowStored a.spare_calls a.calls.items) (sym w.at) (w.stored.trains t r w.there)
-
-  pub row-is : get_or (map (train_of a.calls.items) a.rows.items) t (train_of a.calls.items r) ≡ train_of a.calls.items r
-  row-is =
-      get_or-map (train_of a.calls.items) a.rows.items t r (train_of a.calls.items r) w.there ∙ ap (train_of a.calls.items) (sym w.at)
+module _ (a : Inside) (t : ℕ) (r : Row) (n : NumberedTrain) (w : IsRowAt a t r n) where
+  -- what is known of it
+  pub row-stored : IsTrainStored a.slots.spare_calls a.calls.items t r.len n
+  row-stored = w.stored.trains t r n w.row w.number
 
   -- the train that is seen
-  pub row-train : slice_get (map (train_of a.calls.items) a.rows.items) t ≡ Some (train_of a.calls.items r)
-  row-train =
-      let n = length-map a.rows.items (train_of a.calls.items) in
-      let l = w.there in
-      slice_get-get_or (map (train_of a.calls.items) a.rows.items) t (train_of a.calls.items r) (omega arith) ∙ ap Some row-is
+  pub row-train : slice_get (seen a).trains t ≡ Some (train_by a.calls.items r n)
+  row-train = train-at a.calls.items a.rows.items a.slots.trains t r n w.row w.number
 
-  pub row-within : r.first + r.len ≤ length a.calls.items
-  row-within =
-      let k = laid-within first_of len_of 0 a.rows.items (length a.calls.items) t r w.stored.laid w.there in
-      subst (λ (q : Row). q.first + q.len ≤ length a.calls.items) (sym w.at) k.1
+  -- its calls
+  pub row-calls : calls_of (seen a) t ≡ map call_of (line_of a.calls.items r.len n)
+  row-calls = ap (λ o. option_map_or (λ (t : Train). t.calls) o []) row-train
 
--- no two calls of a train have one label
-pub stored-distinct : (a : Inside) (st : State) → IsStored a → seen a ≡ st → All (λ (t : Train). HasDistinctLabels t.calls) st.trains
-stored-distinct a st s v =
-    subst (λ (st : State). All (λ (t : Train). HasDistinctLabels t.calls) st.trains) v
-    (All-map (λ (t : Train). HasDistinctLabels t.calls) (train_of a.calls.items) a.rows.items
-    (All-weaker (IsRowStored a.spare_calls a.calls.items) (λ r. HasDistinctLabels (calls_by a.calls.items r)) (λ r h. h.labels.distinct) a.rows.items s.trains))
+-- a call of a train, in its slot and at its place
+pub record IsFound (a : Inside) (t label slot : ℕ) (x : StoredCall) (r : Row) (n : NumberedTrain) : Type 0 where
+  pub of : IsRowAt a t r n
+  pub train_is : x.train ≡ t
+  pub label_is : x.label ≡ label
+  pub is_current : x.current ≡ true
+  pub stored : slice_get a.calls.items slot ≡ Some x
+  pub within : x.place < r.len
+  pub slot_is : slot_after a.calls.items x.place (first_slot n) ≡ slot
+  pub place : slice_get (line_of a.calls.items r.len n) x.place ≡ Some x
+  pub first : IsFirst (is_call label) x.place (map call_of (line_of a.calls.items r.len n))
 
--- one row changed, and calls only where it has its own
-pub record IsRowChange (a b : Inside) (t : ℕ) (r q : Row) : Type 0 where
-  pub row : IsRowOf a t r
-  pub rows : b.rows.items ≡ set a.rows.items t q
-  pub first : q.first ≡ r.first
-  pub len : q.len ≡ r.len
-  pub within : IsChangedWithin r.first r.len a.calls.items b.calls.items
-  pub rows_capacity : vec_capacity b.rows ≡ vec_capacity a.rows
-  pub calls_capacity : vec_capacity b.calls ≡ vec_capacity a.calls
-  pub spare_trains : b.spare_trains ≡ a.spare_trains
-  pub spare_calls : b.spare_calls ≤ a.spare_calls
-  pub stored : IsRowStored b.spare_calls b.calls.items q
+found-at : (a : Inside) (t l slot : ℕ) (x : StoredCall) (r : Row) (n : NumberedTrain) → IsRowAt a t r n → x.train ≡ t → x.label ≡ l → x.current ≡ true → slice_get a.calls.items slot ≡ Some x → IsFound a t l slot x r n
+found-at a t l slot x r n w train label current stored =
+    let cs = a.calls.items in
+    let line = line_of cs r.len n in
+    let own = row-stored a t r n w in
+    let p = w.stored.placed slot x r n stored current (ap (slice_get a.rows.items) train ∙ w.row) (ap (slice_get a.slots.trains) train ∙ w.number) in
+    let whole = own.whole in
+    let l' : x.place < length line = omega (arith, p.0) in
+    let place = walk-at cs r.len (first_slot n) x.place l' ∙ ap (slice_get cs) p.1 ∙ stored in
+    let seen : slice_get (map call_of line) x.place ≡ Some (call_of x) = slice_get-map call_of line x.place ∙ ap (option_map call_of) place in
+    record {
+      of = w;
+      train_is = train;
+      label_is = label;
+      is_current = current;
+      stored = stored;
+      within = p.0;
+      slot_is = p.1;
+      place = place;
+      first = at-label (map call_of line) x.place l (call_of x) own.labels.distinct (omega (arith, length-map line call_of)) (ap label_of (get_or_from_slice_get (map call_of line) x.place (call_of x) (call_of x) seen) ∙ label);
+    }
 
-module _ (a b : Inside) (t : ℕ) (r q : Row) (w : IsRowChange a b t r q) where
-  there : IsChangedWithin (get_or a.rows.items t r).first (get_or a.rows.items t r).len a.calls.items b.calls.items
-  there =
-      subst (λ (s : Row). IsChangedWithin s.first s.len a.calls.items b.calls.items) w.row.at w.within
+-- the call with a label that is one of the train's calls now
+pub found : (a : Inside) (t l slot : ℕ) (x : StoredCall) → IsStored a → IsCurrentAt a.calls.items a.slots t l slot → slice_get a.calls.items slot ≡ Some x → (r : Row) × (n : NumberedTrain) × IsFound a t l slot x r n
+found a t l slot x s c stored =
+    let k = s.named t l slot c.number in
+    let current : c.call ≡ x = (let e = c.stored in cc) in
+    let named : k.call ≡ x = (let e = k.stored in cc) in
+    let train = ap (λ (x : StoredCall). x.train) (sym named) ∙ k.train_is in
+    let label = ap (λ (x : StoredCall). x.label) (sym named) ∙ k.label_is in
+    option_and_then_some (λ (n : NumberedTrain). slice_get n.slots l) (slice_get a.slots.trains t) slot c.number
+    (λ n is _. let w = row-numbered a t n s is in (w.0, n, found-at a t l slot x w.0 n w.1 train label (ap (λ (x : StoredCall). x.current) (sym current) ∙ c.current) stored))
 
-  changed-laid : IsLaidOut first_of len_of 0 b.rows.items (length b.calls.items)
-  changed-laid =
-      subst (λ rs. IsLaidOut first_of len_of 0 rs (length b.calls.items)) (sym w.rows)
-      (subst (IsLaidOut first_of len_of 0 (set a.rows.items t q)) (sym w.within.length_same)
-      (laid-set first_of len_of 0 a.rows.items (length a.calls.items) t q r (w.first ∙ ap first_of w.row.at) (w.len ∙ ap len_of w.row.at) w.row.stored.laid))
+-- it is the one that is seen
+pub found-named : (a : Inside) (t l slot : ℕ) (x : StoredCall) (r : Row) (n : NumberedTrain) → IsFound a t l slot x r n → call_named (seen a) t l ≡ Some (call_of x)
+found-named a t l slot x r n w =
+    let line = line_of a.calls.items r.len n in
+    ap (find (is_call l)) (row-calls a t r n w.of)
+    ∙ first-found (is_call l) x.place (map call_of line) w.first
+    ∙ slice_get-map call_of line x.place
+    ∙ ap (option_map call_of) w.place
 
-  changed-known : All (IsRowStored b.spare_calls b.calls.items) b.rows.items
-  changed-known =
-      let xs = a.calls.items in
-      let ys = b.calls.items in
-      let rs = a.rows.items in
-      let old = known b.spare_calls xs rs (all-less a.spare_calls b.spare_calls xs rs w.spare_calls w.row.stored.trains) in
-      subst (All (IsRowStored b.spare_calls ys)) (sym w.rows)
-      (known-rows b.spare_calls ys (set rs t q)
-      (subst (All (IsKnown b.spare_calls)) (sym (changed to_known rs t 0 (length xs) q r xs ys w.row.stored.laid w.row.there there))
-      (All-set (IsKnown b.spare_calls) (made to_known xs rs) t (to_known q (calls_by ys q)) w.stored old)))
+none-labelled : (cs xs : List StoredCall) (t place before slot l : ℕ) → IsLinked cs t place before slot xs → ((i : ℕ) (x : StoredCall) → slice_get cs i ≡ Some x → x.train ≡ t → x.current ≡ true → x.label ≢ l) → find (is_call l) (map call_of xs) ≡ None
+none-labelled cs [] t place before slot l h k = refl
+none-labelled cs (x ∷ xs) t place before slot l h k =
+    cond-false (nat_eq x.label l) (Some (call_of x)) (find (is_call l) (map call_of xs)) (nat_eq-apart x.label l (k slot x h.0 h.1.train_is h.1.is_current))
+    ∙ none-labelled cs xs t (place + 1) slot x.after l h.2 k
 
-  -- it is stored as before
-  pub changed-stored : IsStored b
-  changed-stored =
-      let s = w.row.stored in
-      let rows : length b.rows.items ≡ length a.rows.items = ap length w.rows ∙ length-set a.rows.items t q in
-      let calls = w.within.length_same in
-      record {
-        laid = changed-laid;
-        trains = changed-known;
-        rows_room = let room = s.rows_room in omega (arith, w.rows_capacity, w.spare_trains);
-        calls_room = let room = s.calls_room in omega (arith, w.calls_capacity, w.spare_calls);
-        rows_small = let small = s.rows_small in omega (arith, w.spare_trains);
-        calls_small = let small = s.calls_small in omega (arith, w.spare_calls);
-      }
+-- where no call has the label now, none is seen
+pub none-named : (a : Inside) (t l : ℕ) → IsStored a → HasNoCurrent a.calls.items a.slots t l → call_named (seen a) t l ≡ None
+none-named a t l s none =
+    elim (slice_get_cases a.slots.trains t).1 [
+      | inl some ↦ (let w = row-numbered a t some.0 s some.2 in
+          ap (find (is_call l)) (row-calls a t w.0 some.0 w.1)
+          ∙ none-labelled a.calls.items (line_of a.calls.items w.0.len some.0) t 0 (first_slot some.0) (first_slot some.0) l (row-stored a t w.0 some.0 w.1).linked
+          (λ i x h train current label.
+          let gone = none i x (ap (λ u. slot_of a.slots u l) (sym train) ∙ ap (slot_of a.slots x.train) (sym label) ∙ s.numbered i x h) h in absurd (cc)))
+      | inr past ↦ ap (λ o. find (is_call l) (option_map_or (λ (t : Train). t.calls) o [])) (train-none a.calls.items a.rows.items a.slots.trains t past.1)
+    ]
 
-  -- one train is changed
-  pub changed-trains : (f : Train → Train) → f (train_of a.calls.items r) ≡ train_of b.calls.items q → map (train_of b.calls.items) b.rows.items ≡ change_train t f (map (train_of a.calls.items) a.rows.items)
-  unfolding made
-  changed-trains f e =
-      let xs = a.calls.items in
-      let rs = a.rows.items in
-      ap (map (train_of b.calls.items)) w.rows
-      ∙ changed to_train rs t 0 (length xs) q r xs b.calls.items w.row.stored.laid w.row.there there
-      ∙ set-train (map (train_of xs) rs) t f (train_of b.calls.items q) (train_of xs r) (ap f (row-is a t r w.row) ∙ e)
+-- the last label is that at the last place
+pub last-at : (cs : List Call) → last_label cs ≡ option_map label_of (slice_get cs (length cs - 1))
+last-at [] = refl
+last-at (c ∷ []) = refl
+last-at (c ∷ d ∷ ds) =
+    let e : suc (length (d ∷ ds) - 1) ≡ length (c ∷ d ∷ ds) - 1 = omega arith in
+    last-at (d ∷ ds) ∙ ap (λ k. option_map label_of (slice_get (c ∷ d ∷ ds) k)) e
 
--- one row more, whose calls are appended to all calls
-pub record IsPush (a b : Inside) (r : Row) (new : List Call) : Type 0 where
-  pub before : IsStored a
-  pub rows : b.rows.items ≡ a.rows.items ++ r ∷ []
-  pub calls : b.calls.items ≡ a.calls.items ++ new
-  pub first : r.first ≡ length a.calls.items
-  pub len : r.len ≡ length new
-  pub own : r.own ≡ None
-  pub rows_capacity : vec_capacity b.rows ≡ vec_capacity a.rows
-  pub calls_capacity : vec_capacity b.calls ≡ vec_capacity a.calls
-  pub spare_trains : b.spare_trains + 1 ≡ a.spare_trains
-  pub spare_calls : b.spare_calls + length new ≡ a.spare_calls
-  pub stored : IsTrainStored b.spare_calls r.next_label r.reported new
+last-same : (cs ds : List Call) → map label_of ds ≡ map label_of cs → last_label ds ≡ last_label cs
+last-same cs ds e =
+    last-at ds
+    ∙ sym (slice_get-map label_of ds (length ds - 1))
+    ∙ ap (λ ls. slice_get ls (length ds - 1)) e
+    ∙ ap (λ n. slice_get (map label_of cs) (n - 1)) (labels-length ds cs e)
+    ∙ slice_get-map label_of cs (length cs - 1)
+    ∙ sym (last-at cs)
 
-module _ (a b : Inside) (r : Row) (new : List Call) (w : IsPush a b r new) where
-  pushed-length : length b.calls.items ≡ length a.calls.items + length new
-  pushed-length = ap length w.calls ∙ length-append a.calls.items new
+-- calls with the same labels are labelled as well, for no more spare calls
+pub labelled-same : (more less next : ℕ) (cs ds : List Call) → less ≤ more → map label_of cs ≡ map label_of ds → AreLabelled more next cs → AreLabelled less next ds
+labelled-same more less next cs ds l e h =
+    let len = labels-length cs ds e in
+    let some = h.some in
+    let count = h.count in
+    let small = h.small in
+    record { distinct = distinct-labels cs ds e h.distinct; below = All-labels (λ n. n < next) cs ds e h.below; some = omega arith; count = omega arith; small = omega arith }
 
-  -- the calls of the new row
-  own-calls : calls_by b.calls.items r ≡ new
+module _ (cs ds : List StoredCall) (u len : ℕ) (n : NumberedTrain) (more less : ℕ) (h : IsTrainStored more cs u len n) (k : IsLinked ds u 0 (first_slot n) (first_slot n) (line_of cs len n)) where
+  -- where a train's calls are linked as before, they are the same ones
+  pub kept-line : line_of ds len n ≡ line_of cs len n
+  kept-line =
+      ap (λ k. walk ds k (first_slot n)) (sym h.whole) ∙ walk-linked ds (line_of cs len n) u 0 (first_slot n) (first_slot n) k
+
+  pub kept-stored : less ≤ more → IsTrainStored less ds u len n
+  kept-stored l = record {
+    whole = ap length kept-line ∙ h.whole;
+    linked = subst (IsLinked ds u 0 (first_slot n) (first_slot n)) (sym kept-line) k;
+    reports = subst HasNextReports (sym kept-line) h.reports;
+    labels = subst (λ xs. AreLabelled less (length n.slots) (map call_of xs)) (sym kept-line)
+        (labelled-same more less (length n.slots) (map call_of (line_of cs len n)) (map call_of (line_of cs len n)) l refl h.labels);
+    last = ap (λ xs. last_label (map call_of xs)) kept-line ∙ h.last;
+  }
+
+module _ (t : ℕ) (g : Call → Call) (cs ds : List StoredCall) (w : IsLineChange t g cs ds) (spare len : ℕ) (n : NumberedTrain) (h : IsTrainStored spare cs t len n) where
+  abbrev old_line : List StoredCall
+  old_line = line_of cs len n
+
+  -- the calls of the train that is changed
+  whole-line : line_of ds len n ≡ walk ds (length old_line) (first_slot n)
+  whole-line = ap (λ k. walk ds k (first_slot n)) (sym h.whole)
+
+  own-calls : map call_of (line_of ds len n) ≡ map g (map call_of old_line)
   own-calls =
-      ap (λ o. unwrap_or o (stretch r.first r.len b.calls.items)) w.own
-      ∙ ap (stretch r.first r.len) w.calls
-      ∙ ap (λ k. stretch k r.len (a.calls.items ++ new)) w.first
-      ∙ ap (λ k. stretch (length a.calls.items) k (a.calls.items ++ new)) w.len
-      ∙ stretch-end a.calls.items new
+      ap (map call_of) whole-line ∙ changed-calls t g cs ds w t 0 (first_slot n) (first_slot n) old_line h.linked refl
 
-  front : take (length a.calls.items) b.calls.items ≡ take (length a.calls.items) a.calls.items
-  front =
-      let n = length a.calls.items in
-      ap (take n) w.calls ∙ take-append-le n a.calls.items new (omega arith)
-
-  pushed-known : All (IsRowStored b.spare_calls b.calls.items) b.rows.items
-  pushed-known =
-      let rs = a.rows.items in
-      let spare = w.spare_calls in
-      let old = known b.spare_calls a.calls.items rs (all-less a.spare_calls b.spare_calls a.calls.items rs (omega arith) w.before.trains) in
-      subst (All (IsRowStored b.spare_calls b.calls.items)) (sym w.rows)
-      (All-push (IsRowStored b.spare_calls b.calls.items) rs r
-      (known-rows b.spare_calls b.calls.items rs (subst (All (IsKnown b.spare_calls)) (sym (earlier to_known rs 0 (length a.calls.items) a.calls.items b.calls.items w.before.laid front)) old))
-      (subst (IsTrainStored b.spare_calls r.next_label r.reported) (sym own-calls) w.stored))
-
-  pub pushed-stored : IsStored b
-  pushed-stored =
-      let s = w.before in
-      let rows : length b.rows.items ≡ length a.rows.items + 1 = ap length w.rows ∙ length_push a.rows.items r in
-      let calls = pushed-length in
+  own-stored : HasPlaces 0 (line_of ds len n) → HasNextReports (line_of ds len n) → IsTrainStored spare ds t len n
+  own-stored places reports =
+      let f = first_slot n in
+      let labels = ap (λ xs. map label_of (map call_of xs)) whole-line ∙ changed-labels t g cs ds w t 0 f f old_line h.linked in
       record {
-        laid = subst (λ rs. IsLaidOut first_of len_of 0 rs (length b.calls.items)) (sym w.rows)
-            (laid-push first_of len_of 0 a.rows.items (length a.calls.items) r (length b.calls.items) s.laid w.first (pushed-length ∙ ap (λ k. length a.calls.items + k) (sym w.len)));
-        trains = pushed-known;
-        rows_room = let room = s.rows_room in omega (arith, w.rows_capacity, w.spare_trains);
-        calls_room = let room = s.calls_room in omega (arith, w.calls_capacity, w.spare_calls);
-        rows_small = let small = s.rows_small in omega (arith, w.spare_trains);
-        calls_small = let small = s.calls_small in omega (arith, w.spare_calls);
+        whole = ap length whole-line ∙ changed-length t g cs ds w t 0 f f old_line h.linked ∙ h.whole;
+        linked = subst (IsLinked ds t 0 f f) (sym whole-line) (changed-linked t g cs ds w t 0 f f old_line h.linked (subst (HasPlaces 0) whole-line places));
+        reports = reports;
+        labels = labelled-same spare spare (length n.slots) (map call_of old_line) (map call_of (line_of ds len n)) (omega arith) (sym labels) h.labels;
+        last = last-same (map call_of old_line) (map call_of (line_of ds len n)) labels ∙ h.last;
       }
 
-  pub pushed-trains : map (train_of b.calls.items) b.rows.items ≡ map (train_of a.calls.items) a.rows.items ++ record { day = r.day; route = r.route; next_label = r.next_label; calls = new } ∷ []
-  unfolding made
-  pushed-trains =
-      let rs = a.rows.items in
-      ap (map (train_of b.calls.items)) w.rows
-      ∙ map-append (train_of b.calls.items) rs (r ∷ [])
-      ∙ ap (λ ts. ts ++ train_of b.calls.items r ∷ []) (earlier to_train rs 0 (length a.calls.items) a.calls.items b.calls.items w.before.laid front)
-      ∙ ap (λ ds. map (train_of a.calls.items) rs ++ to_train r ds ∷ []) own-calls
+-- a change of a train's calls, after which each knows its place and the first report after it
+pub record IsEdit (a : Inside) (calls : Vec StoredCall Global) (t : ℕ) (g : Call → Call) (r : Row) (n : NumberedTrain) : Type 0 where
+  pub of : IsRowAt a t r n
+  pub change : IsLineChange t g a.calls.items calls.items
+  pub capacity : vec_capacity calls ≡ vec_capacity a.calls
+  pub places : HasPlaces 0 (line_of calls.items r.len n)
+  pub reports : HasNextReports (line_of calls.items r.len n)
 
--- a train of the state has a row
-pub there-seen : (a : Inside) (st : State) (t : ℕ) → seen a ≡ st → t < length st.trains → t < length a.rows.items
-there-seen a st t v l =
-    let n : length st.trains ≡ length a.rows.items = ap (λ (s : State). length s.trains) (sym v) ∙ length-map a.rows.items (train_of a.calls.items) in
-    omega arith
+module _ (a : Inside) (calls : Vec StoredCall Global) (overrides : Overrides) (t : ℕ) (g : Call → Call) (r : Row) (n : NumberedTrain) (w : IsEdit a calls t g r n) where
+  abbrev cs : List StoredCall
+  cs = a.calls.items
 
-some-there : (cs : List Call) (rs : List Row) (t j : ℕ) → j < length (option_map_or (λ (t : Train). t.calls) (slice_get (map (train_of cs) rs) t) []) → t < length rs
-some-there cs [] t j l = absurd (omega arith)
-some-there cs (r ∷ rs) zero j l = omega arith
-some-there cs (r ∷ rs) (suc t) j l = let k = some-there cs rs t j l in omega arith
+  abbrev ds : List StoredCall
+  ds = calls.items
 
--- and so has a train with calls
-pub place-there : (a : Inside) (st : State) (t j : ℕ) → seen a ≡ st → j < length (calls_of st t) → t < length a.rows.items
-place-there a st t j v l =
-    some-there a.calls.items a.rows.items t j (subst (λ ds. j < length ds) (ap (λ (s : State). calls_of s t) (sym v)) l)
+  edited-train : (u : ℕ) (q : Row) (m : NumberedTrain) → slice_get a.rows.items u ≡ Some q → slice_get a.slots.trains u ≡ Some m → IsTrainStored a.slots.spare_calls ds u q.len m
+  edited-train u q m row number =
+      let old = w.of.stored.trains u q m row number in
+      elim (cases_eq u t) [
+        | inl same ↦ (
+            let a-row = w.of.row in
+            let a-number = w.of.number in
+            let own-row : r ≡ q = cc in
+            let own-number : n ≡ m = cc in
+            subst (λ u. IsTrainStored a.slots.spare_calls ds u q.len m) (sym same)
+            (subst (λ (q : Row). IsTrainStored a.slots.spare_calls ds t q.len m) own-row
+            (subst (IsTrainStored a.slots.spare_calls ds t r.len) own-number
+            (own-stored t g cs ds w.change a.slots.spare_calls r.len n (row-stored a t r n w.of) w.places w.reports))))
+        | inr other ↦ kept-stored cs ds u q.len m a.slots.spare_calls a.slots.spare_calls old (changed-other t g cs ds w.change u 0 (first_slot m) (first_slot m) (line_of cs q.len m) old.linked other) (omega arith)
+      ]
 
--- where all calls may have reports, there is none after them
-pub all-reported : (cs : List Call) → HasReportsWithin (length cs) cs
-all-reported cs =
-    record { within = omega arith; none = λ k d l. let n = length-drop (length cs) cs in absurd (omega arith) }
+  edited-placed : (i : ℕ) (y : StoredCall) (q : Row) (m : NumberedTrain) → slice_get ds i ≡ Some y → y.current ≡ true → slice_get a.rows.items y.train ≡ Some q → slice_get a.slots.trains y.train ≡ Some m → (y.place < q.len) × (slot_after ds y.place (first_slot m) ≡ i)
+  edited-placed i y q m h current row number =
+      let s = w.of.stored in
+      let k = changed-back t g cs ds w.change i y h in
+      let x = k.0 in
+      let f = first_slot m in
+      let p = s.placed i x q m k.1 (sym k.2.current_same ∙ current) (ap (slice_get a.rows.items) (sym k.2.train_same) ∙ row) (ap (slice_get a.slots.trains) (sym k.2.train_same) ∙ number) in
+      let new = edited-train y.train q m row number in
+      let whole = new.whole in
+      let slot = changed-after t g cs ds w.change x.place f ∙ p.1 in
+      let at = linked-at ds (line_of ds q.len m) y.train 0 f f x.place y new.linked (walk-at ds q.len f x.place (omega (arith, p.0)) ∙ ap (slice_get ds) slot ∙ h) in
+      let place : y.place ≡ x.place = at.place_is ∙ omega arith in
+      (omega (arith, p.0), ap (λ k. slot_after ds k f) place ∙ slot)
+
+  -- it keeps what holds of all trains
+  pub edited-stored : IsStored (record a { calls = calls; overrides = overrides })
+  edited-stored =
+      let s = w.of.stored in
+      let count = w.change.count in
+      record {
+        trains = edited-train;
+        numbered = λ i y h.
+            let k = changed-back t g cs ds w.change i y h in
+            ap (λ u. slot_of a.slots u y.label) k.2.train_same ∙ ap (slot_of a.slots k.0.train) k.2.label_same ∙ s.numbered i k.0 k.1;
+        named = λ u l i h.
+            let k = s.named u l i h in
+            let m = w.change.at i k.call k.stored in
+            record { call = m.0; stored = m.1; train_is = m.2.train_same ∙ k.train_is; label_is = m.2.label_same ∙ k.label_is };
+        placed = edited-placed;
+        rows_count = s.rows_count;
+        calls_count = w.change.count ∙ s.calls_count;
+        rows_room = s.rows_room;
+        calls_room = let room = s.calls_room in omega (arith, w.capacity);
+      }
+
+  -- and changes the calls of one train
+  pub edited-trains : trains_by ds a.rows.items a.slots.trains ≡ change_train t (change_calls (map g)) (trains_by cs a.rows.items a.slots.trains)
+  edited-trains =
+      let by = λ (q : Row) (m : NumberedTrain) (xs : List Call). let t : Train = record { day = q.day; route = q.route; next_label = length m.slots; calls = xs } in t in
+      changed-trains cs ds a.rows.items a.slots.trains t (change_calls (map g))
+      (λ q m row number. ap (by q m) (own-calls t g cs ds w.change a.slots.spare_calls q.len m (w.of.stored.trains t q m row number)))
+      (λ u q m other row number.
+      let old = w.of.stored.trains u q m row number in
+      ap (λ xs. by q m (map call_of xs)) (kept-line cs ds u q.len m a.slots.spare_calls a.slots.spare_calls old (changed-other t g cs ds w.change u 0 (first_slot m) (first_slot m) (line_of cs q.len m) old.linked other)))
+
+-- a change of a train's calls, and then their places and reports
+pub then-renewed : (t len first : ℕ) (g : Call → Call) (xs mid ys : List StoredCall) → IsLineChange t g xs mid → IsRenewed t first len mid ys → IsLineChange t g xs ys
+then-renewed t len first g xs mid ys w h =
+    record {
+      count = h.same_count ∙ w.count;
+      at = λ i x is.
+          let k = w.at i x is in
+          let m = h.alike i k.0 k.1 in
+          let by = k.2 in (
+            m.now,
+            m.there,
+            record {
+              train_same = ap (λ (c : StoredCall). c.train) m.same ∙ by.train_same;
+              label_same = ap (λ (c : StoredCall). c.label) m.same ∙ by.label_same;
+              before_same = ap (λ (c : StoredCall). c.before) m.same ∙ by.before_same;
+              after_same = ap (λ (c : StoredCall). c.after) m.same ∙ by.after_same;
+              current_same = ap (λ (c : StoredCall). c.current) m.same ∙ by.current_same;
+              call_is = λ e. ap call_of m.same ∙ by.call_is e;
+              other = λ ne. m.other (λ e. ne (sym by.train_same ∙ e)) ∙ by.other ne;
+            },
+          );
+    }
+
+-- the calls of a train that were changed are a line still
+pub changed-line : (a : Inside) (t : ℕ) (g : Call → Call) (ds : List StoredCall) (r : Row) (n : NumberedTrain) → IsRowAt a t r n → IsLineChange t g a.calls.items ds → IsTrainLine a.slots t (first_slot n) r.len ds
+changed-line a t g ds r n w k m last number slot =
+    let cs = a.calls.items in
+    let f = first_slot n in
+    let line = line_of cs r.len n in
+    let own = row-stored a t r n w in
+    let own-number = w.number in
+    let same : n ≡ m = cc in
+    let whole : line_of ds r.len n ≡ walk ds (length line) f = ap (λ k. walk ds k f) (sym own.whole) in
+    let some = own.labels.some in
+    let count = length-map line call_of in
+    let is-whole = own.whole in
+    let place : length (map call_of line) - 1 ≡ r.len - 1 = omega arith in
+    let label : option_map label_of (option_map call_of (slice_get line (r.len - 1))) ≡ Some (n.loaded - 1) = ap (option_map label_of) (sym (slice_get-map call_of line (r.len - 1)) ∙ ap (slice_get (map call_of line)) (sym place)) ∙ sym (last-at (map call_of line)) ∙ own.last in
+    let within : r.len - 1 < length line = omega arith in
+    record {
+      whole = ap length whole ∙ changed-length t g cs ds k t 0 f f line own.linked ∙ own.whole;
+      chained = subst (IsChained ds f f) (sym whole) (changed-chained t g cs ds k t 0 f f line own.linked);
+      mine = subst (All (λ (x : StoredCall). x.train ≡ t)) (sym whole) (changed-mine t g cs ds k t 0 f f line own.linked);
+      apart = subst HasDistinctLabels (sym (ap (map call_of) whole)) (distinct-labels (map call_of line) (map call_of (walk ds (length line) f)) (sym (changed-labels t g cs ds k t 0 f f line own.linked)) own.labels.distinct);
+      ends = changed-after t g cs ds k (r.len - 1) f ∙ (elim (slice_get_cases line (r.len - 1)).1 [
+        | inl z ↦ (
+            let at = linked-at cs line t 0 f f (r.len - 1) z.0 own.linked z.2 in
+            let is : z.0.label ≡ n.loaded - 1 = (let e = z.2 in let known = label in cc) in
+            let stored = sym (walk-at cs r.len f (r.len - 1) within) ∙ z.2 in
+            let numbered = w.stored.numbered (slot_after cs (r.len - 1) f) z.0 stored in
+            let there : slot_of a.slots t (n.loaded - 1) ≡ Some (slot_after cs (r.len - 1) f) = ap (λ u. slot_of a.slots u (n.loaded - 1)) (sym at.train_is) ∙ ap (slot_of a.slots z.0.train) (sym is) ∙ numbered in
+            let loaded = ap (λ (n : NumberedTrain). slot_of a.slots t (n.loaded - 1)) same in
+            cc)
+        | inr none ↦ (let past = none.0 in absurd (omega arith))
+      ]);
+    }

@@ -1,17 +1,17 @@
--- Kept times by event, after one is written, and after times are added or taken away.
-use Rattle.std.proofs.Common.{◌≡◌, ℕ, zero, suc, ◌+◌, ◌-◌, ◌*◌, ◌<◌, ◌≤◌, List, [], ◌∷◌, ◌++◌, Bool, true, false, cond, ◌&&◌, nat_eq, length, get_or, take, refl, sym, ◌∙◌, ap, arith, Option, Some, None, slice_get, is_some, option_and_then, option_map}
+-- Stored times by event, after one is written, and after times are added.
+use Rattle.std.proofs.Common.{◌≡◌, ℕ, zero, suc, ◌+◌, ◌-◌, ◌*◌, ◌<◌, ◌≤◌, List, [], ◌∷◌, ◌++◌, Bool, true, false, cond, ◌&&◌, nat_eq, length, get_or, refl, ◌∙◌, ap, arith, Option, Some, None, slice_get, is_some, option_and_then, option_map}
 use mathlib.Core.Bool.{beq}
 use Rattle.std.proofs.Math.ListN.{set}
-use Rattle.std.proofs.Math.Seq.{take-append_seam}
 use Rattle.std.proofs.lemmas.Bool.Decides.{nat_tests}
-use Rattle.std.proofs.lemmas.List.{length-append, length-replicate, get_or-replicate}
+use Rattle.std.proofs.lemmas.List.{length-replicate, get_or-replicate}
 use Rattle.std.proofs.lemmas.Option.{slice_get-get_or}
 use Rattle.mt_base.specs.declared.keys.Node.{Node}
 use Rattle.mt_base.specs.Order.{is_same_node}
-use Rattle.train_nodes.specs.Kept.{Kept, place_of, time_of, has_time, change_at, with_time, no_time, blank_times, with_train_times, without_last, with_labels, without_labels}
+use Rattle.train_nodes.specs.Lists.{change_at}
+use Rattle.train_nodes.specs.Times.{StoredTimes, place_of, time_of, has_time, with_time, no_time, blank_times, with_train_times, with_labels}
 
 -- the time at a place of a train
-abbrev time_at : List (List ℕ) → ℕ → ℕ → Option ℕ
+abbrev pub time_at : List (List ℕ) → ℕ → ℕ → Option ℕ
 time_at tss i p = option_and_then (λ ts. slice_get ts p) (slice_get tss i)
 
 -- to put a changed element in its place is to change the one there
@@ -26,32 +26,6 @@ within : {X : Type 0} (xs : List X) (i : ℕ) → is_some (slice_get xs i) ≡ t
 within [] i h = absurd (cc)
 within (x ∷ xs) zero h = omega arith
 within (x ∷ xs) (suc i) h = let k = within xs i h in omega arith
-
-train-there : (tss : List (List ℕ)) (i p : ℕ) → is_some (time_at tss i p) ≡ true → i < length tss
-train-there [] i p h = absurd (cc)
-train-there (ts ∷ tss) zero p h = omega arith
-train-there (ts ∷ tss) (suc i) p h = let k = train-there tss i p h in omega arith
-
-place-there : (tss : List (List ℕ)) (i p : ℕ) (ts : List ℕ) → is_some (time_at tss i p) ≡ true → ts ≡ get_or tss i ts → p < length ts
-place-there [] i p ts h e = absurd (cc)
-place-there (us ∷ tss) zero p ts h e = rw e (within us p h)
-place-there (us ∷ tss) (suc i) p ts h e = place-there tss i p ts h e
-
--- where an event has a time, its train is there
-pub time-train : (k : Kept) (n : Node) → has_time k n ≡ true → n.train < length k.trains
-unfolding time_of
-time-train k n h = train-there k.trains n.train (place_of n) h
-
--- and its place is among the times of the train
-pub time-place : (k : Kept) (n : Node) (ts : List ℕ) → has_time k n ≡ true → ts ≡ get_or k.trains n.train ts → place_of n < length ts
-unfolding time_of
-time-place k n ts h e = place-there k.trains n.train (place_of n) ts h e
-
--- the time of an event stands there
-pub time-read : (k : Kept) (n : Node) (ts : List ℕ) (x : ℕ) → n.train < length k.trains → ts ≡ get_or k.trains n.train ts → slice_get ts (place_of n) ≡ Some x → time_of k n ≡ Some x
-unfolding time_of
-time-read k n ts x l e h =
-    ap (option_and_then (λ ts. slice_get ts (place_of n))) (slice_get-get_or k.trains n.train ts l ∙ ap Some (sym e)) ∙ h
 
 set-slot : (xs : List ℕ) (i j x : ℕ) → i < length xs → slice_get (set xs i x) j ≡ cond (nat_eq i j) (Some x) (slice_get xs j)
 set-slot [] i j x l = absurd (omega arith)
@@ -75,7 +49,7 @@ place-test l m false true = grind (arith, nat_tests)
 place-test l m false false = grind (arith, nat_tests)
 
 -- a written time is the event's, and the others stay
-pub with_time-law : (k : Kept) (n m : Node) (x : ℕ) → has_time k n ≡ true → time_of (with_time n x k) m ≡ cond (is_same_node n m) (Some x) (time_of k m)
+pub with_time-law : (k : StoredTimes) (n m : Node) (x : ℕ) → has_time k n ≡ true → time_of (with_time n x k) m ≡ cond (is_same_node n m) (Some x) (time_of k m)
 unfolding time_of is_same_node
 with_time-law k n m x h =
     set-time k.trains n.train m.train (place_of n) (place_of m) x h
@@ -105,24 +79,17 @@ some-first None p h = absurd (cc)
 some-first (Some ts) p h = refl
 
 -- with times for one more train, an old time stays
-pub pushed-old : (labels : ℕ) (k : Kept) (n : Node) → has_time k n ≡ true → time_of (with_train_times labels k) n ≡ time_of k n
+pub pushed-old : (labels : ℕ) (k : StoredTimes) (n : Node) → has_time k n ≡ true → time_of (with_train_times labels k) n ≡ time_of k n
 unfolding time_of
 pushed-old labels k n h =
     ap (option_and_then (λ ts. slice_get ts (place_of n))) (get-before k.trains (blank_times labels ∷ []) n.train (some-first (slice_get k.trains n.train) (place_of n) h))
 
 -- and a new one is that of no event
-pub pushed-new : (labels : ℕ) (k : Kept) (n : Node) → n.train ≡ length k.trains → n.label < labels → time_of (with_train_times labels k) n ≡ Some no_time
+pub pushed-new : (labels : ℕ) (k : StoredTimes) (n : Node) → n.train ≡ length k.trains → n.label < labels → time_of (with_train_times labels k) n ≡ Some no_time
 unfolding time_of
 pushed-new labels k n e l =
     ap (option_and_then (λ ts. slice_get ts (place_of n))) (get-past k.trains (blank_times labels ∷ []) n.train 0 (omega arith))
     ∙ get-blank labels (place_of n) (below n.label labels n.dep l)
-
--- to take them away leaves what was
-pub popped-again : (labels : ℕ) (k : Kept) → without_last (with_train_times labels k) ≡ k
-popped-again labels k =
-    let added : length (k.trains ++ blank_times labels ∷ []) - 1 ≡ length k.trains = omega (arith, length-append k.trains (blank_times labels ∷ [])) in
-    ap (λ tss. let new : Kept = record { trains = tss } in new)
-    (ap (λ n. take n (k.trains ++ blank_times labels ∷ [])) added ∙ take-append_seam k.trains (blank_times labels ∷ []))
 
 lengthened-old : (tss : List (List ℕ)) (new : List ℕ) (t i p : ℕ) → is_some (time_at tss i p) ≡ true → time_at (change_at t (λ ts. ts ++ new) tss) i p ≡ time_at tss i p
 lengthened-old [] new t i p h = refl
@@ -137,7 +104,7 @@ lengthened-new (ts ∷ tss) new zero p q m h e = let same : length ts ≡ m = cc
 lengthened-new (ts ∷ tss) new (suc i) p q m h e = lengthened-new tss new i p q m h e
 
 -- with times for more labels of a train, an old time stays
-pub added-old : (t labels : ℕ) (k : Kept) (n : Node) → has_time k n ≡ true → time_of (with_labels t labels k) n ≡ time_of k n
+pub added-old : (t labels : ℕ) (k : StoredTimes) (n : Node) → has_time k n ≡ true → time_of (with_labels t labels k) n ≡ time_of k n
 unfolding time_of
 added-old t labels k n h = lengthened-old k.trains (blank_times labels) t n.train (place_of n) h
 
@@ -146,7 +113,7 @@ beyond label next labels true l m = (2 * (label - next) + 1, omega arith, omega 
 beyond label next labels false l m = (2 * (label - next), omega arith, omega arith)
 
 -- and a new one is that of no event
-pub added-new : (t labels : ℕ) (k : Kept) (n : Node) (next : ℕ) → n.train ≡ t → option_map length (slice_get k.trains t) ≡ Some (2 * next) → next ≤ n.label → n.label < next + labels → time_of (with_labels t labels k) n ≡ Some no_time
+pub added-new : (t labels : ℕ) (k : StoredTimes) (n : Node) (next : ℕ) → n.train ≡ t → option_map length (slice_get k.trains t) ≡ Some (2 * next) → next ≤ n.label → n.label < next + labels → time_of (with_labels t labels k) n ≡ Some no_time
 unfolding time_of
 added-new t labels k n next e h l m =
     let q = beyond n.label next labels n.dep l m in
@@ -154,22 +121,11 @@ added-new t labels k n next e h l m =
     ∙ lengthened-new k.trains (blank_times labels) t (place_of n) q.0 (2 * next) h q.1
     ∙ get-blank labels q.0 q.2
 
-cut-again : (tss : List (List ℕ)) (new : List ℕ) (t m : ℕ) → option_map length (slice_get tss t) ≡ Some m → change_at t (take m) (change_at t (λ ts. ts ++ new) tss) ≡ tss
-cut-again [] new t m h = refl
-cut-again (ts ∷ tss) new zero m h =
-    let same : m ≡ length ts = cc in
-    ap (λ ts. ts ∷ tss) (ap (λ m. take m (ts ++ new)) same ∙ take-append_seam ts new)
-cut-again (ts ∷ tss) new (suc t) m h = ap (λ tss. ts ∷ tss) (cut-again tss new t m h)
-
--- to take away what was added leaves what was
-pub kept-again : (t labels next : ℕ) (k : Kept) → option_map length (slice_get k.trains t) ≡ Some (2 * next) → without_labels t next (with_labels t labels k) ≡ k
-kept-again t labels next k h = ap (λ tss. let new : Kept = record { trains = tss } in new) (cut-again k.trains (blank_times labels) t (2 * next) h)
-
 held-at : (o : Option (List ℕ)) (p m : ℕ) → option_map length o ≡ Some m → p < m → is_some (option_and_then (λ ts. slice_get ts p) o) ≡ true
 held-at None p m h l = absurd (cc)
 held-at (Some ts) p m h l = let same : length ts ≡ m = cc in ap is_some (slice_get-get_or ts p 0 (omega arith))
 
 -- each label of a train has its times
-pub held : (k : Kept) (n : Node) (next : ℕ) → option_map length (slice_get k.trains n.train) ≡ Some (2 * next) → n.label < next → has_time k n ≡ true
+pub held : (k : StoredTimes) (n : Node) (next : ℕ) → option_map length (slice_get k.trains n.train) ≡ Some (2 * next) → n.label < next → has_time k n ≡ true
 unfolding time_of
 held k n next h l = held-at (slice_get k.trains n.train) (place_of n) (2 * next) h (below n.label next n.dep l)

@@ -1,20 +1,55 @@
 -- Kinds of messages.
-use Rattle.std.specs.Prelude.{◌^◌, ◌<◌, length}
+use Rattle.std.specs.Prelude.{ℕ, ◌^◌, ◌<◌, Option, Some, None, length}
+use Rattle.mt_base.specs.declared.keys.Node.{Node}
 use Rattle.delay_model.specs.declared.messages.Message.{Message}
 use Rattle.delay_model.specs.declared.messages.Message.TheVariants.{Report, Forecast, Cancel, Reroute, Extra, Keep, Drop, Rule}
+use Rattle.delay_model.specs.declared.overrides.Override.{Override}
+use Rattle.delay_model.specs.declared.overrides.Override.TheVariants as Chosen
+use Rattle.train_nodes.specs.declared.kinds.Kind.{Kind}
+use Rattle.train_nodes.specs.declared.kinds.Kind.TheVariants as Kinds
+use Rattle.train_nodes.specs.declared.kinds.ValueKind.{ValueKind}
+use Rattle.train_nodes.specs.declared.kinds.ValueKind.TheVariants as Values
+use Rattle.train_nodes.specs.declared.kinds.Value.{Value}
+use Rattle.train_nodes.specs.declared.kinds.Choice.{Choice}
+use Rattle.train_nodes.specs.declared.kinds.Shape.{Shape}
+use Rattle.train_nodes.specs.declared.kinds.Shape.TheVariants as Shapes
 
--- the message gives a time to one event: a report or a forecast
-abbrev pub IsValue : Message → Type 0
-IsValue (Report n t) = Unit {0}
-IsValue (Forecast n t) = Unit {0}
-IsValue _ = ⊥
+-- the message that gives an event a time of this kind
+abbrev pub message_by_kind : ValueKind → Node → ℕ → Message
+message_by_kind Values.Report n t = Report n t
+message_by_kind Values.Forecast n t = Forecast n t
 
--- the message says what a dispatcher chose for a connection
-abbrev pub IsChoice : Message → Type 0
-IsChoice (Keep feeder train) = Unit {0}
-IsChoice (Drop feeder train) = Unit {0}
-IsChoice (Rule feeder train) = Unit {0}
-IsChoice _ = ⊥
+-- the message that reports or forecasts a time
+abbrev pub message_of_value : Value → Message
+message_of_value v = message_by_kind v.kind v.node v.time
+
+-- the message that makes this choice for a connection
+abbrev pub message_by_choice : Option Override → Node → Node → Message
+message_by_choice (Some Chosen.Keep) feeder train = Keep feeder train
+message_by_choice (Some Chosen.Drop) feeder train = Drop feeder train
+message_by_choice None feeder train = Rule feeder train
+
+-- the message that chooses for a connection
+abbrev pub message_of_choice : Choice → Message
+message_of_choice c = message_by_choice c.choice c.feeder c.train
+
+-- the message that changes which calls a train makes, or which of its events take place
+abbrev pub message_of_shape : Shape → Message
+message_of_shape (Shapes.Cancel train from to) = Cancel train from to
+message_of_shape (Shapes.Reroute train from to via) = Reroute train from to via.now
+message_of_shape (Shapes.Extra train day route calls) = Extra train day route calls.now
+
+-- the message that changes what is said
+abbrev pub message_of : Kind → Message
+message_of (Kinds.Value v) = message_of_value v
+message_of (Kinds.Choice c) = message_of_choice c
+message_of (Kinds.Shape s) = message_of_shape s
+
+-- the train that is changed or added
+abbrev pub changed_train : Shape → ℕ
+changed_train (Shapes.Cancel train from to) = train
+changed_train (Shapes.Reroute train from to via) = train
+changed_train (Shapes.Extra train day route calls) = train
 
 -- the message changes which calls a train makes or which of its events take place
 abbrev pub IsShape : Message → Type 0

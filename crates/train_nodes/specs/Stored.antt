@@ -1,43 +1,56 @@
 -- How stored trains are seen, and what holds of them.
-use Rattle.std.specs.Prelude.{◌≡◌, ℕ, ◌+◌, ◌<◌, ◌≤◌, ◌^◌, List, None, map, drop, length, All, vec_capacity}
+use Rattle.std.specs.Prelude.{◌≡◌, ℕ, ◌+◌, ◌-◌, ◌<◌, ◌≤◌, ◌^◌, List, [], ◌∷◌, true, Some, map, length, slice_get, unwrap_or, All, vec_capacity}
 use Rattle.delay_model.specs.declared.state.Call.{Call}
 use Rattle.delay_model.specs.declared.state.Train.{Train}
 use Rattle.delay_model.specs.declared.state.State.{State}
 use Rattle.delay_model.specs.Valid.{HasDistinctLabels}
 use Rattle.train_nodes.specs.declared.rows.Row.{Row}
+use Rattle.train_nodes.specs.declared.stored_call.StoredCall.{StoredCall}
 use Rattle.train_nodes.specs.declared.trains.Trains.TheInside.{Inside}
-use Rattle.train_nodes.specs.Rows.{calls_by}
-use Rattle.train_nodes.specs.Stretches.{IsLaidOut}
+use Rattle.train_nodes.specs.Calls.{last_label}
+use Rattle.train_nodes.specs.Linked.{walk, call_of, slot_after, HasNextReports}
+use Rattle.train_nodes.specs.Numbering.{NumberedTrain, slot_of}
 
--- a train by its row
-abbrev pub train_of : List Call → Row → Train
-train_of cs r = record { day = r.day; route = r.route; next_label = r.next_label; calls = calls_by cs r }
+-- the slot of a train's first call
+abbrev pub first_slot : NumberedTrain → ℕ
+first_slot n = unwrap_or (slice_get n.slots 0) 0
+
+-- the stored calls of a train, so many, in its order
+abbrev pub line_of : List StoredCall → ℕ → NumberedTrain → List StoredCall
+line_of cs len n = walk cs len (first_slot n)
+
+-- a train by its row and its numbers
+abbrev pub train_by : List StoredCall → Row → NumberedTrain → Train
+train_by cs r n =
+    record { day = r.day; route = r.route; next_label = length n.slots; calls = map call_of (line_of cs r.len n) }
+
+abbrev pub trains_by : List StoredCall → List Row → List NumberedTrain → List Train
+trains_by cs [] ns = []
+trains_by cs (r ∷ rs) [] = []
+trains_by cs (r ∷ rs) (n ∷ ns) = train_by cs r n ∷ trains_by cs rs ns
 
 abbrev pub seen : Inside → State
 seen a =
     record {
-      trains = map (train_of a.calls.items) a.rows.items;
+      trains = trains_by a.calls.items a.rows.items a.slots.trains;
       overrides = a.overrides.choices;
-      spare_trains = a.spare_trains;
-      spare_calls = a.spare_calls;
+      spare_trains = a.slots.spare_trains;
+      spare_calls = a.slots.spare_calls;
       spare_overrides = a.overrides.spare;
     }
 
--- where a train's calls begin among all calls, and how many it has there
-abbrev pub first_of : Row → ℕ
-first_of r = r.first
+-- the call is one of a train's, at this place, after the call in the slot `before`
+pub record IsInLine (train place before : ℕ) (c : StoredCall) : Type 0 where
+  pub train_is : c.train ≡ train
+  pub place_is : c.place ≡ place
+  pub before_is : c.before ≡ before
+  pub is_current : c.current ≡ true
 
-abbrev pub len_of : Row → ℕ
-len_of r = r.len
-
--- neither event of the call is reported
-abbrev pub HasNoReport : Call → Type 0
-HasNoReport c = (c.arrival.report ≡ None) × (c.departure.report ≡ None)
-
--- only the first of these calls, so many as is said, may have a report
-pub record HasReportsWithin (reported : ℕ) (cs : List Call) : Type 0 where
-  pub within : reported ≤ length cs
-  pub none : All HasNoReport (drop reported cs)
+-- these calls of a train are linked both ways, from the one in a slot on
+abbrev pub IsLinked : List StoredCall → ℕ → ℕ → ℕ → ℕ → List StoredCall → Type 0
+IsLinked cs train place before slot [] = Unit {0}
+IsLinked cs train place before slot (x ∷ xs) =
+    (slice_get cs slot ≡ Some x) × IsInLine train place before x × IsLinked cs train (place + 1) slot x.after xs
 
 -- calls of a train: no two have one label, each label is below the next one, and that stays a number of 31 bits as long as no more
 -- than the spare calls are added
@@ -48,21 +61,33 @@ pub record AreLabelled (spare next : ℕ) (cs : List Call) : Type 0 where
   pub count : length cs ≤ next
   pub small : next + spare < 2 ^ 31
 
--- the calls of a stored train
-pub record IsTrainStored (spare next reported : ℕ) (cs : List Call) : Type 0 where
-  pub labels : AreLabelled spare next cs
-  pub reports : HasReportsWithin reported cs
+-- the calls of a stored train: as many as its row says, linked from the one with label 0 to the last one that it was loaded with, which
+-- no rerouting takes out
+pub record IsTrainStored (spare : ℕ) (cs : List StoredCall) (train len : ℕ) (n : NumberedTrain) : Type 0 where
+  pub whole : length (line_of cs len n) ≡ len
+  pub linked : IsLinked cs train 0 (first_slot n) (first_slot n) (line_of cs len n)
+  pub reports : HasNextReports (line_of cs len n)
+  pub labels : AreLabelled spare (length n.slots) (map call_of (line_of cs len n))
+  pub last : last_label (map call_of (line_of cs len n)) ≡ Some (n.loaded - 1)
 
--- the same of a train by its row
-abbrev pub IsRowStored : ℕ → List Call → Row → Type 0
-IsRowStored spare cs r = IsTrainStored spare r.next_label r.reported (calls_by cs r)
+-- the call of a train that has this label stands in this slot
+pub record IsCallAt (cs : List StoredCall) (train label slot : ℕ) : Type 0 where
+  pub call : StoredCall
+  pub stored : slice_get cs slot ≡ Some call
+  pub train_is : call.train ≡ train
+  pub label_is : call.label ≡ label
 
--- the trains' calls lie one after another, and there is room for the spare ones: fewer than 2^31 calls, so that a label
--- and as many more are numbers of 32 bits
+-- each train's calls are linked; a call has the slot that its train and label have; a current one is found by its place from the first
+-- of its train on; and there is room for the spare ones
 pub record IsStored (a : Inside) : Type 0 where
-  pub laid : IsLaidOut first_of len_of 0 a.rows.items (length a.calls.items)
-  pub trains : All (IsRowStored a.spare_calls a.calls.items) a.rows.items
-  pub rows_room : length a.rows.items + a.spare_trains ≤ vec_capacity a.rows
-  pub calls_room : length a.calls.items + a.spare_calls ≤ vec_capacity a.calls
-  pub rows_small : length a.rows.items + a.spare_trains < 2 ^ 32
-  pub calls_small : length a.calls.items + a.spare_calls < 2 ^ 31
+  pub trains : (t : ℕ) (r : Row) (n : NumberedTrain) → slice_get a.rows.items t ≡ Some r → slice_get a.slots.trains t ≡ Some n
+      → IsTrainStored a.slots.spare_calls a.calls.items t r.len n
+  pub numbered : (i : ℕ) (x : StoredCall) → slice_get a.calls.items i ≡ Some x → slot_of a.slots x.train x.label ≡ Some i
+  pub named : (t l i : ℕ) → slot_of a.slots t l ≡ Some i → IsCallAt a.calls.items t l i
+  pub placed : (i : ℕ) (x : StoredCall) (r : Row) (n : NumberedTrain) → slice_get a.calls.items i ≡ Some x → x.current ≡ true
+      → slice_get a.rows.items x.train ≡ Some r → slice_get a.slots.trains x.train ≡ Some n
+      → (x.place < r.len) × (slot_after a.calls.items x.place (first_slot n) ≡ i)
+  pub rows_count : length a.rows.items ≡ length a.slots.trains
+  pub calls_count : length a.calls.items ≡ a.slots.used
+  pub rows_room : length a.rows.items + a.slots.spare_trains ≤ vec_capacity a.rows
+  pub calls_room : length a.calls.items + a.slots.spare_calls ≤ vec_capacity a.calls

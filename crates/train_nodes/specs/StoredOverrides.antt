@@ -1,10 +1,13 @@
 -- How stored overrides are seen, and what holds of them.
-use Rattle.std.specs.Prelude.{ℕ, ◌+◌, ◌<◌, ◌≤◌, ◌^◌, length, vec_capacity, IsTrue, refl}
+use Rattle.std.specs.Prelude.{◌≡◌, ℕ, ◌+◌, ◌<◌, ◌≤◌, ◌^◌, List, length, vec_capacity, refl, true}
 use Rattle.std.specs.Coded.{Coded, code_by, coded×, coded_ℕ}
-use Rattle.std.specs.FinMap.{FinMap, code, from_sorted, is_sorted}
-use Rattle.delay_model.specs.Overrides.{connection_cmp, coded_connection, coded_override}
+use Rattle.std.specs.FinMap.{FinMap, code, find, from_sorted, is_sorted}
+use Rattle.delay_model.specs.declared.overrides.Connection.{Connection}
 use Rattle.delay_model.specs.declared.overrides.Override.{Override}
+use Rattle.delay_model.specs.Overrides.{connection_cmp, coded_connection, coded_override}
+use Rattle.train_nodes.specs.declared.override_rows.End.TheVariants.{Departure}
 use Rattle.train_nodes.specs.declared.override_table.OverrideTable.TheInside.{Inside}
+use Rattle.train_nodes.specs.OverrideRows.{end_cmp}
 
 -- what was chosen for connections, and for how many more there is room
 pub record Overrides : Type 0 where
@@ -16,10 +19,18 @@ coded_overrides =
     code_by (FinMap connection_cmp Override × ℕ) (coded× (code coded_connection coded_override) coded_ℕ) (λ o. (o.choices, o.spare)) (λ p. record { choices = p.0; spare = p.1 }) (λ _. refl)
 
 abbrev pub seen : Inside → Overrides
-seen a = record { choices = from_sorted a.rows.items; spare = a.spare }
+seen a = record { choices = from_sorted a.by_arrival.items; spare = a.spare }
 
--- the connections rise, and there is room for the spare ones, in numbers of 32 bits
+-- the same choices in the order of the arrivals and in that of the departures
+pub record AreTurned (by_arrival by_departure : List (Connection × Override)) : Type 0 where
+  pub sorted : is_sorted connection_cmp by_arrival ≡ true
+  pub turned : is_sorted (end_cmp Departure) by_departure ≡ true
+  pub same : (p : Connection) → find (end_cmp Departure) p by_departure ≡ find connection_cmp p by_arrival
+
+-- there is room for the spare ones in both orders, in numbers of 32 bits
 pub record AreStored (a : Inside) : Type 0 where
-  pub sorted : IsTrue (is_sorted connection_cmp a.rows.items)
-  pub room : length a.rows.items + a.spare ≤ vec_capacity a.rows
-  pub small : length a.rows.items + a.spare < 2 ^ 32
+  pub choices : AreTurned a.by_arrival.items a.by_departure.items
+  pub count : length a.by_departure.items ≡ length a.by_arrival.items
+  pub room : length a.by_arrival.items + a.spare ≤ vec_capacity a.by_arrival
+  pub turned_room : length a.by_arrival.items + a.spare ≤ vec_capacity a.by_departure
+  pub small : length a.by_arrival.items + a.spare < 2 ^ 32

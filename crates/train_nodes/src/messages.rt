@@ -1,10 +1,15 @@
 //! Messages as they are read.
 
-ghost use Rattle.std.specs.Prelude.{◌≡◌};
+ghost use Rattle.std.specs.Prelude.{◌≡◌, ◌<◌, ◌^◌, IfOk, length};
 ghost use Rattle.delay_model.specs.Messages.{IsWellFormed};
 ghost use Rattle.train_nodes.specs.Kinds.{HasFewCalls};
 
+use crate::room::copy_with_room;
 use delay_model::messages::Message;
+use mt_base::memory::OutOfMemory;
+use mt_base::plans::NewCall;
+use mt_base::rows::Rows;
+use std::alloc::Global;
 use std::marker::Model;
 
 /// A message whose times are below 2^24 seconds, whose extra train has two calls at least, and whose feeder is an arrival and its
@@ -44,4 +49,75 @@ impl Msg {
     {
         &self.message
     }
+
+    /// The same message once more.
+    pub fn copy(&self, alloc: Global) -> Result<Msg, OutOfMemory>
+        ensures { IfOk result (λ copy. copy ≡ self.now) }
+    {
+        Ok(Msg {
+            message: copy_message(alloc, &self.message)?,
+        })
+    }
+}
+
+fn copy_message(alloc: Global, message: &Message) -> Result<Message, OutOfMemory>
+    requires { HasFewCalls message.now }
+    ensures { IfOk result (λ copy. copy ≡ message.now) }
+{
+    Ok(match message {
+        Message::Report { node, time } => Message::Report {
+            node: *node,
+            time: *time,
+        },
+        Message::Forecast { node, time } => Message::Forecast {
+            node: *node,
+            time: *time,
+        },
+        Message::Cancel { train, from, to } => Message::Cancel {
+            train: *train,
+            from: *from,
+            to: *to,
+        },
+        Message::Reroute {
+            train,
+            from,
+            to,
+            via,
+        } => Message::Reroute {
+            train: *train,
+            from: *from,
+            to: *to,
+            via: copy_calls(alloc, via)?,
+        },
+        Message::Extra {
+            train,
+            day,
+            route,
+            calls,
+        } => Message::Extra {
+            train: *train,
+            day: *day,
+            route: *route,
+            calls: copy_calls(alloc, calls)?,
+        },
+        Message::Keep { feeder, train } => Message::Keep {
+            feeder: *feeder,
+            train: *train,
+        },
+        Message::Drop { feeder, train } => Message::Drop {
+            feeder: *feeder,
+            train: *train,
+        },
+        Message::Rule { feeder, train } => Message::Rule {
+            feeder: *feeder,
+            train: *train,
+        },
+    })
+}
+
+fn copy_calls(alloc: Global, calls: &Rows<NewCall>) -> Result<Rows<NewCall>, OutOfMemory>
+    requires { length calls.now < 2 ^ 32 }
+    ensures { IfOk result (λ copy. copy ≡ calls.now) }
+{
+    Ok(Rows::build(copy_with_room(alloc, calls.as_slice(), 0)?))
 }

@@ -1,6 +1,7 @@
 ghost use Rattle.std.specs.Prelude.{◌≡◌, ◌<◌};
 
-use crate::{TableCall, Trains};
+use crate::{Keeps, TableCall, Trains};
+use delay_model::overrides::Override;
 use mt_base::keys::Node;
 use mt_base::memory::OutOfMemory;
 use mt_base::numbers::{Day, Label, RouteNo, StopNo, Time, TrainNo};
@@ -178,31 +179,18 @@ fn stop_at(stop: u32, arr: u32) -> NewCall
 }
 
 /// Reroutes train 0 between two of its calls, if they stand so and there is room.
-fn reroute(
-    alloc: Global,
-    trains: &mut Trains,
-    from: u32,
-    to: u32,
-    via: &[NewCall],
-) -> Result<(), OutOfMemory> {
+fn reroute(trains: &mut Trains, from: u32, to: u32, via: &[NewCall]) {
     let (t, from, to) = (TrainNo::new(0), Label::new(from), Label::new(to));
     if trains.stands_before(t, from, to) && via.len() <= trains.spare_calls() as usize {
-        trains.reroute(alloc, t, from, to, via)?;
+        trains.reroute(t, from, to, via);
     }
-    Ok(())
 }
 
 #[test]
 fn a_rerouted_train(rt: HostRuntime) -> Result<(), Fail> {
     let mut trains = loaded(rt.alloc())?;
-    reroute(
-        rt.alloc(),
-        &mut trains,
-        0,
-        1,
-        &[stop_at(7, 200), stop_at(8, 400)],
-    )?;
-    reroute(rt.alloc(), &mut trains, 2, 1, &[stop_at(9, 600)])?;
+    reroute(&mut trains, 0, 1, &[stop_at(7, 200), stop_at(8, 400)]);
+    reroute(&mut trains, 2, 1, &[stop_at(9, 600)]);
     assert_eq!(rt; train(&trains, 0), Some((1, 4, 5, 0)));
     assert_eq!(rt;
         call(&trains, 0, 2),
@@ -244,5 +232,47 @@ fn an_extra_train(rt: HostRuntime) -> Result<(), Fail> {
     assert_eq!(rt; train(&trains, 1), Some((2, 6, 2, 0)));
     assert_eq!(rt; call(&trains, 1, 1), Some((8, true, true, Some(0), None)));
     assert_eq!(rt; trains.spare_calls(), 1);
+    Ok(())
+}
+
+/// Chooses for the connection from an arrival to a departure, if there is room.
+fn choose(trains: &mut Trains, feeder: &Node, train: &Node, choice: Override) {
+    if trains.spare_overrides() > 0 {
+        trains.set_override(*feeder, *train, choice);
+    }
+}
+
+/// The numbers of the trains of these events.
+fn numbers(alloc: Global, keeps: Keeps<'_>) -> Result<Vec<u32>, OutOfMemory> {
+    let mut numbers = Vec::new(alloc);
+    for event in keeps {
+        numbers.push(event.train.get())?;
+    }
+    Ok(numbers)
+}
+
+#[test]
+fn kept_connections(rt: HostRuntime) -> Result<(), Fail> {
+    let mut trains = loaded(rt.alloc())?;
+    let departure = node(0, 0, true);
+    choose(&mut trains, &node(7, 1, false), &departure, Override::Keep);
+    choose(&mut trains, &node(3, 1, false), &departure, Override::Keep);
+    choose(&mut trains, &node(5, 1, false), &departure, Override::Keep);
+    choose(&mut trains, &node(4, 1, false), &departure, Override::Drop);
+    choose(
+        &mut trains,
+        &node(3, 1, false),
+        &node(9, 0, true),
+        Override::Keep,
+    );
+    let into = numbers(rt.alloc(), trains.keeps_into(departure))?;
+    assert_eq!(rt; into.as_slice(), [3, 5, 7].as_slice());
+    let onward = numbers(rt.alloc(), trains.keeps_from(node(3, 1, false)))?;
+    assert_eq!(rt; onward.as_slice(), [0, 9].as_slice());
+    trains.clear_override(node(5, 1, false), departure);
+    let copy = trains.copy(rt.alloc())?;
+    let into = numbers(rt.alloc(), copy.keeps_into(departure))?;
+    assert_eq!(rt; into.as_slice(), [3, 7].as_slice());
+    assert_eq!(rt; copy.spare_overrides(), 3);
     Ok(())
 }

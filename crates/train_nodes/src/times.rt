@@ -1,10 +1,20 @@
-//! The kept times of events.
+//! The stored times of events.
 
-ghost use Rattle.std.specs.Prelude.{◌≡◌, ℕ, ◌+◌, ◌*◌, ◌<◌, ◌++◌, [], true, IsTrue, IfOk, OnOk, OnErr, Some, if◌then◌else◌, length, slice_get, slice_set, take};
+ghost use Rattle.std.specs.Prelude.{◌≡◌, ℕ, ◌+◌, ◌*◌, ◌<◌, ◌≤◌, [], IsTrue, IfOk, Some, if◌then◌else◌, is_some, length, replicate};
 ghost use Rattle.mt_base.specs.declared.keys.Node.{Node as ANode};
 ghost use Rattle.mt_base.specs.Order.{is_same_node};
-ghost use Rattle.train_nodes.specs.Kept.{place_of, time_of, has_time, with_time, blank_times, with_train_times, without_last, with_labels, without_labels};
+ghost use Rattle.train_nodes.specs.Numbering.{slot_of};
+ghost use Rattle.train_nodes.specs.SlotTimes.{IsNumberOf, blank_trains};
+ghost use Rattle.train_nodes.specs.Times.{
+  time_of,
+  has_time,
+  with_time,
+  no_time,
+  with_train_times,
+  with_labels,
+};
 
+use crate::slots::Slots;
 use crate::steps::Steps;
 use mt_base::keys::Node;
 use mt_base::memory::OutOfMemory;
@@ -13,172 +23,123 @@ use std::alloc::Global;
 use std::marker::Model;
 use std::sync::ledger::Ledger;
 
-/// The times of a train's events, in the order of its labels and of each label the arrival first.
+/// A time for each event, in seconds from the base of day 0. All memory is taken when it is made.
 #[derive(Drop)]
-struct TrainTimes {
+pub struct NodeTimes {
+    slots: Slots,
+    /// Of each slot the arrival's and the departure's.
     times: Vec<Time>,
 }
 
-impl Model for TrainTimes {
-    ghost use Rattle.std.specs.Prelude.{ℕ, List};
-
-    ghost Value = { List ℕ };
-
-    ghost view = { λ s. s.times.items };
-}
-
-impl TrainTimes {
-    /// No times.
-    fn new(alloc: Global) -> TrainTimes
-        ensures { result ≡ [] }
-    {
-        TrainTimes {
-            times: Vec::new(alloc),
-        }
-    }
-
-    fn copy(&self) -> Result<TrainTimes, OutOfMemory>
-        ensures { IfOk result (λ copy. copy ≡ self.now) }
-    {
-        Ok(TrainTimes {
-            times: self.times.clone()?,
-        })
-    }
-
-    fn get(&self, place: usize) -> Time
-        requires { place < length self.now }
-        ensures { slice_get self.now place ≡ Some result }
-    {
-        self.times[place]
-    }
-
-    fn set(&mut self, place: usize, t: Time)
-        requires { place < length self.old }
-        ensures { self.new ≡ slice_set self.old place t }
-    {
-        self.times[place] = t;
-    }
-
-    /// Times for so many more labels: 2^25 - 1, which no settled event has.
-    fn add(&mut self, labels: u32) -> Result<(), OutOfMemory>
-        ensures ok { OnOk result (self.new ≡ self.old ++ blank_times labels) }
-        ensures err { OnErr result (self.new ≡ self.old) }
-    {
-        let places = self.times.len() + 2 * labels as usize;
-        self.times.resize(places, Time::new(33_554_431))
-    }
-
-    fn keep(&mut self, labels: u32)
-        ensures { self.new ≡ take (2 * labels) self.old }
-    {
-        self.times.truncate(2 * labels as usize);
-    }
-}
-
-/// A time for each event, in seconds from the base of day 0.
-#[derive(Drop)]
-pub struct NodeTimes {
-    trains: Vec<TrainTimes>,
-}
-
 impl Model for NodeTimes {
-    ghost use Rattle.train_nodes.specs.Kept.{Kept};
+    ghost use Rattle.train_nodes.specs.Times.{StoredTimes};
+    ghost use Rattle.train_nodes.specs.SlotTimes.{seen, AreHeld};
 
-    ghost Value = { Kept };
+    ghost Value = { StoredTimes };
 
-    ghost view = { λ s. record { trains = s.trains.items } };
+    ghost view = { seen };
+
+    ghost invariant = { AreHeld };
 }
 
-/// The place of an event among those of its train.
-fn place(n: Node) -> usize
-    ensures { result ≡ place_of n }
+/// So many times: 2^25 - 1 each, which no settled event has.
+fn blank_times(alloc: Global, count: usize) -> Result<Vec<Time>, OutOfMemory>
+    ensures { IfOk result (λ times. times.items ≡ replicate count no_time) }
 {
-    let arrival = 2 * n.label.get() as usize;
+    let mut times = Vec::with_capacity(alloc, count)?;
+    times.resize(count, Time::new(33_554_431))?;
+    Ok(times)
+}
+
+/// The number of an event, which is the place of its time.
+fn number_of(slots: &Slots, n: Node) -> usize
+    requires { IsTrue (is_some (slot_of slots.now n.train n.label)) }
+    ensures { IsNumberOf slots.now n result }
+{
+    slots.numbers_are_lawful();
+    let Some(slot) = slots.slot(n.train, n.label) else {
+        unreachable!()
+    };
+    let arrival = 2 * slot as usize;
     if n.dep { arrival + 1 } else { arrival }
 }
 
-fn copy_trains(alloc: Global, trains: &[TrainTimes]) -> Result<Vec<TrainTimes>, OutOfMemory>
-    ensures { IfOk result (λ all. all.items ≡ trains.now) }
-{
-    let mut all = Vec::with_capacity(alloc, trains.len())?;
-    for train in trains {
-        all.push(train.copy()?)?;
-    }
-    Ok(all)
-}
-
 impl NodeTimes {
-    /// No times.
-    pub fn new(alloc: Global) -> NodeTimes
-        ensures { result ≡ record { trains = [] } }
+    /// No times, with room for those of so many trains, and of so many calls of all trains together.
+    /// Room for 2^31 calls or more is answered as want of memory.
+    pub fn with_room(alloc: Global, trains: u32, calls: u32) -> Result<NodeTimes, OutOfMemory>
+        ensures { IfOk result (λ times.
+            times ≡ record { trains = []; spare_trains = trains; spare_calls = calls }) }
     {
-        NodeTimes {
-            trains: Vec::new(alloc),
-        }
+        let slots = Slots::with_room(alloc, trains, calls)?;
+        Ok(NodeTimes {
+            slots,
+            times: blank_times(alloc, 2 * calls as usize)?,
+        })
     }
 
-    /// The same times once more.
+    /// Times for the events of all calls that have slots, 2^25 - 1 for each, with the same room.
+    pub(crate) fn blank(alloc: Global, slots: &Slots) -> Result<NodeTimes, OutOfMemory>
+        ensures { IfOk result (λ times. times ≡ blank_trains slots.now) }
+    {
+        let count = 2 * (slots.used() as usize + slots.spare_calls() as usize);
+        Ok(NodeTimes {
+            slots: slots.copy(alloc)?,
+            times: blank_times(alloc, count)?,
+        })
+    }
+
+    /// The same times once more, with the same room.
     pub fn copy(&self, alloc: Global) -> Result<NodeTimes, OutOfMemory>
         ensures { IfOk result (λ copy. copy ≡ self.now) }
     {
         Ok(NodeTimes {
-            trains: copy_trains(alloc, &self.trains)?,
+            slots: self.slots.copy(alloc)?,
+            times: self.times.clone()?,
         })
     }
 
-    /// The time of an event, in seconds from the base of day 0. It takes one step, and nothing else takes one.
+    /// The time of an event, in seconds from the base of day 0. It takes one step, and nothing else
+    /// takes one.
     pub fn read<L: Ledger>(&self, n: Node, steps: &mut Steps<L>) -> Time
         requires { IsTrue (has_time self.now n) }
         ensures time { time_of self.now n ≡ Some result }
         ensures cost { steps.new ≡ steps.old + 1 }
     {
         steps.tick();
-        self.trains[n.train.get() as usize].get(place(n))
+        self.times[number_of(&self.slots, n)]
     }
 
     /// Changes the time of an event, in seconds from the base of day 0.
     pub fn write(&mut self, n: Node, t: Time)
         requires { IsTrue (has_time self.old n) }
-        ensures kept { self.new ≡ with_time n t self.old }
-        ensures time { (m : ANode) → time_of self.new m ≡ (if is_same_node n m then Some t else time_of self.old m) }
+        ensures stored { self.new ≡ with_time n t self.old }
+        ensures time { (m : ANode)
+            → time_of self.new m ≡ (if is_same_node n m then Some t else time_of self.old m) }
     {
-        self.trains[n.train.get() as usize].set(place(n), t);
+        self.slots.numbers_are_lawful();
+        let number = number_of(&self.slots, n);
+        self.times[number] = t;
     }
 
-    /// Times for the events of one more train, which has so many labels: 2^25 - 1 for each, which no settled event has. After an
-    /// error nothing is changed.
-    pub fn push_train(&mut self, labels: u32) -> Result<(), OutOfMemory>
-        ensures ok { OnOk result (self.new ≡ with_train_times labels self.old) }
-        ensures err { OnErr result (self.new ≡ self.old) }
+    /// Times for the events of one more train, which has so many labels: 2^25 - 1 for each, which no
+    /// settled event has. It takes no memory.
+    pub fn push_train(&mut self, labels: u32)
+        requires train_spare { 0 < self.old.spare_trains }
+        requires some { 1 ≤ labels }
+        requires calls_spare { labels ≤ self.old.spare_calls }
+        ensures { self.new ≡ with_train_times labels self.old }
     {
-        let mut times = TrainTimes::new(*self.trains.allocator());
-        times.add(labels)?;
-        self.trains.push(times)?;
-        Ok(())
+        let _ = self.slots.push_train(labels);
     }
 
-    /// Takes the times of the last train away.
-    pub fn pop_train(&mut self)
-        requires there { 0 < length self.old.trains }
-        ensures { self.new ≡ without_last self.old }
-    {
-        self.trains.truncate(self.trains.len() - 1);
-    }
-
-    /// Times for the events of so many more labels of a train, as for those of a new train. After an error nothing is changed.
-    pub fn add_labels(&mut self, t: TrainNo, labels: u32) -> Result<(), OutOfMemory>
+    /// Times for the events of so many more labels of a train, as for those of a new train. It takes no
+    /// memory.
+    pub fn add_labels(&mut self, t: TrainNo, labels: u32)
         requires there { t < length self.old.trains }
-        ensures ok { OnOk result (self.new ≡ with_labels t labels self.old) }
-        ensures err { OnErr result (self.new ≡ self.old) }
+        requires calls_spare { labels ≤ self.old.spare_calls }
+        ensures { self.new ≡ with_labels t labels self.old }
     {
-        self.trains[t.get() as usize].add(labels)
-    }
-
-    /// Keeps the times of so many labels of a train, the first ones, and takes the others away.
-    pub fn keep_labels(&mut self, t: TrainNo, labels: u32)
-        requires there { t < length self.old.trains }
-        ensures { self.new ≡ without_labels t labels self.old }
-    {
-        self.trains[t.get() as usize].keep(labels);
+        let _ = self.slots.add_calls(t, labels);
     }
 }

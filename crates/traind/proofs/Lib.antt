@@ -1,5 +1,6 @@
 pub mod Ends
 pub mod Fronts
+pub mod InStep
 pub mod Networks
 pub mod OneMore
 pub mod SameTables

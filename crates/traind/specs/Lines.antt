@@ -1,12 +1,13 @@
 -- What the lines of an input say, and which of their messages are accepted.
-use Rattle.std.specs.Prelude.{List, None, Result, Ok, Err}
-use Rattle.std.specs.Option.{option_map_or}
+use Rattle.std.specs.Prelude.{◌≡◌, ◌<◌, List, None, Result, Ok, Err}
+use Rattle.std.specs.Option.{option_map, option_map_or}
 use Rattle.std.specs.declared.option.Option.{Option}
 use Rattle.std.specs.List.{filter_map}
 use Rattle.delay_model.specs.declared.network.Network.{Network}
 use Rattle.delay_model.specs.declared.messages.Message.{Message}
 use Rattle.delay_model.specs.declared.state.State.{State}
 use Rattle.delay_model.specs.After.{Reading, accepted, known_after}
+use Rattle.delay_model.specs.Names.{TrainName}
 use Rattle.delay_report.specs.declared.replies.BadLine.{BadLine}
 use Rattle.delay_report.specs.declared.replies.BadLine.TheVariants as words
 use Rattle.message_reader.specs.declared.bad.Bad.{Bad}
@@ -17,7 +18,7 @@ use Rattle.message_reader.specs.declared.wire.Line.{Line as Spoken}
 use Rattle.message_reader.specs.Lines.{line_of, message_in}
 use Rattle.message_reader.specs.Resolved.{resolved}
 use Rattle.mt_io.specs.Lines.{Line, short, long}
-use Rattle.schedule_build.specs.Directory.{Names, day_named, with_extra}
+use Rattle.schedule_build.specs.Directory.{Names, day_named, train_named, with_extra}
 
 -- the word for a fault of a line. Reading by definition never wants memory, so the last case is never asked for
 abbrev pub word_of : Bad → BadLine
@@ -47,11 +48,23 @@ message_by names (short bytes) = message_in (line_of names bytes)
 abbrev pub messages_of : Names → List Line → List Wire
 messages_of names lines = filter_map (message_by names) lines
 
--- the names after an accepted message: an extra train is known by its trip and its service day from then on, and no other message
--- adds a name. The day of an accepted message is loaded
+-- the name of the train that a message adds: an extra train is known by its trip and its service day, and no other message adds a name
+abbrev pub added_name : Names → Wire → Option TrainName
+added_name names (Extra trip date route calls) = option_map (λ day. record { trip = trip; day = day }) (day_named names date)
+added_name names _ = None
+
+-- a name is not there, and there is room for it
+pub record CanBeAdded (names : Names) (name : TrainName) : Type 0 where
+  pub room : 0 < names.spare_trains
+  pub new : train_named names name.trip name.day ≡ None
+
+-- the names with this one, if there is one
+abbrev pub with_added : Option TrainName → Names → Names
+with_added name names = option_map_or (λ n. with_extra n.trip n.day names) name names
+
+-- the names after an accepted message. The day of an accepted message is loaded
 abbrev pub names_with : Names → Wire → Names
-names_with names (Extra trip date route calls) = option_map_or (λ day. with_extra trip day names) (day_named names date) names
-names_with names _ = names
+names_with names w = with_added (added_name names w) names
 
 -- a message is read by the names that are known before it
 abbrev pub by_names : Reading Wire Names

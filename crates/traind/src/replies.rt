@@ -1,11 +1,11 @@
 //! The reply to a line, and what the line does to the timetable and its names.
 
-ghost use Rattle.std.specs.Prelude.{◌≡◌, ◌<◌, ◌-◌, ◌^◌, Ok, Err, IfOk, IfErr, OnOk};
+ghost use Rattle.std.specs.Prelude.{◌≡◌, ◌<◌, ◌-◌, ◌^◌, Ok, Err, IfOk, IfErr, IfSome, OnOk};
 ghost use Rattle.message_reader.specs.declared.wire.Line.TheVariants.{Message as Says};
 ghost use Rattle.message_reader.specs.Lines.{line_of};
 ghost use Rattle.message_reader.specs.Resolved.{resolved};
 ghost use Rattle.message_reader.specs.Wires.{IsLine, IsWire};
-ghost use Rattle.traind.specs.Lines.{names_with, with_word};
+ghost use Rattle.traind.specs.Lines.{added_name, with_added, with_word, CanBeAdded};
 ghost use Rattle.traind.specs.Output.{reply_to_message, reply_to_refused, IsReply, IsReplyToQuery};
 ghost use Rattle.traind.specs.declared.status.Fault.TheVariants.{Memory};
 ghost use Rattle.traind.specs.Standing.{next_by, next_by_message};
@@ -20,28 +20,36 @@ use mt_base::memory::OutOfMemory;
 use mt_base::numbers::Day;
 use mt_base::plans::{PlanRide, Query};
 use mt_base::rows::Rows;
-use schedule_build::Directory;
+use schedule_build::{Directory, ExtraName};
 use std::alloc::Global;
 use std::marker::Brand;
 use std::sync::ledger::{Blank, Ledger};
-use timetable::StepFault;
 use train_nodes::{Msg, Steps};
 
-/// Adds the name of the train that an accepted message adds, if it adds one. Where no number is left for a train, that is told as
-/// want of memory.
-fn add_name(alloc: Global, directory: &mut Directory, wire: &Wire) -> Result<(), Fault>
-    ensures names { OnOk result (directory.new ≡ names_with directory.old wire.now) }
-    ensures memory { IfErr result (λ f. f ≡ Memory) }
+/// The name of the train that a message adds, if it adds one.
+fn added_name(
+    alloc: Global,
+    directory: &Directory,
+    wire: &Wire,
+) -> Result<Option<ExtraName>, OutOfMemory>
+    ensures { IfOk result (λ name. name ≡ added_name directory.now wire.now) }
 {
     if let Wire::Extra { trip, date, .. } = wire
         && let Some(day) = directory.day(*date)
     {
-        if directory.trains() == u32::MAX {
-            return Err(Fault::Memory);
-        }
-        directory.add_extra(alloc, trip.text(), day)?;
+        return Ok(Some(directory.extra_name(alloc, trip.text(), day)?));
     }
-    Ok(())
+    Ok(None)
+}
+
+/// Adds the name of an extra train, if there is one.
+fn add_name(directory: &mut Directory, name: Option<ExtraName>)
+    requires ready { IfSome name (λ n. CanBeAdded directory.old n) }
+    ensures { directory.new ≡ with_added name directory.old }
+{
+    if let Some(name) = name {
+        let _ = directory.add_extra(name);
+    }
 }
 
 /// The reply to a refused message.
@@ -82,6 +90,7 @@ fn reply_to_message<L: Ledger>(
     message: &Msg,
     blank: Blank,
 ) -> Result<Reply, Fault>
+    requires resolved { resolved service.old.names wire.now ≡ Ok message.now }
     requires count { service.old.count < 2 ^ 64 - 1 }
     requires name { blank.name ≡ L.name }
     requires parts { blank.parts ≡ L.parts }
@@ -90,20 +99,18 @@ fn reply_to_message<L: Ledger>(
     ensures next { OnOk result (service.new ≡ next_by_message service.old wire.now (Ok message.now)) }
     ensures memory { IfErr result (λ f. f ≡ Memory) }
 {
+    let name = added_name(alloc, &service.directory, wire)?;
     let mut steps = Steps::<L>::open(blank);
-    match service.timetable.step(alloc, message, &mut steps) {
+    match service.timetable.step(message, &mut steps) {
         Ok(changed) => {
-            add_name(alloc, &mut service.directory, wire)?;
+            add_name(&mut service.directory, name);
             Ok(Reply::Accepted {
                 line: number,
                 number: service.timetable.count(),
                 changed,
             })
         }
-        Err(StepFault::Refused(refusal)) => {
-            reply_to_refused(alloc, &service.directory, number, wire, &refusal)
-        }
-        Err(StepFault::OutOfMemory) => Err(Fault::Memory),
+        Err(refusal) => reply_to_refused(alloc, &service.directory, number, wire, &refusal),
     }
 }
 

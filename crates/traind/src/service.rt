@@ -1,6 +1,7 @@
 //! A timetable with its names, ready for lines.
 
 ghost use Rattle.std.specs.Prelude.{◌≡◌, IfOk};
+ghost use Rattle.schedule_build.specs.InStep.{AreInStep};
 
 use conn_scan::Scratch;
 use mt_base::memory::OutOfMemory;
@@ -9,7 +10,8 @@ use std::alloc::Global;
 use std::marker::Model;
 use timetable::Timetable;
 
-/// A timetable with its names, and room for the answers to queries. It is seen as where the timetable stands.
+/// A timetable with its names, and room for the answers to queries. It is seen as where the timetable stands. Each of its trains has a
+/// name of its own.
 #[derive(Drop)]
 pub(crate) struct InformationService {
     pub(crate) timetable: Timetable,
@@ -24,11 +26,11 @@ impl Model for InformationService {
 
     ghost coded = { standing_code };
 
-    ghost use Rattle.traind.specs.Seen.{seen, HasRoom};
+    ghost use Rattle.traind.specs.Seen.{seen, IsReady};
 
     ghost view = { seen };
 
-    ghost invariant = { HasRoom };
+    ghost invariant = { IsReady };
 }
 
 impl InformationService {
@@ -40,6 +42,7 @@ impl InformationService {
         directory: Directory,
         trains: u32,
     ) -> Result<InformationService, OutOfMemory>
+        requires in_step { AreInStep directory timetable.state }
         ensures { IfOk result (λ s. s ≡ record { network = timetable.network; state = timetable.state; count = timetable.count; names = directory }) }
     {
         let stops = timetable.graph().changes().stops();

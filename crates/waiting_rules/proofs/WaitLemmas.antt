@@ -1,5 +1,5 @@
 -- The wait from the first rule that fits.
-use Rattle.std.proofs.Common.{◌≡◌, ◌≤◌, ℕ, List, All, map, nat_eq, Option, Some, None, unwrap_or, slice_get, ◌&&◌, ◌||◌, inl, inr, refl, sym, subst, ◌∙◌, ap, arith}
+use Rattle.std.proofs.Common.{◌≡◌, ◌≤◌, ℕ, List, All, map, Option, Some, None, unwrap_or, slice_get, ◌&&◌, ◌||◌, inl, inr, refl, sym, subst, ◌∙◌, ap, arith}
 use Rattle.std.specs.List.{find, position_or_len}
 use Rattle.std.specs.Option.{option_map, option_map_or}
 use Rattle.std.proofs.lemmas.Bool.{cases_Bool}
@@ -7,6 +7,7 @@ use Rattle.std.proofs.lemmas.List.Folds.{find_at}
 use Rattle.std.proofs.lemmas.Option.{slice_get-map, slice_get_cases}
 use Rattle.mt_base.specs.declared.tables.RuleRow.{RuleRow}
 use Rattle.mt_base.specs.declared.tables.StopRow.{StopRow}
+use Rattle.mt_base.specs.Places.{is_platform}
 use Rattle.delay_model.specs.Changes.{station, station_by}
 use Rattle.delay_model.specs.Waits.{is_empty_or, wait}
 use Rattle.waiting_rules.specs.declared.scopes.Asked.{Asked}
@@ -15,7 +16,7 @@ use Rattle.waiting_rules.specs.WaitTable.{parent_station, station_in}
 
 station-by : (a : ℕ) (row : Option StopRow) → option_map_or (station_by a) row a ≡ unwrap_or (unwrap_or (option_map parent_station row) None) a
 station-by a None = refl
-station-by a (Some row) = elim (cases_Bool (nat_eq row.kind 0)) [ inl here ↦ rw here refl | inr other ↦ rw other refl ]
+station-by a (Some row) = elim (cases_Bool (is_platform row.kind)) [ inl here ↦ rw here refl | inr other ↦ rw other refl ]
 
 -- the station of a location is that by the parent stations
 station-is : (stops : List StopRow) (a : ℕ) → station stops a ≡ station_in (map parent_station stops) a

@@ -1,11 +1,12 @@
 -- What a feed says of waits.
-use Rattle.std.specs.Prelude.{ℕ, List, Option, None, unwrap_or, slice_get, map, nat_eq, if◌then◌else◌}
+use Rattle.std.specs.Prelude.{ℕ, List, Option, None, unwrap_or, slice_get, map, if◌then◌else◌}
 use Rattle.mt_base.specs.declared.tables.RuleRow.{RuleRow}
 use Rattle.mt_base.specs.declared.tables.StopRow.{StopRow}
+use Rattle.mt_base.specs.Places.{is_platform}
 
 -- the parent station of a stop or platform; any other location has none (GTFS Schedule, stops.txt)
 abbrev pub parent_station : StopRow → Option ℕ
-parent_station row = if nat_eq row.kind 0 then row.parent else None
+parent_station row = if is_platform row.kind then row.parent else None
 
 -- the station of a location, by the parent stations of all
 abbrev pub station_in : List (Option ℕ) → ℕ → ℕ

@@ -104,7 +104,11 @@ fn parents(alloc: Global, stops: &[StopRow]) -> Result<Vec<Option<StopNo>>, OutO
 fn parent_station(row: &StopRow) -> Option<StopNo>
     ensures { result ≡ parent_station row.now }
 {
-    if row.kind == 0 { row.parent } else { None }
+    if row.kind.is_platform() {
+        row.parent
+    } else {
+        None
+    }
 }
 
 /// The station of a location: its parent station, or itself where it has none.

@@ -1,4 +1,5 @@
 use Rattle.std.proofs.Common.{◌≡◌, [], ◌∷◌, Some, None, sym, ◌∙◌, ap}
+use Rattle.mt_base.specs.Order.{node_of}
 use Rattle.delay_model.specs.declared.state.Event.{Event}
 use Rattle.delay_model.specs.Edges.{edge_on}
 use Rattle.edge_rules.proofs.Neighbours.{into-event, named-there}
@@ -7,17 +8,22 @@ use Rattle.edge_rules.proofs.along.edge_into.Goals as goal
 pub event-requires : goal.event-requires
 event-requires c =
     let st = c.args.trains.now in
+    let v = c.args.at.now in
     let m = c.in-Some.before in
-    let joined = into-event c.args.opts.now st c.requires.labels c.args.n.now c.event-at.result c.event-at.ensures (Some m) (sym c.previous.ensures ∙ c.in-Some.is) in
+    let joined = into-event c.args.opts.now st c.requires.labels (node_of v.key) v c.requires.there (Some m) (sym (rw c.node.ensures at c.previous.ensures) ∙ c.in-Some.is) in
     named-there st m joined.0 joined.1
 
 pub returns-in-None : goal.returns-in-None
 returns-in-None c =
-    sym (into-event c.args.opts.now c.args.trains.now c.requires.labels c.args.n.now c.event-at.result c.event-at.ensures None (sym c.previous.ensures ∙ c.in-None.is))
+    let v = c.args.at.now in
+    sym (into-event c.args.opts.now c.args.trains.now c.requires.labels (node_of v.key) v c.requires.there None (sym (rw c.node.ensures at c.previous.ensures) ∙ c.in-None.is))
 
 pub returns-in-Some : goal.returns-in-Some
 returns-in-Some c =
-    let v = c.event-at.result in
-    let joined = into-event c.args.opts.now c.args.trains.now c.requires.labels c.args.n.now v c.event-at.ensures (Some c.in-Some.before) (sym c.previous.ensures ∙ c.in-Some.is) in
+    let v = c.args.at.now in
+    let joined = into-event c.args.opts.now c.args.trains.now c.requires.labels (node_of v.key) v c.requires.there (Some c.in-Some.before) (sym (rw c.node.ensures at c.previous.ensures) ∙ c.in-Some.is) in
     let same : c.event.result ≡ joined.0 = cc (c.event.ensures, joined.1) in
     c.edge_between.ensures ∙ ap (λ (u : Event). edge_on c.args.opts.now u (v ∷ [])) same ∙ sym joined.2
+
+pub previous-requires : goal.previous-requires
+previous-requires c = let v = c.args.at.now in rw c.node.ensures (named-there c.args.trains.now (node_of v.key) v c.requires.there)

@@ -1,5 +1,6 @@
 use Rattle.std.proofs.Common.{◌≢◌, List, [], ◌∷◌, None, codes, arith}
 use Rattle.std.proofs.lemmas.List.Elements.{All-nil, All-from_recursion}
+use Rattle.mt_base.specs.declared.places.PlaceKind.TheVariants.{Platform, Station, Entrance}
 use Rattle.mt_base.specs.declared.tables.StopRow.{StopRow}
 use Rattle.mt_base.specs.declared.tables.Tables.{Tables}
 use Rattle.feed_tables.specs.Calls.{DoNotFall}
@@ -7,7 +8,7 @@ use Rattle.feed_tables.specs.Lawful.{AreDistinct, IsLocation, IsLawful}
 use Rattle.message_reader.proofs.small_timetable.tables.Goals as goal
 
 abbrev places : List StopRow
-places = record { id = codes "A"; kind = 0; parent = None } ∷ record { id = codes "B"; kind = 1; parent = None } ∷ record { id = codes "C"; kind = 2; parent = None } ∷ []
+places = record { id = codes "A"; kind = Platform; parent = None } ∷ record { id = codes "B"; kind = Station; parent = None } ∷ record { id = codes "C"; kind = Entrance; parent = None } ∷ []
 
 abbrev alone : Tables
 alone = record { stops = places; routes = []; services = []; trips = []; calls = []; calendar = []; dates = []; transfers = []; rules = [] }
@@ -15,7 +16,7 @@ alone = record { stops = places; routes = []; services = []; trips = []; calls =
 alone_lawful : IsLawful alone
 unfolding AreDistinct DoNotFall
 alone_lawful = record {
-  stops = All-from_recursion (IsLocation places) places (record { kind = omega arith; parent = tt }, (record { kind = omega arith; parent = tt }, (record { kind = omega arith; parent = tt }, tt)));
+  stops = All-from_recursion (IsLocation places) places (record { parent = tt }, (record { parent = tt }, (record { parent = tt }, tt)));
   trips = All-nil _;
   calls = All-nil _;
   calendar = All-nil _;

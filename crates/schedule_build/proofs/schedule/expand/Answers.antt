@@ -1,5 +1,6 @@
 use Rattle.schedule_build.proofs.Words.{◌∙◌, arith, length_permutation, All-permutation, all_runs, IsTimely}
 use Rattle.schedule_build.proofs.FitLemmas.{runs-fit}
+use Rattle.schedule_build.proofs.InStepLemmas.{loaded-in_step}
 use Rattle.schedule_build.proofs.SmallTimes.{calls-timely}
 use Rattle.schedule_build.proofs.StateLemmas.{count-same, schedule-same, fit-same, few-enough}
 use Rattle.schedule_build.proofs.schedule.expand.Goals as goal
@@ -47,3 +48,6 @@ pub directory_of-requires-clause-loaded : goal.directory_of-requires-clause-load
 directory_of-requires-clause-loaded c =
     let fit = runs-fit c.args.t.now c.args.first c.args.days c.tables-tables.ensures.lawful c.requires.few_days in
     rw (c.as_slice-7.ensures.value, c.in_ok-runs.ensures.runs, c.tables-tables.ensures.tables) (λ k d l. (fit k d l).day)
+
+pub returns-clause-in_step : goal.returns-clause-in_step
+returns-clause-in_step c = rw (returns-clause-schedule c, c.in_ok-directory.ensures, c.tables-tables.ensures.tables) (loaded-in_step c.args.t.now c.args.first c.args.days c.args.opts.now c.tables-tables.ensures.lawful)

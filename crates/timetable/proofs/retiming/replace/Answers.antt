@@ -1,4 +1,4 @@
-use Rattle.timetable.proofs.Words.{◌≡◌, true, IsPermutation-put_mid, leaves_before, false}
+use Rattle.timetable.proofs.Words.{◌≡◌, true, IsPermutation-put_mid, leaves_before}
 use Rattle.timetable.proofs.Retimed.{back-ascends, forth-ascends}
 use Rattle.timetable.proofs.retiming.replace.Goals as goal
 

@@ -1,4 +1,4 @@
-use Rattle.timetable.proofs.Words.{◌≡◌, ◌≢◌, ℕ, true, not, nat_eq, sym, ◌∙◌, not-false, eqb-true, eq-eqb, false}
+use Rattle.timetable.proofs.Words.{◌≡◌, ◌≢◌, ℕ, true, not, nat_eq, sym, ◌∙◌, not-false, eqb-true, eq-eqb}
 use Rattle.timetable.proofs.Settling.{part-live, part-has, part-held, part-fits, part-room, part-there, part-others, more-changed, more-same}
 use Rattle.timetable.proofs.settle.settle_each.Goals.{then-ne, else-ne}
 use Rattle.timetable.proofs.settle.settle_each.Goals as goal
@@ -35,10 +35,10 @@ loop-k-preserved g c =
           let pushed = rw w.node-then-ne.ensures at w.push_reserved.ensures.items in
           let r = w.retime-left in
           rw (w.changed-is, w.departures-is, w.left-is)
-          (more-changed c.requires.valid c.requires.order c.requires.held c.loop-k.invariant c.loop-k-test.true c.k-item.is c.node.ensures one.result.0 e.before one.new.times one.result.1 e.rule e.after e.others e.sized
+          (more-changed c.requires.valid c.requires.order c.requires.held c.loop-k.invariant c.loop-k-test.true c.k-item.is c.node.ensures one.result.0 e.before one.new.times one.result.1 e.rule e.after e.others e.has_times
           w.push_reserved.new.self (differ _ _ (sym c.ne.ensures ∙ w.if-ne.true)) pushed w.push_reserved.ensures.len w.push_reserved.ensures.capacity r.result r.new.departures r.ensures.reach r.ensures.retimed r.ensures.arrival)
       | else-ne w ↦
           rw (w.changed-is, w.departures-is, w.left-is)
-          (more-same c.requires.valid c.requires.order c.requires.held c.loop-k.invariant c.loop-k-test.true c.k-item.is c.node.ensures one.result.0 e.before one.new.times one.result.1 e.rule e.after e.others e.sized
+          (more-same c.requires.valid c.requires.order c.requires.held c.loop-k.invariant c.loop-k-test.true c.k-item.is c.node.ensures one.result.0 e.before one.new.times one.result.1 e.rule e.after e.others e.has_times
           (eqb-true _ _ (not-false _ (sym c.ne.ensures ∙ w.if-ne.false))))
     ]

@@ -1,11 +1,11 @@
-use Rattle.std.proofs.Common.{◌≡◌, ◌+◌, ◌++◌, drop, length, vec_capacity}
-use Rattle.train_nodes.specs.Loaded.{loaded_from}
+use Rattle.std.proofs.Common.{◌≡◌, ◌+◌, length, vec_capacity}
+use Rattle.train_nodes.specs.Linked.{AreLaid}
 use Rattle.train_nodes.proofs.calls.push_calls.Given as goal
 
--- what was pushed and what is left to push is what all calls come to
+-- the calls before this place are laid
 abbrev pub invariant-loop-place : goal.invariant-loop-place
 invariant-loop-place l = record {
-  items : l.all.items ++ loaded_from (length l.calls) l.place (drop l.place l.calls) ≡ l.initial.all.items ++ loaded_from (length l.calls) 0 l.calls;
+  laid : AreLaid l.train l.first l.calls l.place l.initial.all.items l.all.items;
   len : length l.all.items ≡ length l.initial.all.items + l.place;
   capacity : vec_capacity l.all ≡ vec_capacity l.initial.all;
 }

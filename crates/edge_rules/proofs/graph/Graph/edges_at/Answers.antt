@@ -2,8 +2,7 @@ use Rattle.std.proofs.Common.{◌≡◌, ◌++◌, [], arith, drop, flat_map, le
 use Rattle.std.specs.Option.{option_to_list}
 use Rattle.std.proofs.lemmas.Bool.{cond-true, cond-false}
 use Rattle.std.proofs.lemmas.List.{drop_all}
-use Rattle.delay_model.specs.declared.state.Event.{Event}
-use Rattle.delay_model.specs.Events.{events, events_from, event_named}
+use Rattle.delay_model.specs.Events.{events, events_from}
 use Rattle.edge_rules.specs.Timetabled.{Timetabled}
 use Rattle.edge_rules.specs.Transfers.{transfer_with}
 use Rattle.edge_rules.proofs.graph.Graph.edges_at.Goals as goal
@@ -11,13 +10,11 @@ use Rattle.edge_rules.proofs.graph.Graph.edges_at.Goals.{then-transfers, else-tr
 
 pub returns : goal.returns
 unfolding events
-returns c = λ v named.
+returns c =
     let g = c.args.self.now in
-    let others = c.starting_at.result in
+    let v = c.args.at.now in
     let found = flat_map (transfer_with g v) (events g.state) in
-    let same : c.event.result ≡ v = cc (c.event.ensures, ap (λ (x : Timetabled). event_named x.state c.args.n.now) c.self.view_is ∙ named) in
-    ap (λ (w : Event). option_to_list c.args.along ++ flat_map (transfer_with g w) others) same
-    ∙ ap (λ es. option_to_list c.args.along ++ flat_map (transfer_with g v) es) c.starting_at.ensures
+    ap (λ es. option_to_list c.args.along ++ flat_map (transfer_with g v) es) c.starting_at.ensures
     ∙ ap (λ (x : Timetabled). option_to_list c.args.along ++ flat_map (transfer_with g v) (events_from c.if-transfers.first (drop c.if-transfers.first x.state.trains))) c.self.view_is
     ∙ ap (λ gs. option_to_list c.args.along ++ gs) (elim c.if-transfers.branch [
       | then-transfers w ↦

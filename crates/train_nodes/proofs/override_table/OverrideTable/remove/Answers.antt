@@ -1,19 +1,35 @@
-use Rattle.std.proofs.Common.{refl, arith}
+use Rattle.std.proofs.Common.{arith, not}
+use Rattle.std.specs.Bool.{passes}
+use Rattle.std.specs.Ordering.{eq_by_cmp}
+use Rattle.std.specs.FinMap.Entries.{length_without}
+use Rattle.delay_model.specs.Overrides.{connection_cmp}
 use Rattle.delay_model.proofs.ConnectionLemmas.{connections_total, exact_connections}
-use Rattle.train_nodes.proofs.PlaceLemmas.{at-found, at-gap}
+use Rattle.train_nodes.specs.declared.override_rows.End.TheVariants.{Departure}
+use Rattle.train_nodes.specs.OverrideRows.{end_cmp}
+use Rattle.train_nodes.proofs.OverrideOrders.{chosen, kept-turned, stored-with, given, tied-alike}
+use Rattle.train_nodes.proofs.PlaceLemmas.{without-is}
 use Rattle.train_nodes.proofs.override_table.OverrideTable.remove.Goals as goal
+
+pub overflow_add-self : goal.overflow_add-self
+overflow_add-self c =
+    let a = c.self.inside in
+    let counts = given _ c.take_out-was_there.result a.spare c.from.result _ _ c.take_out-was_there.ensures.there c.from.ensures (length_without connection_cmp connections_total c.args.connection.now a.by_arrival.items (passes _ c.self.invariant.choices.sorted)) in
+    omega (arith, counts.total, c.self.invariant.small)
 
 pub invariant_of-self : goal.invariant_of-self
 invariant_of-self c =
-    let there = at-found connections_total exact_connections c.self.inside.rows.items c.args.connection.now c.self.invariant.sorted _ c.in-Ok.place c.deref.ensures.value c.in-Ok.ensures.within c.in-Ok.ensures.found in
-    record { sorted = rw c.remove.ensures.items there.remove.sorted; room = omega (arith, c.remove.ensures.len, c.remove.ensures.capacity, c.self.invariant.room); small = omega (arith, c.remove.ensures.len, c.self.invariant.small) }
+    let a = c.self.inside in
+    let k = c.args.connection.now in
+    let counts = given _ c.take_out-was_there.result a.spare c.from.result _ _ c.take_out-was_there.ensures.there c.from.ensures (length_without connection_cmp connections_total k a.by_arrival.items (passes _ c.self.invariant.choices.sorted)) in
+    let choices = kept-turned (λ p. not (eq_by_cmp connection_cmp k p)) (λ p. not (eq_by_cmp (end_cmp Departure) k p)) a.by_arrival.items a.by_departure.items (λ p. rw (tied-alike Departure k p)) c.self.invariant.choices in
+    stored-with a _ c.self.invariant (rw (c.take_out-was_there.ensures.items, c.take_out.ensures.items) choices) (rw c.take_out-was_there.ensures.items counts.total) (omega (arith, c.take_out-was_there.ensures.capacity)) (omega (arith, c.take_out.ensures.capacity))
 
-pub returns-in-Ok : goal.returns-in-Ok
-returns-in-Ok c =
-    let there = at-found connections_total exact_connections c.self.inside.rows.items c.args.connection.now c.self.invariant.sorted _ c.in-Ok.place c.deref.ensures.value c.in-Ok.ensures.within c.in-Ok.ensures.found in
-    rw (← c.self.view_is, c.remove.ensures.items, there.get _ c.remove.ensures.value) record { choices = there.remove.is; spare = refl }
+pub returns-clause-choices : goal.returns-clause-choices
+returns-clause-choices c =
+    rw (← c.self.view_is, c.take_out-was_there.ensures.items) (without-is connections_total exact_connections c.self.inside.by_arrival.items c.self.invariant.choices.sorted c.args.connection.now)
 
-pub returns-in_default : goal.returns-in_default
-returns-in_default c =
-    let gap = at-gap connections_total exact_connections c.self.inside.rows.items c.args.connection.now c.self.invariant.sorted _ c.in_default.field-0 c.deref.ensures.value (rw c.in_default.is at c.search.ensures.within) (rw c.in_default.is at c.search.ensures.absent) in
-    rw (← c.self.view_is, gap.get) record { choices = gap.remove; spare = refl }
+pub returns-clause-spare : goal.returns-clause-spare
+returns-clause-spare c =
+    let a = c.self.inside in
+    rw (← c.self.view_is, chosen a c.args.connection.now c.self.invariant)
+    (given _ c.take_out-was_there.result a.spare c.from.result _ _ c.take_out-was_there.ensures.there c.from.ensures (length_without connection_cmp connections_total c.args.connection.now a.by_arrival.items (passes _ c.self.invariant.choices.sorted))).more

@@ -1,47 +1,41 @@
-use Rattle.std.proofs.Common.{refl, ap, arith}
-use Rattle.std.specs.Option.{is_some}
-use Rattle.std.proofs.lemmas.List.{length-set}
+use Rattle.std.proofs.Common.{refl, arith}
+use Rattle.std.specs.Bool.{passes}
+use Rattle.std.specs.FinMap.Entries.{length-put}
+use Rattle.delay_model.specs.Overrides.{connection_cmp}
 use Rattle.delay_model.proofs.ConnectionLemmas.{connections_total, exact_connections}
-use Rattle.train_nodes.proofs.PlaceLemmas.{at-found, at-gap}
+use Rattle.train_nodes.proofs.OverrideOrders.{chosen, put-turned, stored-with, taken}
+use Rattle.train_nodes.proofs.PlaceLemmas.{put-is}
 use Rattle.train_nodes.proofs.override_table.OverrideTable.set.Goals as goal
 
-pub invariant_of-self : goal.invariant_of-self
-invariant_of-self c =
-    let there = at-found connections_total exact_connections c.self.inside.rows.items c.args.connection c.self.invariant.sorted _ c.in-Ok.place c.deref.ensures.value c.in-Ok.ensures.within c.in-Ok.ensures.found in
-    record {
-      sorted = (there.set c.index_mut.result.now c.args.choice c.index_mut.ensures.value).sorted;
-      room = rw length-set c.self.invariant.room;
-      small = rw length-set c.self.invariant.small;
-    }
+pub put-is_new-requires-clause-room : goal.put-is_new-requires-clause-room
+put-is_new-requires-clause-room c none =
+    let some = (rw (← c.self.view_is, chosen c.self.inside c.args.connection c.self.invariant, none) at c.requires.spare) refl in
+    omega (arith, some, c.self.invariant.room)
 
-pub returns-in-Ok : goal.returns-in-Ok
-returns-in-Ok c =
-    let there = at-found connections_total exact_connections c.self.inside.rows.items c.args.connection c.self.invariant.sorted _ c.in-Ok.place c.deref.ensures.value c.in-Ok.ensures.within c.in-Ok.ensures.found in
-    let set = there.set c.index_mut.result.now c.args.choice c.index_mut.ensures.value in
-    rw (← c.self.view_is, there.get c.index_mut.result.now c.index_mut.ensures.value) record { choices = set.is; spare = refl }
+pub put-requires-clause-room : goal.put-requires-clause-room
+put-requires-clause-room c none =
+    let some = (rw (← c.self.view_is, chosen c.self.inside c.args.connection c.self.invariant, ← c.self.invariant.choices.same c.args.connection, none) at c.requires.spare) refl in
+    omega (arith, some, c.self.invariant.turned_room, c.self.invariant.count)
 
 pub overflow_sub-self : goal.overflow_sub-self
 overflow_sub-self c =
-    let gap = at-gap connections_total exact_connections c.self.inside.rows.items c.args.connection c.self.invariant.sorted _ c.in-Err.place c.deref.ensures.value c.in-Err.ensures.within c.in-Err.ensures.absent in
-    let some = (rw (← c.self.view_is) at c.requires.spare) (ap is_some gap.get) in
-    omega (arith, some)
+    let some = rw (← c.self.view_is, chosen c.self.inside c.args.connection c.self.invariant) at c.requires.spare in
+    (taken _ c.put-is_new.result c.self.inside.spare c.from.result 0 c.put-is_new.ensures.new c.from.ensures some).within
 
-pub invariant_of-self-in-Err : goal.invariant_of-self-in-Err
-invariant_of-self-in-Err c =
-    let gap = at-gap connections_total exact_connections c.self.inside.rows.items c.args.connection c.self.invariant.sorted _ c.in-Err.place c.deref.ensures.value c.in-Err.ensures.within c.in-Err.ensures.absent in
-    let some = (rw (← c.self.view_is) at c.requires.spare) (ap is_some gap.get) in
-    let done = c.insert.ensures.succeeds (omega (arith, some, c.self.invariant.room)) in
-    let items = rw done at c.insert.ensures.items in
-    let len = rw done at c.insert.ensures.len in
-    record {
-      sorted = rw items (gap.insert c.args.choice).sorted;
-      room = omega (arith, some, len, c.insert.ensures.capacity, c.self.invariant.room);
-      small = omega (arith, some, len, c.self.invariant.small);
-    }
+pub invariant_of-self : goal.invariant_of-self
+invariant_of-self c =
+    let a = c.self.inside in
+    let some = rw (← c.self.view_is, chosen a c.args.connection c.self.invariant) at c.requires.spare in
+    let counts = taken _ c.put-is_new.result a.spare c.from.result _ c.put-is_new.ensures.new c.from.ensures some in
+    let choices = put-turned c.args.connection c.args.choice a.by_arrival.items a.by_departure.items c.self.invariant.choices in
+    let count = length-put connection_cmp connections_total c.args.connection c.args.choice a.by_arrival.items (passes _ c.self.invariant.choices.sorted) in
+    stored-with a _ c.self.invariant (rw (c.put-is_new.ensures.items, c.put.ensures.items) choices) (rw (c.put-is_new.ensures.items, count) counts.total) c.put-is_new.ensures.capacity c.put.ensures.capacity
 
-pub returns-in-Err : goal.returns-in-Err
-returns-in-Err c =
-    let gap = at-gap connections_total exact_connections c.self.inside.rows.items c.args.connection c.self.invariant.sorted _ c.in-Err.place c.deref.ensures.value c.in-Err.ensures.within c.in-Err.ensures.absent in
-    let some = (rw (← c.self.view_is) at c.requires.spare) (ap is_some gap.get) in
-    let items = rw (c.insert.ensures.succeeds (omega (arith, some, c.self.invariant.room))) at c.insert.ensures.items in
-    rw (← c.self.view_is, items, gap.get) record { choices = (gap.insert c.args.choice).is; spare = refl }
+pub returns-clause-choices : goal.returns-clause-choices
+returns-clause-choices c =
+    rw (← c.self.view_is, c.put-is_new.ensures.items) (put-is connections_total exact_connections c.self.inside.by_arrival.items c.self.invariant.choices.sorted c.args.connection c.args.choice)
+
+pub returns-clause-spare : goal.returns-clause-spare
+returns-clause-spare c =
+    let some = rw (← c.self.view_is, chosen c.self.inside c.args.connection c.self.invariant) at c.requires.spare in
+    rw (← c.self.view_is, chosen c.self.inside c.args.connection c.self.invariant) (taken _ c.put-is_new.result c.self.inside.spare c.from.result 0 c.put-is_new.ensures.new c.from.ensures some).left

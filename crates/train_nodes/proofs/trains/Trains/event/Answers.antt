@@ -1,8 +1,9 @@
 use Rattle.std.proofs.Common.{◌∙◌, ap, sym, Some}
+use Rattle.train_nodes.specs.Linked.{call_of}
 use Rattle.train_nodes.proofs.EventLemmas.{event-named}
 use Rattle.train_nodes.proofs.trains.Trains.event.Goals as goal
 
 pub returns : goal.returns
 returns c =
-    event-named c.args.self.now c.args.n c.route.result c.call.result.now c.call.ensures c.route.ensures
-    ∙ ap Some (sym c.event_of.ensures)
+    event-named c.args.self.now c.args.n c.route.result (call_of c.call.result.now) c.call.ensures c.route.ensures
+    ∙ ap Some (sym c.stored_event.ensures)

@@ -1,9 +1,17 @@
-use Rattle.std.proofs.Common.{sym, ◌∙◌, ap, find}
-use Rattle.delay_model.specs.Effect.{is_call}
-use Rattle.train_nodes.proofs.CallPlaces.{named-at}
+use Rattle.std.proofs.Common.{sym}
+use Rattle.train_nodes.proofs.ReadLemmas.{named-read, none-read, distinct-seen}
 use Rattle.train_nodes.proofs.trains.Trains.find_call.Goals as goal
 
 pub returns-in-Some-clause-found : goal.returns-in-Some-clause-found
 returns-in-Some-clause-found c =
-    sym (ap (find (is_call c.args.l)) (sym c.calls_of-calls.ensures.calls)
-    ∙ named-at c.calls_of-calls.result.now c.args.l c.in-Some.place c.index-calls-place.result c.in-Some.ensures.first c.index-calls-place.is)
+    sym (named-read c.self.inside c.args.self.now c.deref.result.now c.args.t c.args.l c.in-Some.slot c.index.result.now c.self.invariant c.self.view_is c.deref.ensures.value c.in-Some.ensures c.index.ensures)
+
+pub returns-in-Some-clause-labels : goal.returns-in-Some-clause-labels
+returns-in-Some-clause-labels c = distinct-seen c.self.inside c.args.self.now c.args.t c.self.invariant c.self.view_is
+
+pub returns-in-None-clause-found : goal.returns-in-None-clause-found
+returns-in-None-clause-found c =
+    sym (none-read c.self.inside c.args.self.now c.deref.result.now c.args.t c.args.l c.self.invariant c.self.view_is c.deref.ensures.value c.in-None.ensures)
+
+pub returns-in-None-clause-labels : goal.returns-in-None-clause-labels
+returns-in-None-clause-labels c = distinct-seen c.self.inside c.args.self.now c.args.t c.self.invariant c.self.view_is

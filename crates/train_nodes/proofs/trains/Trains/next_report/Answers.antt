@@ -1,22 +1,30 @@
-use Rattle.std.proofs.Common.{◌∙◌, ap, sym, subst, length, ◌<◌}
-use Rattle.delay_model.specs.Effect.{is_call}
-use Rattle.delay_model.specs.Events.{calls_of}
-use Rattle.train_nodes.specs.Stored.{HasReportsWithin}
-use Rattle.train_nodes.proofs.CallPlaces.{first-within}
-use Rattle.train_nodes.proofs.ReportLemmas.{report-named}
-use Rattle.train_nodes.proofs.StoredLemmas.{row-of, row-calls, row-known, place-there}
+use Rattle.std.proofs.Common.{sym, ap, ◌∙◌, arith}
+use Rattle.std.specs.Option.{option_or}
+use Rattle.train_nodes.specs.Linked.{call_of, live_report}
+use Rattle.train_nodes.proofs.ReadLemmas.{missing-read, slot-within, found-read}
+use Rattle.train_nodes.proofs.ReportLemmas.{report-departs, report-arrives}
 use Rattle.train_nodes.proofs.trains.Trains.next_report.Goals as goal
 
-pub returns : goal.returns
-returns c =
+pub returns-in_err-slot : goal.returns-in_err-slot
+returns-in_err-slot c =
+    absurd (missing-read c.self.inside c.args.self.now c.deref.result.now c.args.n.train c.args.n.label c.self.invariant c.self.view_is c.deref.ensures.value c.in_err-slot.ensures c.requires)
+
+pub index-call-requires : goal.index-call-requires
+index-call-requires c = omega (arith, slot-within c.self.inside c.deref.result.now c.args.n.train c.args.n.label c.in_ok-slot.slot c.deref.ensures.value c.in_ok-slot.ensures)
+
+pub returns-then-n : goal.returns-then-n
+returns-then-n c =
     let a = c.self.inside in
-    let st = c.args.self.now in
-    let t = c.args.n.train in
-    let cs = c.calls_of-calls.result.now in
-    let r = c.index.result.now in
-    let place = c.in_ok-place.place in
-    let same = c.calls_of-calls.ensures.calls in
-    let l = subst (λ ds. place < length ds) same (first-within (is_call c.args.n.label) place cs c.in_ok-place.ensures.first) in
-    let w = row-of a t c.get.result r c.self.invariant (place-there a st t place c.self.view_is l) c.index.ensures c.get.ensures in
-    let reports = subst (HasReportsWithin r.reported) (sym (row-calls a t r w) ∙ ap (λ st. calls_of st t) c.self.view_is ∙ sym same) (row-known a t r w).reports in
-    report-named st c.args.n cs place c.max-end.result r.reported c.report_after.result same c.in_ok-place.ensures.first reports c.max-end.ensures c.report_after.ensures
+    let x = c.index-call.result.now in
+    let w = found-read a c.deref.result.now c.args.n.train c.args.n.label c.in_ok-slot.slot x c.self.invariant c.deref.ensures.value c.in_ok-slot.ensures c.index-call.ensures in
+    c.next_report.ensures ∙ sym (report-departs a c.args.self.now c.args.n c.in_ok-slot.slot x w.0 w.1 c.self.view_is w.2 c.if-n.true)
+
+pub returns-else-n : goal.returns-else-n
+returns-else-n c =
+    let a = c.self.inside in
+    let x = c.index-call.result.now in
+    let w = found-read a c.deref.result.now c.args.n.train c.args.n.label c.in_ok-slot.slot x c.self.invariant c.deref.ensures.value c.in_ok-slot.ensures c.index-call.ensures in
+    c.or.ensures
+    ∙ ap (λ o. option_or o c.next_report-else-n.result) c.departure_report.ensures
+    ∙ ap (option_or (live_report (call_of x).departure)) c.next_report-else-n.ensures
+    ∙ sym (report-arrives a c.args.self.now c.args.n c.in_ok-slot.slot x w.0 w.1 c.self.view_is w.2 c.if-n.false)

@@ -1,49 +1,198 @@
-use Rattle.std.proofs.Common.{◌≡◌, ◌+◌, ◌-◌, ◌<◌, ◌∙◌, ap, sym, subst, length, List, take, drop, ◌++◌, Some, slice_get, ℕ}
-use Rattle.std.specs.Option.{option_map}
-use Rattle.delay_model.specs.declared.state.Call.{Call}
-use Rattle.delay_model.specs.declared.state.Train.{Train}
+use Rattle.std.proofs.Common.{◌≡◌, ◌+◌, ◌-◌, ◌<◌, ap, sym, subst, arith, refl, ◌∙◌, MatchOption, length}
+use Rattle.std.specs.Vec.{with_item}
+use Rattle.std.proofs.lemmas.Option.{slice_get_within}
+use Rattle.delay_model.specs.declared.messages.Message.TheVariants.{Reroute}
 use Rattle.delay_model.specs.declared.state.State.{State}
-use Rattle.delay_model.specs.Effect.{new_calls, change_train}
+use Rattle.delay_model.specs.Effect.{effect}
 use Rattle.delay_model.specs.Events.{calls_of}
-use Rattle.train_nodes.specs.Rows.{with_own, calls_by}
-use Rattle.train_nodes.specs.Stored.{AreLabelled}
-use Rattle.train_nodes.proofs.RerouteLemmas.{rerouted-labelled, rerouted-state}
-use Rattle.train_nodes.proofs.StoredLemmas.{row-of, row-calls, row-known, row-train, place-there}
+use Rattle.delay_model.specs.Refusals.{stands_before}
+use Rattle.train_nodes.specs.declared.rows.Row.{Row}
+use Rattle.train_nodes.specs.Lines.{IsPartOf, HasNoPart, AreReplaced}
+use Rattle.train_nodes.specs.Numbering.{Numbering}
+use Rattle.train_nodes.specs.Stored.{seen, IsStored}
+use Rattle.train_nodes.proofs.CallPlaces.{never}
+use Rattle.train_nodes.proofs.CancelLemmas.{row-read}
+use Rattle.train_nodes.proofs.FoundParts.{part-found, found-part, stands-found}
+use Rattle.train_nodes.proofs.NumberingLemmas.{change-length}
+use Rattle.train_nodes.proofs.RerouteLemmas.{IsReroute, reroute-renewed, reroute-stored, reroute-seen, next-label, part-sizes, rows-told}
 use Rattle.train_nodes.proofs.trains.Trains.reroute.Goals as goal
 
-pub replace_calls-requires-clause-labels : goal.replace_calls-requires-clause-labels
-replace_calls-requires-clause-labels c =
+pub returns-in_default : goal.returns-in_default
+returns-in_default c =
     let a = c.self.inside in
-    let st = c.args.self.now in
     let t = c.args.t in
-    let w = c.in-Some.ensures in
-    let r = c.index.result.now in
-    let via = c.args.via.now in
-    let row = row-of a t c.get.result r c.self.invariant (place-there a st t c.in-Some.last c.self.view_is w.within) c.index.ensures c.get.ensures in
-    let spare : a.spare_calls ≡ st.spare_calls = ap (λ (s : State). s.spare_calls) c.self.view_is in
-    let left : c.remove_overrides.new.self.spare_calls ≡ st.spare_calls = ap (λ (s : State). s.spare_calls) c.remove_overrides.ensures in
-    let calls = sym (row-calls a t r row) ∙ ap (λ s. calls_of s t) c.self.view_is ∙ sym c.calls_of.ensures.calls in
-    let old = subst (AreLabelled st.spare_calls r.next_label) calls (subst (λ k. AreLabelled k r.next_label (calls_by a.calls.items r)) spare (row-known a t r row).labels) in
-    let within = subst (λ (ds : List Call). c.in-Some.last < length ds) (sym c.calls_of.ensures.calls) w.within in
-    let new = rerouted-labelled st.spare_calls r.next_label c.in-Some.first c.in-Some.last c.calls_of.result.now via old w.order within c.requires.spare in
-    subst (λ k. AreLabelled (k - length via) c.new.result c.in_ok-calls.calls.items) (sym left)
-    (subst (λ k. AreLabelled (st.spare_calls - length via) k c.in_ok-calls.calls.items) (sym (c.new.ensures ∙ ap (λ k. k + length via) c.get-2.ensures))
-    (subst (AreLabelled (st.spare_calls - length via) (r.next_label + length via)) (sym c.in_ok-calls.ensures) new))
+    let found = stands-found a t c.args.from c.args.to c.find_part.result c.self.invariant (subst (λ cs. MatchOption c.find_part.result (HasNoPart cs a.slots t c.args.from c.args.to) (λ p. IsPartOf cs a.slots t c.args.from c.args.to p)) c.deref.ensures.value c.find_part.ensures) in
+    absurd (never c.find_part.result c.in_default.is (found ∙ ap (λ (st : State). stands_before c.args.from c.args.to (calls_of st t)) c.self.view_is ∙ c.requires.stand))
 
-pub returns-clause-ok : goal.returns-clause-ok
-returns-clause-ok c =
+pub next_label-label-requires : goal.next_label-label-requires
+next_label-label-requires c =
     let a = c.self.inside in
-    let st = c.args.self.now in
+    let p = c.in-Some.part in
     let t = c.args.t in
-    let w = c.in-Some.ensures in
-    let r = c.index.result.now in
+    let w = part-found a t c.args.from c.args.to p c.self.invariant (subst (λ cs. IsPartOf cs a.slots t c.args.from c.args.to p) c.deref.ensures.value c.in-Some.ensures) in
+    slice_get_within a.slots.trains t w.1 w.2.of.number
+
+pub add_calls-requires-clause-there : goal.add_calls-requires-clause-there
+add_calls-requires-clause-there c =
+    let a = c.self.inside in
+    let p = c.in-Some.part in
+    let t = c.args.t in
+    let w = part-found a t c.args.from c.args.to p c.self.invariant (subst (λ cs. IsPartOf cs a.slots t c.args.from c.args.to p) c.deref.ensures.value c.in-Some.ensures) in
+    slice_get_within a.slots.trains t w.1 w.2.of.number
+
+pub replace-requires-clause-part : goal.replace-requires-clause-part
+replace-requires-clause-part c =
+    let a = c.self.inside in
+    let p = c.in-Some.part in
+    let t = c.args.t in
+    let w = part-found a t c.args.from c.args.to p c.self.invariant (subst (λ cs. IsPartOf cs a.slots t c.args.from c.args.to p) c.deref.ensures.value c.in-Some.ensures) in
+    found-part a t c.args.from c.args.to p w.0 w.1 w.2
+
+pub replace-requires-clause-labels : goal.replace-requires-clause-labels
+replace-requires-clause-labels c =
+    let a = c.self.inside in
+    let p = c.in-Some.part in
+    let t = c.args.t in
+    let w = part-found a t c.args.from c.args.to p c.self.invariant (subst (λ cs. IsPartOf cs a.slots t c.args.from c.args.to p) c.deref.ensures.value c.in-Some.ensures) in
+    let label = next-label a.slots.trains t c.next_label-label.result w.1 w.2.of.number c.next_label-label.ensures.label in
+    let sizes = part-sizes a t c.args.from c.args.to p w.0 w.1 w.2 in
+    let spare : a.slots.spare_calls ≡ c.args.self.now.spare_calls = ap (λ (st : State). st.spare_calls) c.self.view_is in
+    let all = sizes.0 in
+    let small = sizes.1 in
+    let within = w.2.within in
+    let order = w.2.part.order in
+    let fits = c.requires.spare in
+    omega arith
+
+pub replace-requires-clause-places : goal.replace-requires-clause-places
+replace-requires-clause-places c =
+    let a = c.self.inside in
+    let p = c.in-Some.part in
+    let t = c.args.t in
+    let w = part-found a t c.args.from c.args.to p c.self.invariant (subst (λ cs. IsPartOf cs a.slots t c.args.from c.args.to p) c.deref.ensures.value c.in-Some.ensures) in
+    let sizes = part-sizes a t c.args.from c.args.to p w.0 w.1 w.2 in
+    let spare : a.slots.spare_calls ≡ c.args.self.now.spare_calls = ap (λ (st : State). st.spare_calls) c.self.view_is in
+    let all = sizes.0 in
+    let small = sizes.1 in
+    let within = w.2.within in
+    let order = w.2.part.order in
+    let fits = c.requires.spare in
+    omega arith
+
+pub index-requires : goal.index-requires
+index-requires c =
+    let a = c.self.inside in
+    let p = c.in-Some.part in
+    let t = c.args.t in
+    let w = part-found a t c.args.from c.args.to p c.self.invariant (subst (λ cs. IsPartOf cs a.slots t c.args.from c.args.to p) c.deref.ensures.value c.in-Some.ensures) in
+    omega (arith, slice_get_within a.rows.items t w.0 w.2.of.row)
+
+pub overflow_sub-len-3 : goal.overflow_sub-len-3
+overflow_sub-len-3 c =
+    let a = c.self.inside in
+    let p = c.in-Some.part in
+    let t = c.args.t in
+    let w = part-found a t c.args.from c.args.to p c.self.invariant (subst (λ cs. IsPartOf cs a.slots t c.args.from c.args.to p) c.deref.ensures.value c.in-Some.ensures) in
+    let sizes = part-sizes a t c.args.from c.args.to p w.0 w.1 w.2 in
+    let spare : a.slots.spare_calls ≡ c.args.self.now.spare_calls = ap (λ (st : State). st.spare_calls) c.self.view_is in
+    let all = sizes.0 in
+    let small = sizes.1 in
+    let within = w.2.within in
+    let order = w.2.part.order in
+    let fits = c.requires.spare in
+    let len = ap (λ (q : Row). q.len) (row-read a t w.0 w.1 w.2.of c.get.result c.index.result.now c.get.ensures c.index.ensures) in
+    omega arith
+
+pub overflow_add-len : goal.overflow_add-len
+overflow_add-len c =
+    let a = c.self.inside in
+    let p = c.in-Some.part in
+    let t = c.args.t in
+    let w = part-found a t c.args.from c.args.to p c.self.invariant (subst (λ cs. IsPartOf cs a.slots t c.args.from c.args.to p) c.deref.ensures.value c.in-Some.ensures) in
+    let sizes = part-sizes a t c.args.from c.args.to p w.0 w.1 w.2 in
+    let spare : a.slots.spare_calls ≡ c.args.self.now.spare_calls = ap (λ (st : State). st.spare_calls) c.self.view_is in
+    let all = sizes.0 in
+    let small = sizes.1 in
+    let within = w.2.within in
+    let order = w.2.part.order in
+    let fits = c.requires.spare in
+    let len = ap (λ (q : Row). q.len) (row-read a t w.0 w.1 w.2.of c.get.result c.index.result.now c.get.ensures c.index.ensures) in
+    omega arith
+
+pub index_mut-requires : goal.index_mut-requires
+index_mut-requires c =
+    let a = c.self.inside in
+    let p = c.in-Some.part in
+    let t = c.args.t in
+    let w = part-found a t c.args.from c.args.to p c.self.invariant (subst (λ cs. IsPartOf cs a.slots t c.args.from c.args.to p) c.deref.ensures.value c.in-Some.ensures) in
+    omega (arith, slice_get_within a.rows.items t w.0 w.2.of.row)
+
+pub renew_train-requires : goal.renew_train-requires
+renew_train-requires c =
+    let a = c.self.inside in
+    let p = c.in-Some.part in
+    let t = c.args.t in
+    let w = part-found a t c.args.from c.args.to p c.self.invariant (subst (λ cs. IsPartOf cs a.slots t c.args.from c.args.to p) c.deref.ensures.value c.in-Some.ensures) in
+    let same = ap (λ (s : Numbering). length s.trains) c.add_calls.ensures.slots ∙ change-length t (length c.args.via.now) a.slots in
+    record { there = subst (λ k. t < k) (sym same) (slice_get_within a.slots.trains t w.1 w.2.of.number) }
+
+pub invariant_of-self : goal.invariant_of-self
+invariant_of-self c =
+    let a = c.self.inside in
+    let p = c.in-Some.part in
+    let t = c.args.t in
+    let w = part-found a t c.args.from c.args.to p c.self.invariant (subst (λ cs. IsPartOf cs a.slots t c.args.from c.args.to p) c.deref.ensures.value c.in-Some.ensures) in
+    let label = next-label a.slots.trains t c.next_label-label.result w.1 w.2.of.number c.next_label-label.ensures.label in
+    let spare : a.slots.spare_calls ≡ c.args.self.now.spare_calls = ap (λ (st : State). st.spare_calls) c.self.view_is in
+    let fits = c.requires.spare in
     let via = c.args.via.now in
-    let row = row-of a t c.get.result r c.self.invariant (place-there a st t c.in-Some.last c.self.view_is w.within) c.index.ensures c.get.ensures in
-    let new = λ (s : State) (next : ℕ) (ds : List Call). let n : State = record s { trains = change_train t (with_own next ds) s.trains; spare_calls = s.spare_calls - length via } in n in
-    let calls = λ (ds : List Call). take (c.in-Some.first + 1) ds ++ new_calls r.next_label via ++ drop c.in-Some.last ds in
-    let next : option_map (λ (t : Train). t.next_label) (slice_get st.trains t) ≡ Some r.next_label = ap (λ (s : State). option_map (λ (t : Train). t.next_label) (slice_get s.trains t)) (sym c.self.view_is) ∙ ap (option_map (λ (t : Train). t.next_label)) (row-train a t r row) in
-    c.replace_calls.ensures
-    ∙ ap (λ k. new c.remove_overrides.new.self k c.in_ok-calls.calls.items) (c.new.ensures ∙ ap (λ k. k + length via) c.get-2.ensures)
-    ∙ ap (new c.remove_overrides.new.self (r.next_label + length via)) (c.in_ok-calls.ensures ∙ ap calls c.calls_of.ensures.calls)
-    ∙ ap (λ s. new s (r.next_label + length via) (calls (calls_of st t))) c.remove_overrides.ensures
-    ∙ rerouted-state st t c.args.from c.args.to c.in-Some.first c.in-Some.last r.next_label via w next
+    let mid = c.replace.new.calls.items in
+    let is : IsReroute a t c.args.from c.args.to p w.0 w.1 c.next_label-label.result via mid = record {
+      found = w.2;
+      label_is = label;
+      loaded = c.numbers_are_lawful.ensures.loaded t w.1 w.2.of.number;
+      spare = omega arith;
+      replaced = subst (λ u. AreReplaced u p.from p.to p.first p.last c.next_label-label.result via a.calls.items mid) w.2.part.train_is c.replace.ensures.replaced;
+    } in
+    let gap = p.last - p.first - 1 in
+    let read = row-read a t w.0 w.1 w.2.of c.get.result c.index.result.now c.get.ensures c.index.ensures in
+    let told = row-read a t w.0 w.1 w.2.of c.get-2.result c.index_mut.result.now c.get-2.ensures c.index_mut.ensures.value in
+    let row : Row = record c.index_mut.result.now { len = c.index.result.now.len - gap + length via } in
+    let rows = with_item a.rows c.get-2.result row in
+    let ys = c.renew_train.new.calls in
+    let o = c.remove_overrides.new.overrides in
+    let renewed = reroute-renewed a t c.args.from c.args.to p w.0 w.1 c.next_label-label.result via mid is ys.items c.add_calls.new.self (c.index.result.now.len - gap + length via) c.add_calls.ensures.slots (ap (λ (q : Row). q.len - gap + length via) read) c.renew_train.ensures.renewed in
+    let rows_are = rows-told a.rows.items t c.get-2.result gap (length via) w.0 c.index.result.now c.index_mut.result.now c.get-2.ensures read told in
+    subst (λ s. IsStored (record a { rows = rows; calls = ys; slots = s; overrides = o })) (sym c.add_calls.ensures.slots)
+    (reroute-stored a t c.args.from c.args.to p w.0 w.1 c.next_label-label.result via mid is rows ys o rows_are renewed refl (c.renew_train.ensures.capacity ∙ c.replace.ensures.capacity))
+
+pub returns : goal.returns
+returns c =
+    let a = c.self.inside in
+    let p = c.in-Some.part in
+    let t = c.args.t in
+    let w = part-found a t c.args.from c.args.to p c.self.invariant (subst (λ cs. IsPartOf cs a.slots t c.args.from c.args.to p) c.deref.ensures.value c.in-Some.ensures) in
+    let label = next-label a.slots.trains t c.next_label-label.result w.1 w.2.of.number c.next_label-label.ensures.label in
+    let spare : a.slots.spare_calls ≡ c.args.self.now.spare_calls = ap (λ (st : State). st.spare_calls) c.self.view_is in
+    let fits = c.requires.spare in
+    let via = c.args.via.now in
+    let mid = c.replace.new.calls.items in
+    let is : IsReroute a t c.args.from c.args.to p w.0 w.1 c.next_label-label.result via mid = record {
+      found = w.2;
+      label_is = label;
+      loaded = c.numbers_are_lawful.ensures.loaded t w.1 w.2.of.number;
+      spare = omega arith;
+      replaced = subst (λ u. AreReplaced u p.from p.to p.first p.last c.next_label-label.result via a.calls.items mid) w.2.part.train_is c.replace.ensures.replaced;
+    } in
+    let gap = p.last - p.first - 1 in
+    let read = row-read a t w.0 w.1 w.2.of c.get.result c.index.result.now c.get.ensures c.index.ensures in
+    let told = row-read a t w.0 w.1 w.2.of c.get-2.result c.index_mut.result.now c.get-2.ensures c.index_mut.ensures.value in
+    let row : Row = record c.index_mut.result.now { len = c.index.result.now.len - gap + length via } in
+    let rows = with_item a.rows c.get-2.result row in
+    let ys = c.renew_train.new.calls in
+    let o = c.remove_overrides.new.overrides in
+    let renewed = reroute-renewed a t c.args.from c.args.to p w.0 w.1 c.next_label-label.result via mid is ys.items c.add_calls.new.self (c.index.result.now.len - gap + length via) c.add_calls.ensures.slots (ap (λ (q : Row). q.len - gap + length via) read) c.renew_train.ensures.renewed in
+    let rows_are = rows-told a.rows.items t c.get-2.result gap (length via) w.0 c.index.result.now c.index_mut.result.now c.get-2.ensures read told in
+    ap (λ s. seen (record a { rows = rows; calls = ys; slots = s; overrides = o })) c.add_calls.ensures.slots
+    ∙ reroute-seen a t c.args.from c.args.to p w.0 w.1 c.next_label-label.result via mid is rows ys o rows_are renewed c.deref-2.result.now c.deref-2.ensures.value c.remove_overrides.ensures.choices c.remove_overrides.ensures.spare
+    ∙ ap (λ st. effect st (Reroute t c.args.from c.args.to via)) c.self.view_is

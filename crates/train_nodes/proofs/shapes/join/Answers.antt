@@ -1,0 +1,13 @@
+use Rattle.std.proofs.Common.{ap, ◌∙◌, arith}
+use Rattle.train_nodes.specs.declared.stored_call.StoredCall.{StoredCall}
+use Rattle.train_nodes.proofs.PartLemmas.{joined-as}
+use Rattle.train_nodes.proofs.shapes.join.Goals as goal
+
+pub returns-clause-joined : goal.returns-clause-joined
+returns-clause-joined c =
+    let x = c.index_mut.result.now in
+    let y = c.index_mut-2.result.now in
+    joined-as c.args.calls.now.items c.args.part.now.from c.args.part.now.to c.args.new c.args.count x y c.set_after.new.self c.set_before.new.self (omega arith) (omega arith) c.index_mut.ensures.value
+    (c.set_after.ensures ∙ ap (λ s. let z : StoredCall = record x { after = s } in z) c.slot_from.ensures)
+    c.index_mut-2.ensures.value
+    (c.set_before.ensures ∙ ap (λ s. let z : StoredCall = record y { before = s } in z) c.slot_before.ensures)

@@ -1,0 +1,15 @@
+use Rattle.std.proofs.Common.{◌≡◌, ◌≤◌, ℕ}
+use Rattle.train_nodes.specs.declared.slots.AddedCall.{AddedCall}
+use Rattle.train_nodes.specs.StoredSlots.{IsLink}
+use Rattle.train_nodes.proofs.slots.find.Given as goal
+
+-- an entry of the train, and none before the one wanted
+pub record IsLater (e from : AddedCall) (n : ℕ) : Type 0 where
+  pub train : e.train ≡ from.train
+  pub not_before : n ≤ e.nth
+
+abbrev pub invariant-loop-at : goal.invariant-loop-at
+invariant-loop-at l = IsLink l.added l.at × IsLater l.at l.fn.from l.nth
+
+abbrev pub decreases-loop-at : goal.decreases-loop-at
+decreases-loop-at l = l.at.nth

@@ -1,0 +1,154 @@
+//! What messages change, kind by kind.
+
+ghost use Rattle.std.specs.Prelude.{◌≡◌};
+ghost use Rattle.delay_model.specs.Messages.{IsWellFormed};
+ghost use Rattle.train_nodes.specs.Kinds.{HasFewCalls, changed_train, message_of};
+
+use crate::messages::Msg;
+use delay_model::messages::Message;
+use delay_model::overrides::Override;
+use mt_base::keys::Node;
+use mt_base::numbers::{Day, Label, RouteNo, Time, TrainNo};
+use mt_base::plans::NewCall;
+
+/// What a message changes.
+#[derive(Clone, Copy)]
+pub enum Kind<'a> {
+    /// A value of an event.
+    Value(Value),
+
+    /// What is chosen for a connection.
+    Choice(Choice),
+
+    /// The calls of a train, or which of its events take place.
+    Shape(Shape<'a>),
+}
+
+/// Whether an event took place at a time, or is expected then.
+#[derive(Clone, Copy, Debug, PartialEq, Eq)]
+pub enum ValueKind {
+    Report,
+    Forecast,
+}
+
+/// A report or a forecast of an event.
+#[derive(Clone, Copy, Debug, PartialEq, Eq)]
+pub struct Value {
+    pub kind: ValueKind,
+    pub node: Node,
+    pub time: Time,
+}
+
+/// What is chosen for the connection from an arrival to a departure of another train.
+#[derive(Clone, Copy, Debug, PartialEq, Eq)]
+pub struct Choice {
+    pub feeder: Node,
+    pub train: Node,
+
+    /// Whether it is kept or dropped. None leaves it to the waiting rules again.
+    pub choice: Option<Override>,
+}
+
+/// Which calls a train makes, or which of its events take place.
+#[derive(Clone, Copy)]
+pub enum Shape<'a> {
+    /// The train does not run from the departure of one call to the arrival of a later one.
+    Cancel {
+        train: TrainNo,
+        from: Label,
+        to: Label,
+    },
+
+    /// Between two of its calls the train makes these calls, and not those that it made so far.
+    Reroute {
+        train: TrainNo,
+        from: Label,
+        to: Label,
+        via: &'a [NewCall],
+    },
+
+    /// One more train runs.
+    Extra {
+        train: TrainNo,
+        day: Day,
+        route: RouteNo,
+        calls: &'a [NewCall],
+    },
+}
+
+impl<'a> Shape<'a> {
+    /// The train that is changed or added.
+    pub fn train(&self) -> TrainNo
+        ensures { result ≡ changed_train self.now }
+    {
+        match self {
+            Shape::Cancel { train, .. } => *train,
+            Shape::Reroute { train, .. } => *train,
+            Shape::Extra { train, .. } => *train,
+        }
+    }
+}
+
+impl Msg {
+    /// What it changes.
+    pub fn kind(&self) -> Kind<'_>
+        ensures says { message_of result ≡ self.now }
+        ensures well_formed { IsWellFormed self.now }
+        ensures few { HasFewCalls self.now }
+    {
+        match self.message() {
+            Message::Report { node, time } => of_value(ValueKind::Report, node, *time),
+            Message::Forecast { node, time } => of_value(ValueKind::Forecast, node, *time),
+            Message::Keep { feeder, train } => of_choice(feeder, train, Some(Override::Keep)),
+            Message::Drop { feeder, train } => of_choice(feeder, train, Some(Override::Drop)),
+            Message::Rule { feeder, train } => of_choice(feeder, train, None),
+            Message::Cancel { train, from, to } => Kind::Shape(Shape::Cancel {
+                train: *train,
+                from: *from,
+                to: *to,
+            }),
+            Message::Reroute {
+                train,
+                from,
+                to,
+                via,
+            } => Kind::Shape(Shape::Reroute {
+                train: *train,
+                from: *from,
+                to: *to,
+                via: via.as_slice(),
+            }),
+            Message::Extra {
+                train,
+                day,
+                route,
+                calls,
+            } => Kind::Shape(Shape::Extra {
+                train: *train,
+                day: *day,
+                route: *route,
+                calls: calls.as_slice(),
+            }),
+        }
+    }
+}
+
+fn of_value<'a>(kind: ValueKind, node: &Node, time: Time) -> Kind<'a>
+    ensures { result ≡ Kind.Value (record { kind = kind; node = node.now; time = time }) }
+{
+    Kind::Value(Value {
+        kind,
+        node: *node,
+        time,
+    })
+}
+
+fn of_choice<'a>(feeder: &Node, train: &Node, choice: Option<Override>) -> Kind<'a>
+    ensures { result ≡ Kind.Choice (record { feeder = feeder.now; train = train.now; choice = choice }) }
+{
+    Kind::Choice(Choice {
+        feeder: *feeder,
+        train: *train,
+        choice,
+    })
+}
