@@ -12,7 +12,8 @@ abbrev pub rank_to : Opts → Option Event → Event → Option Refusal
 rank_to o None v = None
 rank_to o (Some u) v = first_against_rank (edge_on o u (v ∷ []))
 
--- the first edge against rank along these events of a train, to the first of which one leads from the event before, if there is one
+-- the first edge against rank along these events of a train, to the first of which one leads from
+-- the event before, if there is one
 abbrev pub rank_along : Opts → Option Event → List Event → Option Refusal
 rank_along o before [] = None
 rank_along o before (v ∷ vs) = option_or (rank_to o before v) (rank_along o (Some v) vs)

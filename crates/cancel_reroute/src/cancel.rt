@@ -28,9 +28,12 @@ pub(crate) fn check_cancel(g: &Graph, train: TrainNo, from: Label, to: Label) ->
     check_stretch(g, &departure, &arrival)
 }
 
-/// Whether no live event of the train from the departure to the arrival is reported. The first that is, in the train's order, is shown.
+/// Whether no live event of the train from the departure to the arrival is reported. The first that
+/// is, in the train's order, is shown.
 fn check_stretch(g: &Graph, departure: &Node, arrival: &Node) -> Result<(), Refusal>
-    ensures { Answers result (any_reported (up_to (is_event arrival.now) (Cuts.from (is_event departure.now) (train_events g.now.state departure.now.train)))) }
+    ensures { Answers result
+        (any_reported (up_to (is_event arrival.now)
+        (Cuts.from (is_event departure.now) (train_events g.now.state departure.now.train)))) }
 {
     let mut departed = false;
     for event in g.trains().events(departure.train) {

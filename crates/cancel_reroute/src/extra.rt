@@ -29,7 +29,8 @@ pub(crate) fn check_extra(
 ) -> Result<(), Refusal>
     requires two { 2 ≤ length calls.now }
     requires few { length calls.now < 2 ^ 31 }
-    ensures { (day : ℕ) → Answers result (refusal g.now.network g.now.state (Extra train day route calls.now)) }
+    ensures { (day : ℕ) → Answers result (refusal g.now.network g.now.state
+        (Extra train day route calls.now)) }
 {
     let trains = g.trains();
     if train.get() > trains.count() || !are_at_stops(g, calls) {
@@ -44,7 +45,8 @@ pub(crate) fn check_extra(
 
 /// Whether a train is spare, and so many calls.
 fn check_room(g: &Graph, calls: &[NewCall]) -> Result<(), Refusal>
-    ensures { Answers result (option_or (refused_if (nat_eq g.now.state.spare_trains 0) (Full Trains)) (calls_short g.now.state (length calls.now))) }
+    ensures { Answers result (option_or (refused_if (nat_eq g.now.state.spare_trains 0)
+        (Full Trains)) (calls_short g.now.state (length calls.now))) }
 {
     if g.trains().spare_trains() == 0 {
         return Err(Refusal::Full {
@@ -54,7 +56,8 @@ fn check_room(g: &Graph, calls: &[NewCall]) -> Result<(), Refusal>
     check_spare_calls(g, calls)
 }
 
-/// Whether no edge along a new train is against rank. The arrival of its first call and the departure of its last do not take place.
+/// Whether no edge along a new train is against rank. The arrival of its first call and the
+/// departure of its last do not take place.
 fn check_run(g: &Graph, train: TrainNo, route: RouteNo, calls: &[NewCall]) -> Result<(), Refusal>
     requires two { 2 ≤ length calls.now }
     requires few { length calls.now < 2 ^ 31 }

@@ -1,4 +1,5 @@
-//! What cancellations, reroutings and extra trains do to the graph: which of them are refused, and what the others change.
+//! What cancellations, reroutings and extra trains do to the graph: which of them are refused, and
+//! what the others change.
 #![tactic(auto)]
 
 mod cancel;

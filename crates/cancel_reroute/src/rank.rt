@@ -15,7 +15,8 @@ use mt_base::plans::NewCall;
 use train_nodes::calls::new_call;
 use train_nodes::events::event_of;
 
-/// Goes through the events of a train in its order, to find the first edge along it that is against rank.
+/// Goes through the events of a train in its order, to find the first edge along it that is against
+/// rank.
 #[derive(Clone, Copy)]
 pub(crate) struct RankCheck {
     /// The last event so far.
@@ -41,8 +42,10 @@ impl RankCheck {
         route: RouteNo,
         call: &Call,
     ) -> Result<(), Refusal>
-        ensures answer { Answers result (rank_along g.now.network.opts self.old.last (events_at train route (call.now ∷ []))) }
-        ensures last { OnOk result (self.new.last ≡ last_of self.old.last (events_at train route (call.now ∷ []))) }
+        ensures answer { Answers result (rank_along g.now.network.opts self.old.last
+            (events_at train route (call.now ∷ []))) }
+        ensures last { OnOk result (self.new.last ≡ last_of self.old.last
+            (events_at train route (call.now ∷ []))) }
     {
         self.next(g, &event_of(train, route, call, false))?;
         self.next(g, &event_of(train, route, call, true))
@@ -58,8 +61,10 @@ impl RankCheck {
         calls: &[NewCall],
     ) -> Result<(), Refusal>
         requires labels { label + length calls.now < 2 ^ 32 }
-        ensures answer { Answers result (rank_along g.now.network.opts self.old.last (events_at train route (new_calls label calls.now))) }
-        ensures last { OnOk result (self.new.last ≡ last_of self.old.last (events_at train route (new_calls label calls.now))) }
+        ensures answer { Answers result (rank_along g.now.network.opts self.old.last
+            (events_at train route (new_calls label calls.now))) }
+        ensures last { OnOk result (self.new.last ≡ last_of self.old.last
+            (events_at train route (new_calls label calls.now))) }
     {
         let mut label = label;
         for call in calls {
@@ -70,7 +75,8 @@ impl RankCheck {
     }
 }
 
-/// Whether the edge from the last event, if there is one, to the next one of the train leads to a later key, in time enough.
+/// Whether the edge from the last event, if there is one, to the next one of the train leads to a
+/// later key, in time enough.
 fn check_edge(g: &Graph, last: &Option<Event>, event: &Event) -> Result<(), Refusal>
     ensures { Answers result (rank_to g.now.network.opts last.now event.now) }
 {

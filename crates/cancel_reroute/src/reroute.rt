@@ -47,9 +47,11 @@ pub(crate) fn check_reroute(
     check_spare_calls(g, via)
 }
 
-/// Whether no live event of the train behind this one is reported. The first that is, in the train's order, is shown.
+/// Whether no live event of the train behind this one is reported. The first that is, in the
+/// train's order, is shown.
 fn check_behind(g: &Graph, n: &Node) -> Result<(), Refusal>
-    ensures { Answers result (any_reported (after (is_event n.now) (train_events g.now.state n.now.train))) }
+    ensures { Answers result
+        (any_reported (after (is_event n.now) (train_events g.now.state n.now.train))) }
 {
     let mut passed = false;
     for event in g.trains().events(n.train) {
@@ -108,8 +110,10 @@ fn check_new(
 ) -> Result<(), Refusal>
     requires there { train < length g.now.state.trains }
     requires few { length via.now < 2 ^ 31 }
-    ensures answer { Answers result (rank_along g.now.network.opts check.old.last (new_events g.now.state train via.now)) }
-    ensures last { OnOk result (check.new.last ≡ last_of check.old.last (new_events g.now.state train via.now)) }
+    ensures answer { Answers result (rank_along g.now.network.opts check.old.last
+        (new_events g.now.state train via.now)) }
+    ensures last { OnOk result (check.new.last ≡ last_of check.old.last
+        (new_events g.now.state train via.now)) }
 {
     let route = g.trains().route(train);
     let label = g.trains().next_label(train);

@@ -37,7 +37,8 @@ pub fn check_shape(g: &Graph, s: &Shape<'_>) -> Result<(), Refusal>
     }
 }
 
-/// Changes the graph as an accepted cancellation, rerouting or extra train says. It takes no memory.
+/// Changes the graph as an accepted cancellation, rerouting or extra train says. It takes no
+/// memory.
 #[tactic(auto, unfolding(delay_model::specs::Effect::effect, delay_model::specs::Refusals::refusal))]
 pub fn apply_shape(g: &mut Graph, s: &Shape<'_>)
     requires well_formed { IsWellFormed (message_of_shape s.now) }

@@ -19,10 +19,12 @@ tables_of t default = record { stops = t.stops; transfers = t.transfers; default
 abbrev pub without_id : StopRow → StopRow
 without_id row = record { id = []; kind = row.kind; parent = row.parent }
 
--- the second tables have the locations of the first without their ids, the default of the first, and the change times of the first
+-- the second tables have the locations of the first without their ids, the default of the first,
+-- and the change times of the first
 pub record HaveSameChanges (t c : ChangeTables) : Type 0 where
   pub stops : c.stops ≡ map without_id t.stops
   pub default : c.default ≡ t.default
   pub kind : (a : ℕ) → kind_of c.stops a ≡ kind_of t.stops a
   pub station : (a : ℕ) → station c.stops a ≡ station t.stops a
-  pub change : (a b : ℕ) → change c.stops c.transfers c.default a b ≡ change t.stops t.transfers t.default a b
+  pub change : (a b : ℕ) → change c.stops c.transfers c.default a b
+      ≡ change t.stops t.transfers t.default a b

@@ -13,4 +13,5 @@ AreEnds start (end ∷ ends) xs = (start ≤ end) × AreEnds end ends xs
 
 -- where a part begins and ends, and 0 twice where there is no such part
 abbrev pub bounds_of : List ℕ → ℕ → ℕ × ℕ
-bounds_of ends i = if nat_lt i (length ends) then (slice_index (0 ∷ ends) i, slice_index ends i) else (0, 0)
+bounds_of ends i = if nat_lt i (length ends) then (slice_index (0 ∷ ends) i, slice_index ends i)
+    else (0, 0)

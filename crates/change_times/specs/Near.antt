@@ -29,7 +29,8 @@ linked members links place = flat_map (with_members members) (filter (is_at plac
 
 -- the locations of the same station, and those that are linked to the location or to its station
 abbrev pub near : List Link → List Link → ℕ → ℕ → List ℕ
-near members links place at = others members at ++ (linked members links place ++ linked members links at)
+near members links place at =
+    others members at ++ (linked members links place ++ linked members links at)
 
 -- where a row leads to, after where it leads from, or the other way round
 abbrev pub link_of : Direction → TransferRow → Link
@@ -43,7 +44,11 @@ links_in Back nearby = nearby.back
 
 -- each location stands after its station
 abbrev pub HaveMembers : List StopRow → List Link → Type 0
-HaveMembers stops members = (b : ℕ) → b < length stops → Contains members (record { place = station stops b; other = b })
+HaveMembers stops members = (b : ℕ) → b < length stops → Contains members (record {
+  place = station
+      stops b;
+  other = b;
+})
 
 -- each row is there as a pair
 abbrev pub HaveRows : Direction → List TransferRow → List Link → Type 0

@@ -13,12 +13,14 @@ places t = range_with_len 0 (length t.stops)
 -- the stop b with its seconds, if b is a stop or platform to which one can change from a
 abbrev pub change_to : ChangeTables → ℕ → ℕ → Option Change
 change_to t a b =
-    if is_stop t.stops b then option_map (λ s. record { stop = b; seconds = s }) (change t.stops t.transfers t.default a b) else None
+    if is_stop t.stops b then option_map (λ s. record { stop = b; seconds = s })
+    (change t.stops t.transfers t.default a b) else None
 
 -- the stop a with its seconds, if a is a stop or platform from which one can change to b
 abbrev pub change_from : ChangeTables → ℕ → ℕ → Option Change
 change_from t b a =
-    if is_stop t.stops a then option_map (λ s. record { stop = a; seconds = s }) (change t.stops t.transfers t.default a b) else None
+    if is_stop t.stops a then option_map (λ s. record { stop = a; seconds = s })
+    (change t.stops t.transfers t.default a b) else None
 
 -- the stops to which one can change from a, by number
 unfoldable pub reached : ChangeTables → ℕ → List Change

@@ -34,14 +34,16 @@ abbrev pub of_number : {X : Type 0} → (X → ℕ) → ℕ → Option X → Opt
 of_number key k None = None
 of_number key k (Some x) = if nat_eq (key x) k then Some x else None
 
--- the rows stand by the location that they lead from, and those from one location by the location that they lead to
+-- the rows stand by the location that they lead from, and those from one location by the location
+-- that they lead to
 pub record IsByPair (rows : List TransferRow) : Type 0 where
   pub from : IsNonDecreasingBy from_of rows
   pub to : (a : ℕ) → IsNonDecreasingBy to_of (filter (is_from a) rows)
 
 -- so many rows lead from locations with smaller numbers
 pub record IsStart (rows : List TransferRow) (place i : ℕ) : Type 0 where
-  pub point : IsPartitionPoint (λ row. IsTrue (nat_lt (from_of row) place)) (λ row. nat_lt (from_of row) place ≡ false) rows i
+  pub point : IsPartitionPoint (λ row. IsTrue (nat_lt (from_of row) place))
+      (λ row. nat_lt (from_of row) place ≡ false) rows i
   pub within : i ≤ length rows
 
 -- for each number of a location, how many rows lead from locations with smaller numbers
@@ -51,7 +53,8 @@ HaveStarts rows starts = (k : ℕ) → k < length starts → IsStart rows k (sli
 -- where the rows of a location begin and end, and 0 twice where there is no such location
 abbrev pub row_bounds : List ℕ → ℕ → ℕ × ℕ
 row_bounds starts a =
-    if nat_lt (a + 1) (length starts) then (slice_index starts a, slice_index starts (a + 1)) else (0, 0)
+    if nat_lt (a + 1) (length starts) then (slice_index starts a, slice_index starts (a + 1))
+    else (0, 0)
 
 -- rows by pair, with the places where those of each location begin
 pub record IsIndexed (rows : List TransferRow) (begins : List ℕ) : Type 0 where
@@ -61,7 +64,8 @@ pub record IsIndexed (rows : List TransferRow) (begins : List ℕ) : Type 0 wher
 
 -- the rows of each pair are the same, in the same order
 unfoldable pub HaveSamePairs : List TransferRow → List TransferRow → Type 0
-HaveSamePairs rows all = (a b : ℕ) → filter (is_to b) (filter (is_from a) all) ≡ filter (is_to b) (filter (is_from a) rows)
+HaveSamePairs rows all = (a b : ℕ) → filter (is_to b) (filter (is_from a) all)
+    ≡ filter (is_to b) (filter (is_from a) rows)
 
 -- the first location of a pair
 abbrev pub place_of : Link → ℕ

@@ -18,8 +18,9 @@ use mt_base::places::PlaceKind;
 use std::alloc::Global;
 use std::marker::Model;
 
-/// The change times between the stops of a feed (GTFS Schedule, transfers.txt). They are seen as tables that give the same
-/// change times as the feed's: the locations without their ids, rows of `transfers.txt`, and the default in seconds.
+/// The change times between the stops of a feed (GTFS Schedule, transfers.txt). They are seen as
+/// tables that give the same change times as the feed's: the locations without their ids, rows of
+/// `transfers.txt`, and the default in seconds.
 #[derive(Drop)]
 pub struct Changes {
     table: Table,
@@ -40,15 +41,16 @@ impl Model for Changes {
 }
 
 impl Changes {
-    /// The change times of a feed. `default` is the seconds of a change within a station, and of one whose row gives no
-    /// seconds. `TooMany` exactly where more than 4,000,000 pairs of a stop or station and a stop have a change from the
-    /// first to the second.
+    /// The change times of a feed. `default` is the seconds of a change within a station, and of
+    /// one whose row gives no seconds. `TooMany` exactly where more than 4,000,000 pairs of a stop
+    /// or station and a stop have a change from the first to the second.
     pub fn build(alloc: Global, t: &FeedTables, default: u32) -> Result<Changes, BuildFault>
         requires default_least { 1 ≤ default }
         requires default_most { default ≤ 3600 }
         ensures same { IfOk result (HaveSameChanges (tables_of t.now default)) }
         ensures few { IfOk result (λ _. pairs (tables_of t.now default) ≤ 4000000) }
-        ensures many { IfErr result (λ e. e ≡ BuildFault.TooMany → 4000000 < pairs (tables_of t.now default)) }
+        ensures many { IfErr result (λ e. e ≡ BuildFault.TooMany
+            → 4000000 < pairs (tables_of t.now default)) }
     {
         let table = Table::build(alloc, t, default)?;
         let nearby = Nearby::build(alloc, &table)?;
@@ -79,14 +81,16 @@ impl Changes {
         self.table.change(a, b)
     }
 
-    /// The stops and platforms to which one can change from `a`, by number, with the seconds of each change.
+    /// The stops and platforms to which one can change from `a`, by number, with the seconds of
+    /// each change.
     pub fn reach(&self, a: StopNo) -> &[Change]
         ensures { result.now ≡ reached self.now a }
     {
         self.onward.get(a.get() as usize)
     }
 
-    /// The stops and platforms from which one can change to `b`, by number, with the seconds of each change.
+    /// The stops and platforms from which one can change to `b`, by number, with the seconds of
+    /// each change.
     pub fn reach_back(&self, b: StopNo) -> &[Change]
         ensures { result.now ≡ reached_back self.now b }
     {

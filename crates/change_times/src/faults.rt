@@ -5,7 +5,8 @@ use mt_base::memory::OutOfMemory;
 /// Why change times are not built.
 #[derive(Clone, Copy, Debug, PartialEq, Eq)]
 pub enum BuildFault {
-    /// More than 4,000,000 pairs of a stop or station and a stop have a change from the first to the second.
+    /// More than 4,000,000 pairs of a stop or station and a stop have a change from the first to
+    /// the second.
     TooMany,
 
     /// There was no memory.

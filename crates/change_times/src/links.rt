@@ -60,7 +60,8 @@ fn bounds(links: &[Link], place: StopNo) -> (usize, usize)
     requires { IsNonDecreasingBy place_of links.now }
     ensures order { result.0 ≤ result.1 }
     ensures within { result.1 ≤ length links.now }
-    ensures links { take (result.1 - result.0) (drop result.0 links.now) ≡ filter (is_at place) links.now }
+    ensures links { take (result.1 - result.0) (drop result.0 links.now)
+        ≡ filter (is_at place) links.now }
 {
     let start = links.partition_point(|link| link.place.get() < place.get());
     let end = links.partition_point(|link| link.place.get() <= place.get());

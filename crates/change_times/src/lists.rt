@@ -68,7 +68,8 @@ impl Lists {
     }
 }
 
-/// Where the list numbered `i` begins and ends, by the ends of the lists. Both are 0 where there is no such list.
+/// Where the list numbered `i` begins and ends, by the ends of the lists. Both are 0 where there is
+/// no such list.
 fn bounds(ends: &[usize], i: usize) -> (usize, usize)
     ensures { result ≡ bounds_of ends.now i }
 {

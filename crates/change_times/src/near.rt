@@ -80,7 +80,8 @@ fn push_others(all: &mut Vec<StopNo>, links: &[Link]) -> Result<(), OutOfMemory>
 }
 
 fn push_linked(all: &mut Vec<StopNo>, members: &Links, links: &[Link]) -> Result<(), OutOfMemory>
-    ensures { OnOk result (all.new.items ≡ all.old.items ++ flat_map (with_members members.now) links.now) }
+    ensures { OnOk result (all.new.items ≡ all.old.items ++ flat_map
+        (with_members members.now) links.now) }
 {
     for link in links {
         all.push(link.other)?;
@@ -110,7 +111,8 @@ impl Nearby {
         }
     }
 
-    /// Fills `all` with the locations that are near a location, of which `at` is the station: by number, each once.
+    /// Fills `all` with the locations that are near a location, of which `at` is the station: by
+    /// number, each once.
     pub(crate) fn find(
         &self,
         all: &mut Vec<StopNo>,
@@ -119,7 +121,8 @@ impl Nearby {
         at: StopNo,
     ) -> Result<(), OutOfMemory>
         ensures order { OnOk result (IsStrictlyIncreasing all.new.items) }
-        ensures near { OnOk result (All (Contains all.new.items) (near self.now.members (links_in direction self.now) place at)) }
+        ensures near { OnOk result (All (Contains all.new.items)
+            (near self.now.members (links_in direction self.now) place at)) }
     {
         let links = self.links(direction);
         all.clear();

@@ -42,7 +42,8 @@ fn push_changes(
     place: StopNo,
     near: &[StopNo],
 ) -> Result<(), OutOfMemory>
-    ensures { OnOk result (list.new.items ≡ list.old.items ++ filter_map (change_at table.now direction place) near.now) }
+    ensures { OnOk result (list.new.items ≡ list.old.items ++ filter_map
+        (change_at table.now direction place) near.now) }
 {
     for other in near {
         if let Some(change) = change_at(table, direction, place, *other) {
@@ -52,7 +53,8 @@ fn push_changes(
     Ok(())
 }
 
-/// Fills `list` with the changes from or to a location, by the number of the other, and `near` with the locations near it.
+/// Fills `list` with the changes from or to a location, by the number of the other, and `near` with
+/// the locations near it.
 fn fill(
     list: &mut Vec<Change>,
     near: &mut Vec<StopNo>,
@@ -83,7 +85,8 @@ fn pairs_from(table: &Table, place: StopNo, list: &[Change]) -> usize
 /// The changes from each location.
 pub(crate) fn onward(alloc: Global, table: &Table, nearby: &Nearby) -> Result<Lists, BuildFault>
     requires { AreOf table.now nearby.now }
-    ensures lists { IfOk result (λ lists. (a : ℕ) → slice_index_or lists a [] ≡ listed table.now Direction.Onward a) }
+    ensures lists { IfOk result (λ lists. (a : ℕ) → slice_index_or lists a []
+        ≡ listed table.now Direction.Onward a) }
     ensures limit { IfOk result (λ _. pairs table.now ≤ 4000000) }
     ensures many { IfErr result (λ e. e ≡ BuildFault.TooMany → 4000000 < pairs table.now) }
 {
@@ -113,7 +116,8 @@ pub(crate) fn onward(alloc: Global, table: &Table, nearby: &Nearby) -> Result<Li
 /// The changes to each location.
 pub(crate) fn back(alloc: Global, table: &Table, nearby: &Nearby) -> Result<Lists, OutOfMemory>
     requires { AreOf table.now nearby.now }
-    ensures { IfOk result (λ lists. (b : ℕ) → slice_index_or lists b [] ≡ listed table.now Direction.Back b) }
+    ensures { IfOk result (λ lists. (b : ℕ) → slice_index_or lists b []
+        ≡ listed table.now Direction.Back b) }
 {
     let mut lists = Lists::new(alloc);
     let mut list = Vec::new(alloc);

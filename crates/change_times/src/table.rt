@@ -15,7 +15,8 @@ use mt_base::tables::TransferRow;
 use std::alloc::Global;
 use std::marker::Model;
 
-/// What change times follow from: the locations, the rows of `transfers.txt` that are looked at, and the default in seconds.
+/// What change times follow from: the locations, the rows of `transfers.txt` that are looked at,
+/// and the default in seconds.
 #[derive(Drop)]
 pub(crate) struct Table {
     places: Places,

@@ -11,12 +11,14 @@ use mt_base::tables::TransferRow;
 use std::alloc::Global;
 use std::marker::Model;
 
-/// Rows of `transfers.txt` by the location that they lead from, those from one location by the location that they lead to,
-/// and those of one pair in the order of the file. They are seen as their list.
+/// Rows of `transfers.txt` by the location that they lead from, those from one location by the
+/// location that they lead to, and those of one pair in the order of the file. They are seen as
+/// their list.
 #[derive(Drop)]
 pub(crate) struct Transfers {
     rows: Vec<TransferRow>,
-    /// For each location, how many rows lead from locations with smaller numbers; and last, how many rows there are.
+    /// For each location, how many rows lead from locations with smaller numbers; and last, how
+    /// many rows there are.
     starts: Vec<usize>,
 }
 

@@ -4,4 +4,10 @@ use Rattle.command_words.specs.Words.{Asked}
 
 -- the same, with the text of the folder's name
 abbrev pub asked_view : Held → Asked
-asked_view a = record { folder = a.folder.now; first = a.first; days = a.days; opts = a.opts; workers = a.workers }
+asked_view a = record {
+  folder = a.folder.now;
+  first = a.first;
+  days = a.days;
+  opts = a.opts;
+  workers = a.workers;
+}

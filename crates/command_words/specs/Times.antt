@@ -17,7 +17,8 @@ option_rule name default = record (new_rule name) { long = Some name; defaults =
 
 -- a command without flags for help and version
 abbrev pub bare_app : Text → App
-bare_app name = on_top (λ s. record s { disable_help_flag = true; disable_version_flag = true }) (new_app name)
+bare_app name = on_top (λ s. record s { disable_help_flag = true; disable_version_flag = true })
+    (new_app name)
 
 -- `times FEED --from DATE` with its options
 unfoldable pub times_app : App

@@ -7,7 +7,8 @@ use Rattle.gtfs_tables.specs.Fields.{date_of, number_of}
 use Rattle.mt_base.specs.declared.options.Opts.{Opts}
 use Rattle.command_words.specs.Times.{times_app}
 
--- the folder of the feed, the first service day as the number YYYYMMDD, how many service days there are, the options of the timetable, and how many workers answer queries
+-- the folder of the feed, the first service day as the number YYYYMMDD, how many service days there
+-- are, the options of the timetable, and how many workers answer queries
 pub record Asked : Type 0 where
   pub folder : Text
   pub first : ℕ
@@ -62,11 +63,14 @@ values_ask given =
     number_within (codes "workers") 1 16 given >>= λ workers.
     Some (record { folder = folder; first = first; days = days; opts = opts; workers = workers })
 
--- what these words ask for, of which the first is `times`: clap reads them without a fault, and each value is well spelt and in its range
+-- what these words ask for, of which the first is `times`: clap reads them without a fault, and
+-- each value is well spelt and in its range
 abbrev pub times_asked : List Text → Option Asked
-times_asked words = if is_empty (fault_of times_app words) then values_ask (matches_of times_app words) else None
+times_asked words = if is_empty (fault_of times_app words) then values_ask
+    (matches_of times_app words) else None
 
 -- what the words after the program's name ask for: the first is the command
 unfoldable pub asked_of : List Text → Option Asked
 asked_of [] = None
-asked_of (command ∷ rest) = if bytes_eq command (codes "times") then times_asked (command ∷ rest) else None
+asked_of (command ∷ rest) = if bytes_eq command (codes "times") then times_asked (command ∷ rest)
+    else None

@@ -17,7 +17,8 @@ pub(crate) fn value<'a>(given: &ArgMatches<'a>, name: &str) -> Option<&'a str>
     given.get_str(name)
 }
 
-/// The number that an option gives: one to nine digits that spell a number from the least to the most.
+/// The number that an option gives: one to nine digits that spell a number from the least to the
+/// most.
 pub(crate) fn number_within(
     given: &ArgMatches<'_>,
     name: &str,

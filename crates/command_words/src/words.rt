@@ -55,8 +55,10 @@ impl From<AllocError> for WordsFault {
 
 fn times_matches<'a>(alloc: Global, words: &'a [String]) -> Result<ArgMatches<'a>, WordsFault>
     ensures taken { IfOk result (λ _. fault_of times_app (map string_bytes words.now) ≡ []) }
-    ensures values { IfOk result (λ m. rows_of (found_of m) ≡ matches_of times_app (map string_bytes words.now)) }
-    ensures usage { IsErrOf result WordsFault.Usage → fault_of times_app (map string_bytes words.now) ≡ [] → ⊥ }
+    ensures values { IfOk result (λ m. rows_of (found_of m)
+        ≡ matches_of times_app (map string_bytes words.now)) }
+    ensures usage { IsErrOf result WordsFault.Usage
+        → fault_of times_app (map string_bytes words.now) ≡ [] → ⊥ }
 {
     let command = times_command(alloc)?;
     match command.try_get_matches_from(words) {

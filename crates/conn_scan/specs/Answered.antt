@@ -17,7 +17,8 @@ pub record Answered : Type 0 where
 abbrev pub seen : Inside → Answered
 seen s = record { stops = length s.known.accesses; rides = s.rides.items }
 
--- the earliest arrival with the rides of a journey that arrives then, or no ride, where there is no journey
+-- the earliest arrival with the rides of a journey that arrives then, or no ride, where there is no
+-- journey
 abbrev pub IsAnswer : Network → State → Query → List PlanRide → Found → Type 0
 IsAnswer nw st q rides (Arrives at) = IsEarliest nw st q rides at
 IsAnswer nw st q rides NoWay = (rides ≡ []) × HasNoJourney nw st q

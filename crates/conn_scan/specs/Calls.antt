@@ -23,7 +23,8 @@ arrival_at nw st train c =
 -- the arrival at the first of these calls, if it is live
 abbrev pub first_arrival : Network → State → ℕ → List Call → Option Arrival
 first_arrival nw st train [] = None
-first_arrival nw st train (c ∷ cs) = if c.arrival.live then Some (arrival_at nw st train c) else None
+first_arrival nw st train (c ∷ cs) = if c.arrival.live then Some (arrival_at nw st train c)
+    else None
 
 -- the calls of a train after the one with a label
 abbrev pub calls_after : State → ℕ → ℕ → List Call

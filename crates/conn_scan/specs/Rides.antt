@@ -37,23 +37,28 @@ ride_between nw st train route c d =
       alight_time = event_time nw st (arrival_of train route d).key;
     }
 
--- the rides from call c to those of the calls after it where one may alight, up to the first that the train does not reach
+-- the rides from call c to those of the calls after it where one may alight, up to the first that
+-- the train does not reach
 abbrev pub rides_along : Network → State → ℕ → ℕ → Call → List Call → List PlanRide
 rides_along nw st train route c [] = []
 rides_along nw st train route c (d ∷ ds) =
     if d.arrival.live then
-    (if d.alight then ride_between nw st train route c d ∷ [] else []) ++ (if d.departure.live then rides_along nw st train route c ds else [])
+    (if d.alight then ride_between nw st train route c d ∷ [] else [])
+    ++ (if d.departure.live then rides_along nw st train route c ds else [])
     else []
 
 -- the rides from the first of these calls that has the label
 abbrev pub rides_at : Network → State → ℕ → ℕ → ℕ → List Call → List PlanRide
 rides_at nw st train route label cs =
-    option_map_or (λ (c : Call). if c.departure.live && c.board then rides_along nw st train route c (after (is_call label) cs) else []) (find (is_call label) cs) []
+    option_map_or (λ (c : Call). if c.departure.live && c.board then rides_along nw st train route c
+    (after (is_call label) cs) else []) (find (is_call label) cs) []
 
 -- the rides that begin with the departure of this name
 unfoldable pub rides_from : Network → State → Node → List PlanRide
-rides_from nw st n = of_train st n.train (λ (t : Train). rides_at nw st n.train t.route n.label t.calls)
+rides_from nw st n = of_train st n.train (λ (t : Train).
+    rides_at nw st n.train t.route n.label t.calls)
 
 -- the ride begins with one of these departures, or is one of these
 abbrev pub IsSeen : List Key → List PlanRide → PlanRide → Type 0
-IsSeen departures rides r = ((k : Key) × Contains departures k × (node_of k ≡ departure_of_ride r)) ⊎ Contains rides r
+IsSeen departures rides r = ((k : Key) × Contains departures k × (node_of k ≡ departure_of_ride r))
+    ⊎ Contains rides r

@@ -1,4 +1,5 @@
--- The scan, on plain lists: what a passenger knows once a ride, the rides of a departure, and the departures from a time on are taken.
+-- The scan, on plain lists: what a passenger knows once a ride, the rides of a departure, and the
+-- departures from a time on are taken.
 use Rattle.std.specs.Prelude.{◌≡◌, ℕ, ◌<◌, length, List, [], ◌∷◌, ◌++◌, Bool, true, false, ◌&&◌, nat_le, if◌then◌else◌, Option, Some, None}
 use Rattle.std.specs.Option.{option_map_or}
 use Rattle.mt_base.specs.declared.keys.Key.{Key}
@@ -43,7 +44,13 @@ took_all nw q (r ∷ rs) k = took_all nw q rs (took nw q r k)
 -- the departure of a train at a call where passengers may board, if it is live
 abbrev pub boarding_at : Network → State → ℕ → ℕ → Option Boarding
 boarding_at nw st train label =
-    option_map_or (λ (c : Call). if c.departure.live && c.board then Some (record { train = train; label = label; stop = c.stop; time = event_time nw st (departure_of train 0 c).key }) else None) (call_named st train label) None
+    option_map_or (λ (c : Call). if c.departure.live && c.board then Some (record {
+      train = train;
+      label = label;
+      stop = c.stop;
+      time = event_time nw st (departure_of train 0 c).key;
+    })
+    else None) (call_named st train label) None
 
 -- the ride from a departure to an arrival of the same train
 abbrev pub ride_to : Boarding → Arrival → PlanRide
@@ -58,23 +65,29 @@ ride_to b a =
       alight_time = a.time;
     }
 
--- the rides from a departure to the calls after it where one may alight, up to the first that the train does not reach
+-- the rides from a departure to the calls after it where one may alight, up to the first that the
+-- train does not reach
 abbrev pub rides_on : Network → State → Boarding → List Call → List PlanRide
 rides_on nw st b [] = []
 rides_on nw st b (d ∷ ds) =
     if d.arrival.live then
-    (if d.alight then ride_to b (arrival_at nw st b.train d) ∷ [] else []) ++ (if d.departure.live then rides_on nw st b ds else [])
+    (if d.alight then ride_to b (arrival_at nw st b.train d) ∷ [] else [])
+    ++ (if d.departure.live then rides_on nw st b ds else [])
     else []
 
--- the rides to the calls after the one with the label `next` are left of those to the calls after the one with the label `label`
-pub record LeavesRides (nw : Network) (st : State) (q : Query) (b : Boarding) (label : ℕ) (old : Known) (next : ℕ) (new : Known) : Type 0 where
-  pub left : took_all nw q (rides_on nw st b (calls_after st b.train next)) new ≡ took_all nw q (rides_on nw st b (calls_after st b.train label)) old
+-- the rides to the calls after the one with the label `next` are left of those to the calls after
+-- the one with the label `label`
+pub record LeavesRides (nw : Network) (st : State) (q : Query) (b : Boarding) (label : ℕ)
+    (old : Known) (next : ℕ) (new : Known) : Type 0 where
+  pub left : took_all nw q (rides_on nw st b (calls_after st b.train next)) new
+      ≡ took_all nw q (rides_on nw st b (calls_after st b.train label)) old
   pub there : has_call st b.train next ≡ true
   pub fewer : length (calls_after st b.train next) < length (calls_after st b.train label)
 
 -- whether a passenger can be at a stop by a time
 abbrev pub is_in_time : Network → Query → List (Option Access) → ℕ → ℕ → Bool
-is_in_time nw q accesses stop time = option_map_or (λ (a : Access). nat_le a.time time) (access_of nw q accesses stop) false
+is_in_time nw q accesses stop time = option_map_or (λ (a : Access). nat_le a.time time)
+    (access_of nw q accesses stop) false
 
 -- the stop of an event
 abbrev pub stop_of : State → Key → ℕ
@@ -83,7 +96,8 @@ stop_of st k = option_map_or (λ (c : Call). c.stop) (call_named st k.train k.la
 -- once a departure is scanned: its rides are taken if a passenger can be at its stop in time
 abbrev pub departed : Network → State → Query → Departure → Known → Known
 departed nw st q d k =
-    if is_in_time nw q k.accesses (stop_of st d.key) d.time then took_all nw q (rides_from nw st (node_of d.key)) k else k
+    if is_in_time nw q k.accesses (stop_of st d.key) d.time then took_all nw q
+    (rides_from nw st (node_of d.key)) k else k
 
 -- whether the best ride arrives by a time
 abbrev pub is_there_by : Option PlanRide → ℕ → Bool
@@ -92,8 +106,10 @@ is_there_by best time = option_map_or (λ (r : PlanRide). nat_le r.alight_time t
 -- once these departures are scanned, up to the first that is not before the best arrival
 abbrev pub scanned : Network → State → Query → List Departure → Known → Known
 scanned nw st q [] k = k
-scanned nw st q (d ∷ ds) k = if is_there_by k.best d.time then k else scanned nw st q ds (departed nw st q d k)
+scanned nw st q (d ∷ ds) k = if is_there_by k.best d.time then k else scanned nw st q ds
+    (departed nw st q d k)
 
 -- it is a live departure, of a call that is there
 abbrev pub IsAtCall : State → Departure → Type 0
-IsAtCall st d = (has_call st d.key.train d.key.label ≡ true) × (d.key.dep ≡ true) × (is_live st (node_of d.key) ≡ true)
+IsAtCall st d = (has_call st d.key.train d.key.label ≡ true) × (d.key.dep ≡ true)
+    × (is_live st (node_of d.key) ≡ true)

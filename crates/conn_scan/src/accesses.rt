@@ -22,7 +22,8 @@ pub struct Access {
 
 /// Whether a stop is reached later than at this time, as far as that was found.
 fn is_later(accesses: &QueryTable<Access>, stop: StopNo, time: u64) -> bool
-    ensures { result ≡ option_map_or (λ known. nat_lt time known.time) (access_in accesses.now stop) true }
+    ensures { result ≡ option_map_or (λ known. nat_lt time known.time)
+        (access_in accesses.now stop) true }
 {
     match accesses.get(stop.get()) {
         Some(known) => time < known.time,

@@ -15,7 +15,8 @@ use mt_base::numbers::{StopNo, Time};
 use mt_base::plans::{PlanRide, Query};
 use timetable::Timetable;
 
-/// How a passenger gets to the stops, and the ride that ends first in the station of the destination.
+/// How a passenger gets to the stops, and the ride that ends first in the station of the
+/// destination.
 #[derive(Drop)]
 pub(crate) struct Known {
     pub(crate) accesses: QueryTable<Access>,
@@ -83,7 +84,8 @@ pub(crate) fn is_there_by(best: &Option<PlanRide>, time: Time) -> bool
 
 /// Whether a ride arrives before the best one.
 fn is_before(ride: &PlanRide, best: &Option<PlanRide>) -> bool
-    ensures { result ≡ option_map_or (λ known. nat_lt ride.now.alight_time known.alight_time) best.now true }
+    ensures { result ≡ option_map_or (λ known. nat_lt ride.now.alight_time known.alight_time)
+        best.now true }
 {
     match best {
         Some(known) => ride.alight_time.seconds() < known.alight_time.seconds(),
@@ -93,7 +95,8 @@ fn is_before(ride: &PlanRide, best: &Option<PlanRide>) -> bool
 
 /// Whether a ride ends in the station of the destination, and arrives there before the best one.
 fn is_better(t: &Timetable, q: &Query, ride: &PlanRide, best: &Option<PlanRide>) -> bool
-    ensures { result ≡ (ends_there t.now.network q.now ride.now && option_map_or (λ known. nat_lt ride.now.alight_time known.alight_time) best.now true) }
+    ensures { result ≡ (ends_there t.now.network q.now ride.now && option_map_or
+        (λ known. nat_lt ride.now.alight_time known.alight_time) best.now true) }
 {
     is_one_station(t, ride.alight_stop, q.to_stop) && is_before(ride, best)
 }

@@ -20,14 +20,18 @@ pub fn rides_run_forward(nw: &Network, st: &State)
     ensures { (r : APlanRide) → IsRide nw.now st.now r → r.board_time ≤ r.alight_time }
 {}
 
-/// The rides that are listed for a departure are the rides that begin with it: all of them and no others.
+/// The rides that are listed for a departure are the rides that begin with it: all of them and no
+/// others.
 pub fn rides_are_listed_by_departure(nw: &Network, st: &State)
     requires { IsValid nw.now st.now }
-    ensures begin { (n : ANode) → n.dep ≡ true → All (BeginsWith nw.now st.now n) (rides_from nw.now st.now n) }
-    ensures all { (r : APlanRide) → IsRide nw.now st.now r → Contains (rides_from nw.now st.now (departure_of_ride r)) r }
+    ensures begin { (n : ANode) → n.dep ≡ true → All (BeginsWith nw.now st.now n)
+        (rides_from nw.now st.now n) }
+    ensures all { (r : APlanRide) → IsRide nw.now st.now r
+        → Contains (rides_from nw.now st.now (departure_of_ride r)) r }
 {}
 
-/// The way back from a ride along the rides behind which its stops were reached leads to ever earlier departures, so it has an end.
+/// The way back from a ride along the rides behind which its stops were reached leads to ever
+/// earlier departures, so it has an end.
 pub fn the_way_back_ends(nw: &Network, st: &State)
     requires { IsValid nw.now st.now }
     ensures { (q : AQuery) (access : ℕ → Option Access) → AreExplained nw.now st.now q access →
@@ -35,15 +39,18 @@ pub fn the_way_back_ends(nw: &Network, st: &State)
         IsRide nw.now st.now before × CanBoard access before × (before.board_time < r.board_time) }
 {}
 
-/// What is known at the end of a scan is the answer to the query. If origin and destination are of one station, that is no ride
-/// at all. Else it is the best ride that was found, with the rides on the way back from it; and where none was found there is no
-/// journey.
+/// What is known at the end of a scan is the answer to the query. If origin and destination are of
+/// one station, that is no ride at all. Else it is the best ride that was found, with the rides on
+/// the way back from it; and where none was found there is no journey.
 pub fn a_scan_finds_the_earliest(nw: &Network, st: &State)
     requires valid { IsValid nw.now st.now }
     requires at_stops { AreAtStops nw.now st.now }
-    ensures at_once { (q : AQuery) → is_one_station nw.now q.from_stop q.to_stop ≡ true → IsEarliest nw.now st.now q [] q.time }
-    ensures found { (q : AQuery) (access : ℕ → Option Access) (r : APlanRide) (rides : List APlanRide) →
-        is_one_station nw.now q.from_stop q.to_stop ≡ false → IsAtEnd nw.now st.now q access (Some r) → IsWayBack access r rides →
+    ensures at_once { (q : AQuery) → is_one_station nw.now q.from_stop q.to_stop ≡ true
+        → IsEarliest nw.now st.now q [] q.time }
+    ensures found { (q : AQuery) (access : ℕ → Option Access) (r : APlanRide)
+        (rides : List APlanRide) →
+        is_one_station nw.now q.from_stop q.to_stop ≡ false
+        → IsAtEnd nw.now st.now q access (Some r) → IsWayBack access r rides →
         IsEarliest nw.now st.now q (reverse (r ∷ rides)) r.alight_time }
     ensures none { (q : AQuery) (access : ℕ → Option Access) →
         is_one_station nw.now q.from_stop q.to_stop ≡ false → IsAtEnd nw.now st.now q access None →
@@ -54,5 +61,6 @@ pub fn a_scan_finds_the_earliest(nw: &Network, st: &State)
 pub fn every_query_has_an_answer(nw: &Network, st: &State)
     requires valid { IsValid nw.now st.now }
     requires at_stops { AreAtStops nw.now st.now }
-    ensures { (q : AQuery) → ((rides : List APlanRide) × (arrives : ℕ) × IsEarliest nw.now st.now q rides arrives) ⊎ HasNoJourney nw.now st.now q }
+    ensures { (q : AQuery) → ((rides : List APlanRide) × (arrives : ℕ)
+        × IsEarliest nw.now st.now q rides arrives) ⊎ HasNoJourney nw.now st.now q }
 {}

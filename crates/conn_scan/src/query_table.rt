@@ -13,8 +13,8 @@ struct Stamped<T> {
     found: T,
 }
 
-/// For each number what a query found, if it found something. What an earlier query found stays in its place until it is written
-/// over, and no longer counts.
+/// For each number what a query found, if it found something. What an earlier query found stays in
+/// its place until it is written over, and no longer counts.
 #[derive(Drop)]
 pub(crate) struct QueryTable<T> {
     rows: Vec<Stamped<T>>,
@@ -82,7 +82,8 @@ impl<T: Copy> QueryTable<T> {
         }
     }
 
-    /// Notes what was found for a number. Past the numbers for which there is room nothing is noted.
+    /// Notes what was found for a number. Past the numbers for which there is room nothing is
+    /// noted.
     #[tactic(auto, using(crate::proofs::StampedLemmas::written_seen, crate::proofs::StampedLemmas::unwritten_seen))]
     pub(crate) fn set(&mut self, number: u32, found: T)
         ensures { self.new ≡ set self.old number (Some found) }

@@ -15,7 +15,8 @@ use std::sync::ledger::Ledger;
 use timetable::{Departure, Timetable};
 use train_nodes::Steps;
 
-/// Takes the rides that begin with a departure, if a passenger can be at its stop in time. Gives whether they were taken.
+/// Takes the rides that begin with a departure, if a passenger can be at its stop in time. Gives
+/// whether they were taken.
 fn board<L: Ledger>(
     t: &Timetable,
     q: &Query,
@@ -27,7 +28,8 @@ fn board<L: Ledger>(
     requires there { IsAtCall t.now.state d.now }
     requires room { length t.now.network.stops ≤ length known.old.accesses }
     ensures departed { known.new ≡ departed t.now.network t.now.state q.now d.now known.old }
-    ensures passed { IsTrue result → IsPassed t.now.network t.now.state q.now known.new d.now.key.train d.now.key.label }
+    ensures passed { IsTrue result → IsPassed t.now.network t.now.state q.now known.new
+        d.now.key.train d.now.key.label }
 {
     let stop = t.graph().trains().stop(d.key.train, d.key.label);
     if is_in_time(t, q, &known.accesses, stop, d.time) {
@@ -57,8 +59,8 @@ fn pass_on(t: &Timetable, d: &Departure, passed: &mut QueryTable<Label>)
     }
 }
 
-/// Takes the rides that begin with a departure, if a passenger can be at its stop in time. Where they were taken on the way from an
-/// earlier call of the train it is passed over.
+/// Takes the rides that begin with a departure, if a passenger can be at its stop in time. Where
+/// they were taken on the way from an earlier call of the train it is passed over.
 fn depart<L: Ledger>(
     t: &Timetable,
     q: &Query,
@@ -79,7 +81,8 @@ fn depart<L: Ledger>(
     }
 }
 
-/// Scans the departures from the query's time on, up to the first that is not before the best arrival.
+/// Scans the departures from the query's time on, up to the first that is not before the best
+/// arrival.
 pub(crate) fn scan<L: Ledger>(
     t: &Timetable,
     q: &Query,
@@ -88,10 +91,12 @@ pub(crate) fn scan<L: Ledger>(
     steps: &mut Steps<L>,
 )
     requires valid { IsValid t.now.network t.now.state }
-    requires there { All (IsAtCall t.now.state) (departures_from t.now.network t.now.state q.now.time) }
+    requires there { All (IsAtCall t.now.state)
+        (departures_from t.now.network t.now.state q.now.time) }
     requires room { length t.now.network.stops ≤ length known.old.accesses }
     requires passed { ArePassed t.now.network t.now.state q.now known.old passed.old }
-    ensures scanned { known.new ≡ scanned t.now.network t.now.state q.now (departures_from t.now.network t.now.state q.now.time) known.old }
+    ensures scanned { known.new ≡ scanned t.now.network t.now.state q.now
+        (departures_from t.now.network t.now.state q.now.time) known.old }
     ensures room { length known.new.accesses ≡ length known.old.accesses }
 {
     for d in t.departures(q.time) {

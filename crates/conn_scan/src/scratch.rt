@@ -16,8 +16,8 @@ use std::sync::ledger::Ledger;
 use timetable::Timetable;
 use train_nodes::Steps;
 
-/// What a scan keeps for each stop and each train, for one query after the other: made once, it takes no memory at a query but for
-/// the rides that it shows.
+/// What a scan keeps for each stop and each train, for one query after the other: made once, it
+/// takes no memory at a query but for the rides that it shows.
 #[derive(Drop)]
 pub struct Scratch {
     known: Known,
@@ -49,8 +49,9 @@ pub enum Found {
 }
 
 impl Scratch {
-    /// Room for queries over so many stops. No ride is shown. For so many trains, by number, it is noted from which call on their rides
-    /// were taken, so that these are not taken again; a train past that number is only slower.
+    /// Room for queries over so many stops. No ride is shown. For so many trains, by number, it is
+    /// noted from which call on their rides were taken, so that these are not taken again; a train
+    /// past that number is only slower.
     pub fn build(alloc: Global, stops: u32, trains: u32) -> Result<Scratch, OutOfMemory>
         ensures { IfOk result (λ scratch. scratch ≡ record { stops = stops; rides = [] }) }
     {
@@ -73,8 +74,9 @@ impl Scratch {
     }
 }
 
-/// The earliest arrival of a query. The rides of a journey that arrives then are shown in the scratch. `OutOfMemory` where there is
-/// no memory for the rides that are shown; what the scratch shows is then open.
+/// The earliest arrival of a query. The rides of a journey that arrives then are shown in the
+/// scratch. `OutOfMemory` where there is no memory for the rides that are shown; what the scratch
+/// shows is then open.
 pub fn earliest<L: Ledger>(
     t: &Timetable,
     q: &Query,

@@ -27,7 +27,8 @@ pub(crate) fn search<L: Ledger>(
 )
     requires valid { IsValid t.now.network t.now.state }
     requires room { length t.now.network.stops ≤ length known.old.accesses }
-    ensures ended { IsAtEnd t.now.network t.now.state q.now (access_of t.now.network q.now known.new.accesses) known.new.best }
+    ensures ended { IsAtEnd t.now.network t.now.state q.now
+        (access_of t.now.network q.now known.new.accesses) known.new.best }
     ensures room { length known.new.accesses ≡ length known.old.accesses }
 {
     let straight: Option<PlanRide> = None;
@@ -64,9 +65,11 @@ pub(crate) fn trace(
     rides: &mut Vec<PlanRide>,
 ) -> Result<(), OutOfMemory>
     requires valid { IsValid t.now.network t.now.state }
-    requires explained { AreExplained t.now.network t.now.state q.now (access_of t.now.network q.now accesses.now) }
+    requires explained { AreExplained t.now.network t.now.state q.now
+        (access_of t.now.network q.now accesses.now) }
     requires boards { CanBoard (access_of t.now.network q.now accesses.now) last.now }
-    ensures { OnOk result (LeadsTo (access_of t.now.network q.now accesses.now) last.now rides.new.items) }
+    ensures { OnOk result (LeadsTo (access_of t.now.network q.now accesses.now) last.now
+        rides.new.items) }
 {
     rides.clear();
     rides.push(*last)?;

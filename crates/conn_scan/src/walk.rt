@@ -31,7 +31,8 @@ pub(crate) struct Arrival {
     pub(crate) goes_on: bool,
 }
 
-/// The arrival at the call after the one with a label. None where the train has no such call, or does not arrive there.
+/// The arrival at the call after the one with a label. None where the train has no such call, or
+/// does not arrive there.
 fn next_arrival<L: Ledger>(
     t: &Timetable,
     train: TrainNo,
@@ -40,7 +41,8 @@ fn next_arrival<L: Ledger>(
 ) -> Option<Arrival>
     requires valid { IsValid t.now.network t.now.state }
     requires there { IsTrue (has_call t.now.state train label) }
-    ensures { result ≡ first_arrival t.now.network t.now.state train (calls_after t.now.state train label) }
+    ensures { result ≡ first_arrival t.now.network t.now.state train
+        (calls_after t.now.state train label) }
 {
     let trains = t.graph().trains();
     let label = trains.next_call(train, label)?;
@@ -69,7 +71,8 @@ pub(crate) struct Boarding {
     pub(crate) time: Time,
 }
 
-/// The departure of a train at a call. None where it does not depart there, or where passengers may not board.
+/// The departure of a train at a call. None where it does not depart there, or where passengers may
+/// not board.
 fn board_at<L: Ledger>(
     t: &Timetable,
     train: TrainNo,
@@ -109,8 +112,8 @@ fn ride_to(boarding: &Boarding, arrival: &Arrival) -> PlanRide
     }
 }
 
-/// Takes the ride from a departure to the call after the one with this label, if there is one. Gives the label of that call if the
-/// train goes on from there.
+/// Takes the ride from a departure to the call after the one with this label, if there is one.
+/// Gives the label of that call if the train goes on from there.
 fn take_next<L: Ledger>(
     t: &Timetable,
     q: &Query,
@@ -121,8 +124,11 @@ fn take_next<L: Ledger>(
 ) -> Option<Label>
     requires valid { IsValid t.now.network t.now.state }
     requires there { IsTrue (has_call t.now.state boarding.now.train label) }
-    ensures last { IfNone result (known.new ≡ took_all t.now.network q.now (rides_on t.now.network t.now.state boarding.now (calls_after t.now.state boarding.now.train label)) known.old) }
-    ensures next { IfSome result (λ next. LeavesRides t.now.network t.now.state q.now boarding.now label known.old next known.new) }
+    ensures last { IfNone result (known.new ≡ took_all t.now.network q.now
+        (rides_on t.now.network t.now.state boarding.now
+        (calls_after t.now.state boarding.now.train label)) known.old) }
+    ensures next { IfSome result (λ next. LeavesRides t.now.network t.now.state q.now boarding.now
+        label known.old next known.new) }
 {
     let arrival = next_arrival(t, boarding.train, label, steps)?;
     if arrival.alights {
@@ -145,7 +151,9 @@ fn take_on<L: Ledger>(
 )
     requires valid { IsValid t.now.network t.now.state }
     requires there { IsTrue (has_call t.now.state boarding.now.train boarding.now.label) }
-    ensures { known.new ≡ took_all t.now.network q.now (rides_on t.now.network t.now.state boarding.now (calls_after t.now.state boarding.now.train boarding.now.label)) known.old }
+    ensures { known.new ≡ took_all t.now.network q.now
+        (rides_on t.now.network t.now.state boarding.now
+        (calls_after t.now.state boarding.now.train boarding.now.label)) known.old }
 {
     let mut label = boarding.label;
     while let Some(next) = take_next(t, q, boarding, label, known, steps) {
@@ -165,8 +173,11 @@ pub(crate) fn take_rides<L: Ledger>(
     requires valid { IsValid t.now.network t.now.state }
     requires there { IsTrue (has_call t.now.state train label) }
     requires room { length t.now.network.stops ≤ length known.old.accesses }
-    ensures taken { known.new ≡ took_all t.now.network q.now (rides_from t.now.network t.now.state (record { train = train; label = label; dep = true })) known.old }
-    ensures passed { IsTrue result → IsPassed t.now.network t.now.state q.now known.new train label }
+    ensures taken { known.new ≡ took_all t.now.network q.now
+        (rides_from t.now.network t.now.state (record { train = train; label = label; dep = true }))
+        known.old }
+    ensures passed { IsTrue result → IsPassed t.now.network t.now.state q.now known.new train
+        label }
 {
     let Some(boarding) = board_at(t, train, label, steps) else {
         return false;

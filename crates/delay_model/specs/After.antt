@@ -19,8 +19,9 @@ abbrev pub AreAccepted : Network → State → List Message → Type 0
 AreAccepted nw st [] = Unit {0}
 AreAccepted nw st (m ∷ ms) = (refusal nw st m ≡ None) × AreAccepted nw (effect st m) ms
 
--- how a line of type X is read by the names that are known by then, of type N: as a message that speaks by number, or as the
--- refusal that the names decide; and which names are known once it is accepted
+-- how a line of type X is read by the names that are known by then, of type N: as a message that
+-- speaks by number, or as the refusal that the names decide; and which names are known once it is
+-- accepted
 pub record Reading (X N : Type 0) : Type 0 where
   pub message : N → X → Result Message Refusal
   pub known : N → X → N
@@ -35,8 +36,8 @@ abbrev pub accepted_message : Network → State → Result Message Refusal → O
 accepted_message nw st (Ok m) = if is_none (refusal nw st m) then Some m else None
 accepted_message nw st (Err r) = None
 
--- the accepted messages of these lines, each read and tested in what the accepted messages before it left.
--- A line that is refused changes nothing
+-- the accepted messages of these lines, each read and tested in what the accepted messages before
+-- it left. A line that is refused changes nothing
 abbrev pub accepted : {X N : Type 0} → Network → Reading X N → State → N → List X → List Message
 accepted nw reading st names [] = []
 accepted nw reading st names (x ∷ xs) =
@@ -58,9 +59,14 @@ pub record Progress (N : Type 0) : Type 0 where
 
 abbrev pub after_accepted : {N : Type 0} → Progress N → N → Option Message → Progress N
 after_accepted p names None = p
-after_accepted p names (Some m) = record { state = effect p.state m; names = names; count = p.count + 1 }
+after_accepted p names (Some m) = record {
+  state = effect p.state m;
+  names = names;
+  count = p.count + 1;
+}
 
 -- what one more line leaves
 abbrev pub after_line : {X N : Type 0} → Network → Reading X N → Progress N → X → Progress N
 after_line nw reading p x =
-    after_accepted p (reading.known p.names x) (accepted_message nw p.state (reading.message p.names x))
+    after_accepted p (reading.known p.names x)
+    (accepted_message nw p.state (reading.message p.names x))

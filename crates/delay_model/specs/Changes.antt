@@ -21,14 +21,16 @@ is_stop_or_station stops a = option_map_or is_platform_or_station (kind_of stops
 abbrev pub station_by : ℕ → StopRow → ℕ
 station_by a row = if is_platform row.kind then unwrap_or row.parent a else a
 
--- the station of a place: of a platform its parent_station, of any other location itself (GTFS Schedule, stops.txt)
+-- the station of a place: of a platform its parent_station, of any other location itself (GTFS
+-- Schedule, stops.txt)
 abbrev pub station : List StopRow → ℕ → ℕ
 station stops a = option_map_or (station_by a) (slice_get stops a) a
 
 -- the row is one of those that are looked at: of transfer types 0 to 3, between stops and stations
 abbrev pub is_looked_at : List StopRow → TransferRow → Bool
 is_looked_at stops row =
-    nat_le row.kind 3 && (is_stop_or_station stops row.from_stop && is_stop_or_station stops row.to_stop)
+    nat_le row.kind 3 && (is_stop_or_station stops row.from_stop
+    && is_stop_or_station stops row.to_stop)
 
 -- the row is for this pair of places, and is looked at
 abbrev pub is_row_of : List StopRow → ℕ → ℕ → TransferRow → Bool
@@ -46,7 +48,8 @@ deciding_row stops rows a b =
     (option_or (first_row stops rows (station stops a) b)
     (first_row stops rows (station stops a) (station stops b))))
 
--- what a row says (GTFS Schedule, transfers.txt): type 3 no change, type 2 its seconds, at least 1, else the default
+-- what a row says (GTFS Schedule, transfers.txt): type 3 no change, type 2 its seconds, at least 1,
+-- else the default
 abbrev pub change_by : ℕ → TransferRow → Option ℕ
 change_by default row =
     if nat_eq row.kind 3 then None
@@ -55,9 +58,11 @@ change_by default row =
 
 -- what no row decides: the default within a station, and else no change
 abbrev pub change_without_row : List StopRow → ℕ → ℕ → ℕ → Option ℕ
-change_without_row stops default a b = if nat_eq (station stops a) (station stops b) then Some default else None
+change_without_row stops default a b = if nat_eq (station stops a) (station stops b)
+    then Some default else None
 
 -- the seconds that a change from a to b takes, or None where it is not possible
 unfoldable pub change : List StopRow → List TransferRow → ℕ → ℕ → ℕ → Option ℕ
 change stops rows default a b =
-    option_map_or (change_by default) (deciding_row stops rows a b) (change_without_row stops default a b)
+    option_map_or (change_by default) (deciding_row stops rows a b)
+    (change_without_row stops default a b)

@@ -1,5 +1,5 @@
--- The edges of the dependency graph (Mueller-Hannemann and Schnee, 2009): travelling and standing along each train,
--- and transfers between trains.
+-- The edges of the dependency graph (Mueller-Hannemann and Schnee, 2009): travelling and standing
+-- along each train, and transfers between trains.
 use Rattle.std.specs.Prelude.{◌≡◌, ◌≢◌, ℕ, ◌+◌, ◌-◌, ◌*◌, ◌/◌, min, List, [], ◌∷◌, ◌++◌, Bool, ◌&&◌, not, nat_eq, nat_le, nat_lt, if◌then◌else◌, Option, Some, None, flat_map}
 use Rattle.std.specs.FinMap.{get}
 use Rattle.mt_base.specs.declared.options.Opts.{Opts}
@@ -18,7 +18,8 @@ use Rattle.delay_model.specs.Changes.{change}
 use Rattle.delay_model.specs.Waits.{wait}
 use Rattle.delay_model.specs.Events.{events_of, events}
 
--- the least time in seconds from a departure to the next arrival: the scheduled time d less the slack
+-- the least time in seconds from a departure to the next arrival: the scheduled time d less the
+-- slack
 abbrev pub minimum_running : Opts → ℕ → ℕ
 minimum_running o d = d - d * o.slack / 100
 
@@ -26,14 +27,20 @@ minimum_running o d = d - d * o.slack / 100
 abbrev pub minimum_dwell : Opts → ℕ → ℕ
 minimum_dwell o d = min d o.stop
 
--- the least time from an event of a train to the next one. Where the schedule falls, the difference is 0
+-- the least time from an event of a train to the next one. Where the schedule falls, the difference
+-- is 0
 abbrev pub minimum_between : Opts → Event → Event → ℕ
 minimum_between o u v =
     let d = v.key.time - u.key.time in
     if u.key.dep then minimum_running o d else minimum_dwell o d
 
 abbrev pub train_edge : Opts → Event → Event → Edge
-train_edge o u v = record { from = u.key; to = v.key; weight = minimum_between o u v; kind = AlongTrain }
+train_edge o u v = record {
+  from = u.key;
+  to = v.key;
+  weight = minimum_between o u v;
+  kind = AlongTrain;
+}
 
 -- the edge from an event to the first of those after it, where both are live
 abbrev pub edge_on : Opts → Event → List Event → List Edge
@@ -52,7 +59,8 @@ train_edges o first (t ∷ ts) = edges_along o (events_of first t) ++ train_edge
 
 -- from a live arrival to a live departure of another train
 abbrev pub may_connect : Event → Event → Bool
-may_connect u v = (u.live && v.live) && ((not u.key.dep && v.key.dep) && not (nat_eq u.key.train v.key.train))
+may_connect u v = (u.live && v.live) && ((not u.key.dep && v.key.dep)
+    && not (nat_eq u.key.train v.key.train))
 
 -- the seconds of the change from u's stop to v's, if it is possible
 abbrev pub change_between : Network → Event → Event → Option ℕ
@@ -62,12 +70,15 @@ change_between nw u v = change nw.stops nw.transfers nw.opts.change u.stop v.sto
 abbrev pub wait_between : Network → Event → Event → ℕ
 wait_between nw u v = wait nw.stops nw.rules u.route v.route v.stop
 
--- v is planned to be reached from u, by a change of w seconds: its train waits at all, for at most `wait` seconds, and it is
--- scheduled not before the change is done and at most `window` seconds after; both ends count
+-- v is planned to be reached from u, by a change of w seconds: its train waits at all, for at most
+-- `wait` seconds, and it is scheduled not before the change is done and at most `window` seconds
+-- after; both ends count
 abbrev pub is_planned : Opts → ℕ → ℕ → Event → Event → Bool
-is_planned o w wait u v = nat_lt 0 wait && (nat_le (u.key.time + w) v.key.time && nat_le v.key.time (u.key.time + w + o.window))
+is_planned o w wait u v = nat_lt 0 wait && (nat_le (u.key.time + w) v.key.time
+    && nat_le v.key.time (u.key.time + w + o.window))
 
--- the kind of the edge between two trains, if there is one, by what a dispatcher chose for it: a kept connection needs no rule
+-- the kind of the edge between two trains, if there is one, by what a dispatcher chose for it: a
+-- kept connection needs no rule
 abbrev pub transfer_kind : Option Override → Bool → ℕ → Option EdgeKind
 transfer_kind (Some Keep) planned wait = Some Kept
 transfer_kind (Some Drop) planned wait = None
@@ -85,13 +96,15 @@ edge_by_change nw choice u v (Some w) =
 
 -- the edge between two trains from u to v, if there is one
 unfoldable pub transfer : Network → Option Override → Event → Event → List Edge
-transfer nw choice u v = if may_connect u v then edge_by_change nw choice u v (change_between nw u v) else []
+transfer nw choice u v = if may_connect u v then edge_by_change nw choice u v
+    (change_between nw u v) else []
 
 -- what a dispatcher chose for the connection from u to v
 abbrev pub override_of : State → Event → Event → Option Override
 override_of st u v = get st.overrides (connection (node_of u.key) (node_of v.key))
 
-abbrev pub transfers_from : Network → (Event → Event → Option Override) → List Event → Event → List Edge
+abbrev pub transfers_from : Network → (Event → Event → Option Override) → List Event → Event
+    → List Edge
 transfers_from nw choices vs u = flat_map (λ v. transfer nw (choices u v) u v) vs
 
 -- the edges between trains: of all pairs of events

@@ -46,7 +46,10 @@ change_labelled label f c = if is_call label c then f c else c
 -- the values of one event are changed
 abbrev pub with_event : Node → (EventValues → EventValues) → State → State
 with_event n f st =
-    record st { trains = change_train n.train (change_calls (map (change_labelled n.label (change_event n.dep f)))) st.trains }
+    record st {
+      trains = change_train n.train
+          (change_calls (map (change_labelled n.label (change_event n.dep f)))) st.trains;
+    }
 
 abbrev pub reported : ℕ → EventValues → EventValues
 reported t e = record e { report = Some t }
@@ -57,7 +60,8 @@ forecasted t e = record e { forecast = Some t }
 -- the events of a train from the departure of one call to the arrival of a later one
 abbrev pub stretch : State → ℕ → ℕ → ℕ → List Event
 stretch st train from to =
-    up_to (is_event (node_at train to false)) (Cuts.from (is_event (node_at train from true)) (train_events st train))
+    up_to (is_event (node_at train to false)) (Cuts.from (is_event (node_at train from true))
+    (train_events st train))
 
 -- the event of this name is among these
 abbrev pub is_among : List Event → Node → Bool
@@ -81,7 +85,11 @@ names_one_of es p = is_among es p.arrival || is_among es p.departure
 abbrev pub without_overrides_of : List Event → State → State
 without_overrides_of es st =
     let left = retain_keys st.overrides (λ p. not (names_one_of es p)) in
-    record st { overrides = left; spare_overrides = st.spare_overrides + (len st.overrides - len left) }
+    record st {
+      overrides = left;
+      spare_overrides = st.spare_overrides
+          + (len st.overrides - len left);
+    }
 
 -- the calls strictly between two calls
 abbrev pub calls_between : ℕ → ℕ → List Call → List Call
@@ -94,7 +102,14 @@ new_event scheduled = record { scheduled = scheduled; live = true; forecast = No
 -- passengers may board and alight at a new call
 abbrev pub new_call : ℕ → NewCall → Call
 new_call label c =
-    record { label = label; stop = c.stop; arrival = new_event c.arr; departure = new_event c.dep; board = true; alight = true }
+    record {
+      label = label;
+      stop = c.stop;
+      arrival = new_event c.arr;
+      departure = new_event c.dep;
+      board = true;
+      alight = true;
+    }
 
 -- new calls, labelled from `label` on in their order
 abbrev pub new_calls : ℕ → List NewCall → List Call
@@ -106,7 +121,8 @@ abbrev pub rerouted : ℕ → ℕ → List NewCall → Train → Train
 rerouted from to via t =
     record t {
       next_label = t.next_label + length via;
-      calls = up_to (is_call from) t.calls ++ new_calls t.next_label via ++ Cuts.from (is_call to) t.calls;
+      calls = up_to (is_call from) t.calls ++ new_calls t.next_label via
+          ++ Cuts.from (is_call to) t.calls;
     }
 
 -- nobody arrives by a train at its first call
@@ -123,12 +139,18 @@ end_run (c ∷ d ∷ ds) = c ∷ end_run (d ∷ ds)
 -- a new train, whose calls are labelled 0, 1, ..
 abbrev pub new_train : ℕ → ℕ → List NewCall → Train
 new_train day route calls =
-    record { day = day; route = route; next_label = length calls; calls = begin_run (end_run (new_calls 0 calls)) }
+    record {
+      day = day;
+      route = route;
+      next_label = length calls;
+      calls = begin_run (end_run (new_calls 0 calls));
+    }
 
 abbrev pub has_override : State → Connection → Bool
 has_override st p = is_some (get st.overrides p)
 
--- an override for a connection, in place of the one before. A connection without override takes a spare one
+-- an override for a connection, in place of the one before. A connection without override takes a
+-- spare one
 abbrev pub with_override : Connection → Override → State → State
 with_override p o st =
     record st {
@@ -146,7 +168,8 @@ without_override p st =
 
 -- the events of the calls strictly between two calls of a train
 abbrev pub events_between : State → ℕ → ℕ → ℕ → List Event
-events_between st train from to = of_train st train (λ t. events_at train t.route (calls_between from to t.calls))
+events_between st train from to =
+    of_train st train (λ t. events_at train t.route (calls_between from to t.calls))
 
 -- the state after a message
 unfoldable pub effect : State → Message → State
@@ -154,10 +177,16 @@ effect st (Report n t) = with_event n (reported t) st
 effect st (Forecast n t) = with_event n (forecasted t) st
 effect st (Cancel train from to) =
     let es = stretch st train from to in
-    without_overrides_of es (record st { trains = change_train train (change_calls (map (kill_in es train))) st.trains })
+    without_overrides_of es (record st {
+      trains = change_train train
+          (change_calls (map (kill_in es train))) st.trains;
+    })
 effect st (Reroute train from to via) =
     without_overrides_of (events_between st train from to)
-    (record st { trains = change_train train (rerouted from to via) st.trains; spare_calls = st.spare_calls - length via })
+    (record st {
+      trains = change_train train (rerouted from to via) st.trains;
+      spare_calls = st.spare_calls - length via;
+    })
 effect st (Extra train day route calls) =
     record st {
       trains = st.trains ++ new_train day route calls ∷ [];

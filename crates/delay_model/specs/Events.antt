@@ -28,10 +28,12 @@ arrival_of train route c = event_by train route c.label c.stop false c.arrival
 abbrev pub departure_of : ℕ → ℕ → Call → Event
 departure_of train route c = event_by train route c.label c.stop true c.departure
 
--- the events of a train's calls: of each call the arrival, and then the departure. This is the train's order
+-- the events of a train's calls: of each call the arrival, and then the departure. This is the
+-- train's order
 abbrev pub events_at : ℕ → ℕ → List Call → List Event
 events_at train route [] = []
-events_at train route (c ∷ cs) = arrival_of train route c ∷ departure_of train route c ∷ events_at train route cs
+events_at train route (c ∷ cs) = arrival_of train route c ∷ departure_of train route c
+    ∷ events_at train route cs
 
 -- the events of the train that has this number
 abbrev pub events_of : ℕ → Train → List Event

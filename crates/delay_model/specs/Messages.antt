@@ -8,7 +8,8 @@ use Rattle.delay_model.specs.declared.messages.Message.TheVariants.{Report, Fore
 abbrev pub IsSmallCall : NewCall → Type 0
 IsSmallCall c = (c.arr < 2 ^ 24) × (c.dep < 2 ^ 24)
 
--- times are below 2^24 seconds, an extra train has at least two calls, a feeder is an arrival, and what it feeds a departure
+-- times are below 2^24 seconds, an extra train has at least two calls, a feeder is an arrival, and
+-- what it feeds a departure
 abbrev pub IsWellFormed : Message → Type 0
 IsWellFormed (Report n t) = t < 2 ^ 24
 IsWellFormed (Forecast n t) = t < 2 ^ 24

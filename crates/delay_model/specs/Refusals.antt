@@ -39,15 +39,18 @@ stands_before from to cs = has_call from cs && has_call to (after (is_call from)
 abbrev pub are_at_stops : Network → List NewCall → Bool
 are_at_stops nw calls = list_all (λ (c : NewCall). is_stop nw.stops c.stop) calls
 
--- a train, stop, call or live event that the message names is not there, or the one call does not stand before the other
+-- a train, stop, call or live event that the message names is not there, or the one call does not
+-- stand before the other
 abbrev pub is_unknown : Network → State → Message → Bool
 is_unknown nw st (Report n t) = not (is_live st n)
 is_unknown nw st (Forecast n t) = not (is_live st n)
 is_unknown nw st (Cancel train from to) = not (stands_before from to (calls_of st train))
 is_unknown nw st (Reroute train from to via) =
     not (stands_before from to (calls_of st train)
-    && ((is_live st (node_at train from true) && is_live st (node_at train to false)) && are_at_stops nw via))
-is_unknown nw st (Extra train day route calls) = not (nat_le train (length st.trains) && are_at_stops nw calls)
+    && ((is_live st (node_at train from true) && is_live st (node_at train to false))
+    && are_at_stops nw via))
+is_unknown nw st (Extra train day route calls) =
+    not (nat_le train (length st.trains) && are_at_stops nw calls)
 is_unknown nw st (Keep feeder train) = not (is_live st feeder && is_live st train)
 is_unknown nw st (Drop feeder train) = not (is_live st feeder && is_live st train)
 is_unknown nw st (Rule feeder train) = not (is_live st feeder && is_live st train)
@@ -60,11 +63,13 @@ is_known st _ = false
 -- no change is possible from the one event's stop to the other's
 abbrev pub has_no_change : Network → State → Node → Node → Bool
 has_no_change nw st feeder train =
-    is_none (option_and_then (λ u. option_and_then (λ v. change_between nw u v) (event_named st train)) (event_named st feeder))
+    is_none (option_and_then (λ u. option_and_then (λ v. change_between nw u v)
+    (event_named st train)) (event_named st feeder))
 
 -- the two events are of one train, or no change is possible between their stops
 abbrev pub is_no_connection : Network → State → Node → Node → Bool
-is_no_connection nw st feeder train = nat_eq feeder.train train.train || has_no_change nw st feeder train
+is_no_connection nw st feeder train =
+    nat_eq feeder.train train.train || has_no_change nw st feeder train
 
 abbrev pub has_no_connection : Network → State → Message → Bool
 has_no_connection nw st (Keep feeder train) = is_no_connection nw st feeder train
@@ -76,14 +81,17 @@ has_no_connection nw st _ = false
 abbrev pub first_reported : (ℕ → Bool) → List Event → Option Refusal
 first_reported p [] = None
 first_reported p (v ∷ vs) =
-    option_or (option_and_then (λ r. refused_if (p r) (Contradiction (node_of v.key) r)) (live_report v)) (first_reported p vs)
+    option_or (option_and_then (λ r. refused_if (p r) (Contradiction (node_of v.key) r))
+    (live_report v)) (first_reported p vs)
 
--- the report of another event that a report or forecast of event n at time t contradicts, or another report of n:
--- an earlier event reported after t, n at another time, a later event reported before t
+-- the report of another event that a report or forecast of event n at time t contradicts, or
+-- another report of n: an earlier event reported after t, n at another time, a later event reported
+-- before t
 abbrev pub contradicted_at : ℕ → Node → List Event → Option Refusal
 contradicted_at t n es =
     option_or (first_reported (λ r. nat_lt t r) (before (is_event n) es))
-    (option_or (option_and_then (λ v. first_reported (λ r. not (nat_eq r t)) (v ∷ [])) (find (is_event n) es))
+    (option_or (option_and_then (λ v. first_reported (λ r. not (nat_eq r t)) (v ∷ []))
+    (find (is_event n) es))
     (first_reported (λ r. nat_lt r t) (after (is_event n) es)))
 
 -- the first live event among these that is reported
@@ -99,7 +107,8 @@ abbrev pub contradiction : State → Message → Option Refusal
 contradiction st (Report n t) = contradicted_at t n (train_events st n.train)
 contradiction st (Forecast n t) = contradicted_at t n (train_events st n.train)
 contradiction st (Cancel train from to) = any_reported (stretch st train from to)
-contradiction st (Reroute train from to via) = any_reported (after (is_event (node_at train from true)) (train_events st train))
+contradiction st (Reroute train from to via) =
+    any_reported (after (is_event (node_at train from true)) (train_events st train))
 contradiction st (Extra train day route calls) = None
 contradiction st (Keep feeder train) = itself_reported st train
 contradiction st (Drop feeder train) = itself_reported st train
@@ -118,14 +127,18 @@ first_against_rank es = option_map against_rank_by (find is_against_rank es)
 -- the edge of a kept connection
 abbrev pub kept_edge : Network → State → Node → Node → List Edge
 kept_edge nw st feeder train =
-    option_map_or (λ u. option_map_or (λ v. transfer nw (Some Kept) u v) (event_named st train) []) (event_named st feeder) []
+    option_map_or (λ u. option_map_or (λ v. transfer nw (Some Kept) u v) (event_named st train) [])
+    (event_named st feeder) []
 
--- the first edge against rank that the message would make: along the changed train in the state after it, or of the kept connection
+-- the first edge against rank that the message would make: along the changed train in the state
+-- after it, or of the kept connection
 abbrev pub against_rank : Network → State → Message → Option Refusal
 against_rank nw st (Reroute train from to via) =
-    first_against_rank (edges_along nw.opts (train_events (effect st (Reroute train from to via)) train))
+    first_against_rank (edges_along nw.opts
+    (train_events (effect st (Reroute train from to via)) train))
 against_rank nw st (Extra train day route calls) =
-    first_against_rank (edges_along nw.opts (train_events (effect st (Extra train day route calls)) train))
+    first_against_rank (edges_along nw.opts
+    (train_events (effect st (Extra train day route calls)) train))
 against_rank nw st (Keep feeder train) = first_against_rank (kept_edge nw st feeder train)
 against_rank nw st _ = None
 
@@ -134,7 +147,8 @@ calls_short st n = refused_if (nat_lt st.spare_calls n) (Full Calls)
 
 abbrev pub overrides_short : State → Node → Node → Option Refusal
 overrides_short st feeder train =
-    refused_if (not (has_override st (connection feeder train)) && nat_eq st.spare_overrides 0) (Full Overrides)
+    refused_if (not (has_override st (connection feeder train)) && nat_eq st.spare_overrides 0)
+    (Full Overrides)
 
 -- too little is spare for the message
 abbrev pub shortage : State → Message → Option Refusal

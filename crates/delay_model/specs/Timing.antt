@@ -22,7 +22,8 @@ incoming gs k = filter (λ e. is_same e.to k) gs
 abbrev pub first_report : ℕ → List Event → Option ℕ
 first_report train [] = None
 first_report train (v ∷ vs) =
-    if nat_eq v.key.train train && is_some (live_report v) then live_report v else first_report train vs
+    if nat_eq v.key.train train && is_some (live_report v) then live_report v
+    else first_report train vs
 
 -- what stands after the event with this key
 abbrev pub after_key : Key → List Event → List Event
@@ -32,13 +33,14 @@ after_key k es = after (λ (v : Event). is_same v.key k) es
 unfoldable pub cap : List Event → Event → Option ℕ
 cap es v = first_report v.key.train (after_key v.key es)
 
--- the earliest time by schedule and forecast: for a departure not before its schedule, for an arrival as it is forecast
+-- the earliest time by schedule and forecast: for a departure not before its schedule, for an
+-- arrival as it is forecast
 abbrev pub floor_of : Event → ℕ
 floor_of v =
     if v.key.dep then max v.key.time (unwrap_or v.forecast 0) else unwrap_or v.forecast v.key.time
 
--- an edge counts that asks for this time of an event scheduled at s: along a train, or kept, always;
--- a planned one where it asks for a time not later than the schedule and the wait
+-- an edge counts that asks for this time of an event scheduled at s: along a train, or kept,
+-- always; a planned one where it asks for a time not later than the schedule and the wait
 abbrev pub counts : EdgeKind → ℕ → ℕ → Bool
 counts Train s asked = true
 counts Kept s asked = true
@@ -55,10 +57,12 @@ abbrev pub capped : Option ℕ → ℕ → ℕ
 capped None x = x
 capped (Some c) x = min c x
 
--- the local rule: the time of v from the times t of the events that feed it.
--- Its report, or else the greatest of its floor and of what the edges to it that count ask for, but no more than its cap
+-- the local rule: the time of v from the times t of the events that feed it. Its report, or else
+-- the greatest of its floor and of what the edges to it that count ask for, but no more than its
+-- cap
 unfoldable pub local : List Event → List Edge → (Key → ℕ) → Event → ℕ
-local es gs t v = unwrap_or v.report (capped (cap es v) (fold (later t) (floor_of v) (incoming gs v.key)))
+local es gs t v =
+    unwrap_or v.report (capped (cap es v) (fold (later t) (floor_of v) (incoming gs v.key)))
 
 -- the event with this key
 abbrev pub event_with : List Event → Key → Option Event
@@ -70,7 +74,8 @@ unfoldable pub time_within : List Event → List Edge → ℕ → Key → ℕ
 time_within es gs zero k = 0
 time_within es gs (suc n) k = option_map_or (local es gs (time_within es gs n)) (event_with es k) 0
 
--- the time of the event with this key, over these events and edges. No chain of edges has more edges than there are events
+-- the time of the event with this key, over these events and edges. No chain of edges has more
+-- edges than there are events
 unfoldable pub time : List Event → List Edge → Key → ℕ
 time es gs k = time_within es gs (length es) k
 
@@ -80,7 +85,8 @@ event_time nw st k = time (events st) (edges nw st) k
 
 -- these are times that follow the local rule at every live event
 abbrev pub IsTiming : Network → State → (Key → ℕ) → Type 0
-IsTiming nw st t = (v : Event) → Contains (events st) v → v.live ≡ true → t v.key ≡ local (events st) (edges nw st) t v
+IsTiming nw st t = (v : Event) → Contains (events st) v → v.live ≡ true
+    → t v.key ≡ local (events st) (edges nw st) t v
 
 -- an event with its time
 abbrev pub timed_by : (Key → ℕ) → Event → Timed

@@ -17,8 +17,8 @@ use Rattle.delay_model.specs.Edges.{edges}
 use Rattle.delay_model.specs.Timing.{event_time}
 use Rattle.delay_model.specs.Effect.{effect, node_at, new_calls}
 
--- an event with this key is live. A key stands for one event in every state, since labels are never used again and
--- scheduled times stay
+-- an event with this key is live. A key stands for one event in every state, since labels are never
+-- used again and scheduled times stay
 abbrev pub is_live_key : List Event → Key → Bool
 is_live_key es k = list_any (λ v. v.live && is_same v.key k) es
 
@@ -28,10 +28,11 @@ live_only es fs = filter (λ v. not (is_live_key fs v.key)) (live_events es)
 
 -- the events that are live in both, at times that differ
 abbrev pub retimed : (Key → ℕ) → (Key → ℕ) → List Event → List Event → List Event
-retimed t u es fs = filter (λ v. is_live_key es v.key && not (nat_eq (t v.key) (u v.key))) (live_events fs)
+retimed t u es fs = filter (λ v. is_live_key es v.key && not (nat_eq (t v.key) (u v.key)))
+    (live_events fs)
 
--- the events that are live before or after but not both, or that are live in both at times that differ.
--- es and t are the events and times before, fs and u those after
+-- the events that are live before or after but not both, or that are live in both at times that
+-- differ. es and t are the events and times before, fs and u those after
 abbrev pub differing : (Key → ℕ) → (Key → ℕ) → List Event → List Event → List Event
 differing t u es fs = live_only es fs ++ (live_only fs es ++ retimed t u es fs)
 
@@ -56,26 +57,34 @@ names_of es = map (λ (v : Event). node_of v.key) es
 
 -- the events that a rerouting makes
 abbrev pub new_events : State → ℕ → List NewCall → List Event
-new_events st train via = of_train st train (λ t. events_at train t.route (new_calls t.next_label via))
+new_events st train via =
+    of_train st train (λ t. events_at train t.route (new_calls t.next_label via))
 
--- the events that a message bears on by itself. Of a report: the event, and the live events of the train before it back to
--- the last reported one, that one excluded, since the report caps them. Of a rerouting: the new events and the arrival that
--- they lead to. Of a kept, dropped or freed connection: the departure
+-- the events that a message bears on by itself. Of a report: the event, and the live events of the
+-- train before it back to the last reported one, that one excluded, since the report caps them. Of
+-- a rerouting: the new events and the arrival that they lead to. Of a kept, dropped or freed
+-- connection: the departure
 abbrev pub named : State → Message → List Node
-named st (Report n t) = names_of (live_events (since_report (before (is_event n) (train_events st n.train)))) ++ (n ∷ [])
+named st (Report n t) =
+    names_of (live_events (since_report (before (is_event n) (train_events st n.train))))
+    ++ (n ∷ [])
 named st (Forecast n t) = n ∷ []
 named st (Cancel train from to) = []
-named st (Reroute train from to via) = names_of (new_events st train via) ++ (node_at train to false ∷ [])
-named st (Extra train day route calls) = names_of (train_events (effect st (Extra train day route calls)) train)
+named st (Reroute train from to via) = names_of (new_events st train via)
+    ++ (node_at train to false ∷ [])
+named st (Extra train day route calls) =
+    names_of (train_events (effect st (Extra train day route calls)) train)
 named st (Keep feeder train) = train ∷ []
 named st (Drop feeder train) = train ∷ []
 named st (Rule feeder train) = train ∷ []
 
 -- an edge leads to this key from one of these events
 abbrev pub is_fed_by : List Edge → List Event → Key → Bool
-is_fed_by gs es k = list_any (λ e. is_same e.to k && list_any (λ (v : Event). is_same e.from v.key) es) gs
+is_fed_by gs es k =
+    list_any (λ e. is_same e.to k && list_any (λ (v : Event). is_same e.from v.key) es) gs
 
--- the live events after a message that it names, or to which an edge of the old or of the new state leads from a changed event
+-- the live events after a message that it names, or to which an edge of the old or of the new state
+-- leads from a changed event
 unfoldable pub touched : Network → State → Message → List Event
 touched nw st m =
     filter (λ v. list_any (is_same_node (node_of v.key)) (named st m)

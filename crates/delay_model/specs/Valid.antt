@@ -32,14 +32,16 @@ AreReportedFrom r es = All (λ v. IfSome (live_report v) (λ s. r ≤ s)) es
 -- along the events of a train the reports of live events do not fall
 abbrev pub HasReportsInOrder : List Event → Type 0
 HasReportsInOrder [] = Unit {0}
-HasReportsInOrder (v ∷ vs) = IfSome (live_report v) (λ r. AreReportedFrom r vs) × HasReportsInOrder vs
+HasReportsInOrder (v ∷ vs) = IfSome (live_report v) (λ r. AreReportedFrom r vs)
+    × HasReportsInOrder vs
 
 -- no two calls have one label
 abbrev pub HasDistinctLabels : List Call → Type 0
 HasDistinctLabels [] = Unit {0}
 HasDistinctLabels (c ∷ cs) = All (λ d. c.label ≢ d.label) cs × HasDistinctLabels cs
 
--- an arrival is live exactly where the departure before it is, which `live` says of the first; the last departure is not live
+-- an arrival is live exactly where the departure before it is, which `live` says of the first; the
+-- last departure is not live
 abbrev pub IsRun : Bool → List Call → Type 0
 IsRun live [] = live ≡ false
 IsRun live (c ∷ cs) = (c.arrival.live ≡ live) × IsRun c.departure.live cs
@@ -51,7 +53,8 @@ pub record IsTrain (t : Train) : Type 0 where
   pub run : IsRun false t.calls
   pub reports : (number : ℕ) → HasReportsInOrder (events_of number t)
 
--- a kept or dropped connection leads from a live arrival to a live departure of another train, between whose stops a change is possible
+-- a kept or dropped connection leads from a live arrival to a live departure of another train,
+-- between whose stops a change is possible
 pub record IsConnection (nw : Network) (es : List Event) (p : Connection) : Type 0 where
   pub arrival : Event
   pub departure : Event
@@ -68,11 +71,12 @@ pub record IsValid (nw : Network) (st : State) : Type 0 where
   pub forward : All IsForward (edges nw st)
   pub trains : All IsTrain st.trains
   pub unreported : All (λ v. v.live ≡ false → v.report ≡ None) (events st)
-  pub connections : (p : Connection) (o : Override) → get st.overrides p ≡ Some o → IsConnection nw (events st) p
+  pub connections : (p : Connection) (o : Override) → get st.overrides p ≡ Some o
+      → IsConnection nw (events st) p
   pub small : All IsSmall (events st)
 
--- the numbers of trains, calls and overrides, with those that are spare, are numbers of 32 bits. What is taken from the spare
--- ones is added to the others
+-- the numbers of trains, calls and overrides, with those that are spare, are numbers of 32 bits.
+-- What is taken from the spare ones is added to the others
 pub record HasRoom (st : State) : Type 0 where
   pub trains : length st.trains + st.spare_trains < 2 ^ 32
   pub calls : All (λ t. t.next_label + st.spare_calls < 2 ^ 32) st.trains

@@ -151,7 +151,8 @@ fn first_rule(
 }
 
 #[tactic(auto, unfolding(crate::specs::Waits::wait))]
-/// How many seconds a train of the route `connecting` waits at `stop` for one of the route `feeder`.
+/// How many seconds a train of the route `connecting` waits at `stop` for one of the route
+/// `feeder`.
 pub fn wait(nw: &Network, feeder: RouteNo, connecting: RouteNo, stop: StopNo) -> u32
     ensures { result ≡ wait nw.now.stops nw.now.rules feeder connecting stop }
 {

@@ -79,7 +79,8 @@ fn may_connect(u: &Event, v: &Event) -> bool
     u.live && v.live && !u.key.dep && v.key.dep && u.key.train != v.key.train
 }
 
-/// Whether `v` is planned to be reached from `u`, by a change of so many seconds and a wait of at most so many.
+/// Whether `v` is planned to be reached from `u`, by a change of so many seconds and a wait of at
+/// most so many.
 fn is_planned(opts: &Opts, seconds: u32, wait: u32, u: &Event, v: &Event) -> bool
     ensures { result ≡ is_planned opts.now seconds wait u.now v.now }
 {
@@ -135,7 +136,8 @@ fn push_transfers_from(
     events: &[Event],
     u: &Event,
 ) -> Result<(), OutOfMemory>
-    ensures { OnOk result (all.new.items ≡ all.old.items ++ transfers_from nw.now (override_of st.now) events.now u.now) }
+    ensures { OnOk result (all.new.items ≡ all.old.items ++ transfers_from nw.now
+        (override_of st.now) events.now u.now) }
 {
     for v in events {
         if let Some(edge) = transfer(nw, override_of(st, u, v), u, v) {
@@ -151,7 +153,8 @@ fn push_transfers(
     st: &State,
     events: &[Event],
 ) -> Result<(), OutOfMemory>
-    ensures { OnOk result (all.new.items ≡ all.old.items ++ transfer_edges nw.now (override_of st.now) events.now) }
+    ensures { OnOk result (all.new.items ≡ all.old.items ++ transfer_edges nw.now
+        (override_of st.now) events.now) }
 {
     for u in events {
         push_transfers_from(all, nw, st, events, u)?;

@@ -98,8 +98,10 @@ fn later(e: &Edge, so_far: u32, asked: u32) -> u32
 
 /// The latest of the floor of `v` and of what the edges to it ask for.
 fn latest(edges: &[Edge], v: &Event, times: &[Timed]) -> u32
-    requires fits { All (λ e. is_same e.to v.now.key ≡ true → time_at times.now e.from + e.weight < 2 ^ 25) edges.now }
-    ensures { result ≡ fold (later (time_at times.now)) (floor_of v.now) (filter (λ e. is_same e.to v.now.key) edges.now) }
+    requires fits { All (λ e. is_same e.to v.now.key ≡ true → time_at times.now e.from + e.weight
+        < 2 ^ 25) edges.now }
+    ensures { result ≡ fold (later (time_at times.now)) (floor_of v.now)
+        (filter (λ e. is_same e.to v.now.key) edges.now) }
 {
     let mut latest = floor(v);
     for e in edges {
@@ -123,7 +125,8 @@ fn cap_at(cap: Option<Time>, time: u32) -> u32
 #[tactic(auto, unfolding(crate::specs::Timing::local, crate::specs::Timing::cap, crate::specs::Timing::incoming))]
 /// The local rule: the time of `v` from the times of the events that feed it.
 fn local(events: &[Event], edges: &[Edge], v: &Event, times: &[Timed]) -> u32
-    requires fits { All (λ e. is_same e.to v.now.key ≡ true → time_at times.now e.from + e.weight < 2 ^ 25) edges.now }
+    requires fits { All (λ e. is_same e.to v.now.key ≡ true → time_at times.now e.from + e.weight
+        < 2 ^ 25) edges.now }
     ensures { result ≡ local events.now edges.now (time_at times.now) v.now }
 {
     match v.report {
@@ -135,7 +138,8 @@ fn local(events: &[Event], edges: &[Edge], v: &Event, times: &[Timed]) -> u32
 /// The events in the order of their keys.
 fn key_order(alloc: Global, events: &[Event]) -> Result<Vec<Event>, OutOfMemory>
     ensures moved { IfOk result (λ order. IsPermutation events.now order.items) }
-    ensures sorted { IfOk result (λ order. IsSortedByKey (λ (v : AnEvent). v.key) key_cmp order.items) }
+    ensures sorted { IfOk result (λ order. IsSortedByKey (λ (v : AnEvent).
+        v.key) key_cmp order.items) }
 {
     let mut order = Vec::from_slice(alloc, events)?;
     order.sort_by_key(|v| v.key)?;
@@ -152,7 +156,8 @@ fn time_all(
     requires few { length st.now.trains < 2 ^ 32 }
     requires valid { IsValid nw.now st.now }
     requires all { all_events.now ≡ events st.now }
-    ensures { IfOk result (λ times. (v : AnEvent) → Contains (events st.now) v → time_at times.items v.key ≡ event_time nw.now st.now v.key) }
+    ensures { IfOk result (λ times. (v : AnEvent) → Contains (events st.now) v
+        → time_at times.items v.key ≡ event_time nw.now st.now v.key) }
 {
     let all_edges = list_edges(alloc, nw, st, all_events)?;
     let order = key_order(alloc, all_events)?;
@@ -166,7 +171,8 @@ fn time_all(
 
 /// The live events with their kept times.
 fn keep_live(alloc: Global, events: &[Event], times: &[Timed]) -> Result<Vec<Timed>, OutOfMemory>
-    ensures { IfOk result (λ all. all.items ≡ map (timed_by (time_at times.now)) (live_events events.now)) }
+    ensures { IfOk result (λ all. all.items ≡ map (timed_by (time_at times.now))
+        (live_events events.now)) }
 {
     let mut all = Vec::new(alloc);
     for v in events {

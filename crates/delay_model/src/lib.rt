@@ -1,5 +1,5 @@
-//! The definitions of the model: what every shown time and journey means, with laws, and a plain slow program that
-//! lists the edges and the event times of a state.
+//! The definitions of the model: what every shown time and journey means, with laws, and a plain
+//! slow program that lists the edges and the event times of a state.
 #![tactic(auto)]
 
 pub mod changes;

@@ -31,7 +31,8 @@ pub enum Message {
         to: Label,
         via: Rows<NewCall>,
     },
-    /// One more train runs. Its number is the number of trains so far, or that of the train which has its name already.
+    /// One more train runs. Its number is the number of trains so far, or that of the train which
+    /// has its name already.
     Extra {
         train: TrainNo,
         day: Day,
@@ -66,8 +67,8 @@ pub enum Short {
 /// Why a message is refused.
 #[derive(Clone, Copy, Debug, PartialEq, Eq)]
 pub enum Refusal {
-    /// A train, stop, call or live event that it names is not there, the one call does not stand before the other, or the number of
-    /// an extra train is too great.
+    /// A train, stop, call or live event that it names is not there, the one call does not stand
+    /// before the other, or the number of an extra train is too great.
     Unknown,
     /// The extra train is there already.
     Known,
@@ -75,8 +76,8 @@ pub enum Refusal {
     NoConnection,
     /// The event was reported at a time that the message contradicts.
     Contradiction { event: Node, reported: Time },
-    /// The new timetable would have an edge to an event that is scheduled before the least time of the edge is over, or that is not
-    /// after its origin in the order of keys.
+    /// The new timetable would have an edge to an event that is scheduled before the least time of
+    /// the edge is over, or that is not after its origin in the order of keys.
     AgainstRank { from: Node, to: Node },
     /// Too little is spare.
     Full { what: Short },

@@ -9,8 +9,8 @@ use mt_base::rows::Rows;
 #[derive(Clone, Copy, Debug)]
 pub struct EventValues {
     pub scheduled: Time,
-    /// Whether it takes place. A train does not arrive at its first call nor depart from its last, and what is cancelled does not take
-    /// place.
+    /// Whether it takes place. A train does not arrive at its first call nor depart from its last,
+    /// and what is cancelled does not take place.
     pub live: bool,
     pub forecast: Option<Time>,
     pub report: Option<Time>,
@@ -71,11 +71,13 @@ pub enum EdgeKind {
     Train,
     /// The departure waits for the feeding arrival, but at most so many seconds past its schedule.
     Planned { wait: u32 },
-    /// A dispatcher keeps the connection: the departure is to wait, without the limit of a waiting rule.
+    /// A dispatcher keeps the connection: the departure is to wait, without the limit of a waiting
+    /// rule.
     Kept,
 }
 
-/// An edge of the dependency graph: it asks that `to` takes place `weight` seconds after `from` or later, as far as its kind says.
+/// An edge of the dependency graph: it asks that `to` takes place `weight` seconds after `from` or
+/// later, as far as its kind says.
 #[derive(Clone, Copy, Debug)]
 pub struct Edge {
     pub from: Key,

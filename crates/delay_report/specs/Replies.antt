@@ -45,7 +45,8 @@ event_of_trip names trip day n =
 
 -- the same for a train that has its name and its service day by number
 abbrev pub event_object : Names → Node → Data
-event_object names n = event_of_trip names (trip_of_train names n.train) (day_of_train names n.train) n
+event_object names n = event_of_trip names (trip_of_train names n.train)
+    (day_of_train names n.train) n
 
 -- a refusal of which the word says all
 abbrev pub plain_refusal : ℕ → List ℕ → Data
@@ -61,7 +62,8 @@ contradiction_object names line event reported =
     (member (codes "refused") (string (codes "Contradiction"))
     (member (codes "reported") (string (clock_of_train names event.train reported)) no_members))))
 
--- the new timetable would have an edge against the order of keys, between the events that these objects name
+-- the new timetable would have an edge against the order of keys, between the events that these
+-- objects name
 abbrev pub rank_object : ℕ → Data → Data → Data
 rank_object line from to =
     object (member (codes "from") from
@@ -81,17 +83,20 @@ abbrev pub refusal_object : Names → ℕ → Refusal → Data
 refusal_object names line refusals.Unknown = plain_refusal line (codes "Unknown")
 refusal_object names line refusals.Known = plain_refusal line (codes "Known")
 refusal_object names line refusals.NoConnection = plain_refusal line (codes "NoConnection")
-refusal_object names line (refusals.Contradiction event reported) = contradiction_object names line event reported
-refusal_object names line (refusals.AgainstRank from to) = rank_object line (event_object names from) (event_object names to)
+refusal_object names line (refusals.Contradiction event reported) =
+    contradiction_object names line event reported
+refusal_object names line (refusals.AgainstRank from to) =
+    rank_object line (event_object names from) (event_object names to)
 refusal_object names line (refusals.Full what) = full_object line what
 
--- an extra train that is refused since an edge of it runs against the order of keys. It has no number, so its trip and its service
--- day are told
+-- an extra train that is refused since an edge of it runs against the order of keys. It has no
+-- number, so its trip and its service day are told
 abbrev pub refused_extra_object : Names → ℕ → List ℕ → ℕ → Node → Node → Data
-refused_extra_object names line trip day from to = rank_object line (event_of_trip names trip day from) (event_of_trip names trip day to)
+refused_extra_object names line trip day from to =
+    rank_object line (event_of_trip names trip day from) (event_of_trip names trip day to)
 
--- an accepted message: its number among those accepted, and how many events it changes: those that it takes away or adds, and those
--- that have another time
+-- an accepted message: its number among those accepted, and how many events it changes: those that
+-- it takes away or adds, and those that have another time
 abbrev pub accepted_object : ℕ → ℕ → ℕ → Data
 accepted_object line count changed =
     object (member (codes "accepted") (number (unsigned count))
@@ -114,10 +119,12 @@ flush_object line count =
 abbrev pub reply_object : Names → Reply → Data
 reply_object names (Accepted line count changed) = accepted_object line count changed
 reply_object names (Refused line refusal) = refusal_object names line refusal
-reply_object names (RefusedExtra line trip day from to) = refused_extra_object names line trip day from to
+reply_object names (RefusedExtra line trip day from to) =
+    refused_extra_object names line trip day from to
 reply_object names (Bad line bad) = bad_object line bad
 reply_object names (Flush line count) = flush_object line count
-reply_object names (Journey line after day arrives rides) = journey_object names line after day arrives rides
+reply_object names (Journey line after day arrives rides) =
+    journey_object names line after day arrives rides
 reply_object names (NoJourney line after) = no_journey_object line after
 
 -- an object without blanks, and an LF, which is 10

@@ -17,12 +17,17 @@ row fields = row_text default_writer fields
 
 -- the first line
 unfoldable pub header : List ℕ
-header = row (codes "trip" ∷ codes "date" ∷ codes "call" ∷ codes "stop" ∷ codes "event" ∷ codes "scheduled" ∷ codes "time" ∷ [])
+header = row (codes "trip" ∷ codes "date" ∷ codes "call" ∷ codes "stop" ∷ codes "event"
+    ∷ codes "scheduled" ∷ codes "time" ∷ [])
 
--- the fields of an event's row, by the times of events: trip, date, call, stop, event, scheduled and time
+-- the fields of an event's row, by the times of events: trip, date, call, stop, event, scheduled
+-- and time
 abbrev pub fields : Names → (Key → ℕ) → Event → List (List ℕ)
 fields names times v =
-    trip_of_train names v.key.train ∷ date_of_train names v.key.train ∷ decimal v.key.label ∷ id_of_place names v.stop ∷ event_word v.key.dep ∷ clock_of_train names v.key.train v.key.time ∷ clock_of_train names v.key.train (times v.key) ∷ []
+    trip_of_train names v.key.train ∷ date_of_train names v.key.train ∷ decimal v.key.label
+    ∷ id_of_place names v.stop ∷ event_word v.key.dep
+    ∷ clock_of_train names v.key.train v.key.time ∷ clock_of_train names v.key.train
+    (times v.key) ∷ []
 
 -- the rows of the live ones among these events
 unfoldable pub rows_of_events : Names → (Key → ℕ) → List Event → List ℕ
@@ -35,7 +40,8 @@ rows_of_train names nw st train = rows_of_events names (event_time nw st) (train
 -- the rows of so many trains, from one on
 unfoldable pub rows_from : Names → Network → State → ℕ → ℕ → List ℕ
 rows_from names nw st train zero = []
-rows_from names nw st train (suc count) = rows_of_train names nw st train ++ rows_from names nw st (train + 1) count
+rows_from names nw st train (suc count) = rows_of_train names nw st train
+    ++ rows_from names nw st (train + 1) count
 
 -- the whole table: the header, and the rows of all trains by number
 unfoldable pub table : Network → Names → State → List ℕ

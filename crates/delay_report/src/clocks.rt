@@ -35,7 +35,8 @@ fn push_hours(text: &mut Vec<u8>, hours: u32) -> Result<(), OutOfMemory>
     }
 }
 
-/// Makes a text that of a clock which shows so many seconds: `HH:MM:SS`, with more digits of hours where they are needed.
+/// Makes a text that of a clock which shows so many seconds: `HH:MM:SS`, with more digits of hours
+/// where they are needed.
 #[tactic(auto, unfolding(crate::specs::Clocks::clock))]
 pub(crate) fn write_clock(text: &mut Vec<u8>, seconds: u32) -> Result<(), OutOfMemory>
     ensures { OnOk result (text.new.items ≡ clock seconds) }

@@ -180,7 +180,8 @@ pub(crate) fn refusal_value(
     }
 }
 
-/// The object for an extra train that is refused since an edge of it, between these events, runs against the order of keys.
+/// The object for an extra train that is refused since an edge of it, between these events, runs
+/// against the order of keys.
 pub(crate) fn refused_extra_value(
     alloc: Global,
     dir: &Directory,
@@ -190,7 +191,8 @@ pub(crate) fn refused_extra_value(
     from: &Node,
     to: &Node,
 ) -> Result<Value, OutOfMemory>
-    ensures { IfOk result (λ v. view v ≡ refused_extra_object dir.now line trip.now day from.now to.now) }
+    ensures { IfOk result (λ v. view v ≡ refused_extra_object dir.now line trip.now day from.now
+        to.now) }
 {
     let from = event_of_trip(alloc, dir, trip, day, from)?;
     let to = event_of_trip(alloc, dir, trip, day, to)?;

@@ -42,8 +42,8 @@ pub enum BadLine {
 /// What is answered to a line, which is numbered from 1.
 #[derive(Drop)]
 pub enum Reply {
-    /// The message is the one of this number among those accepted, from 1, and changed so many events: those that it took away or added,
-    /// and those that have another time.
+    /// The message is the one of this number among those accepted, from 1, and changed so many
+    /// events: those that it took away or added, and those that have another time.
     Accepted {
         line: u64,
         number: u64,
@@ -54,8 +54,8 @@ pub enum Reply {
         line: u64,
         refusal: Refusal,
     },
-    /// An extra train is refused, since an edge of it between these events runs against the order of keys. The directory does not
-    /// have it, so its trip and its service day are told.
+    /// An extra train is refused, since an edge of it between these events runs against the order
+    /// of keys. The directory does not have it, so its trip and its service day are told.
     RefusedExtra {
         line: u64,
         trip: Name,
@@ -73,8 +73,9 @@ pub enum Reply {
         line: u64,
         count: u64,
     },
-    /// The answer to a query after so many accepted messages: these rides, in their order, are a journey that arrives at this time,
-    /// which counts from the base of day 0, and none arrives earlier. The time of the query lies on this service day.
+    /// The answer to a query after so many accepted messages: these rides, in their order, are a
+    /// journey that arrives at this time, which counts from the base of day 0, and none arrives
+    /// earlier. The time of the query lies on this service day.
     Journey {
         line: u64,
         after: u64,

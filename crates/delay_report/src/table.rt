@@ -66,8 +66,11 @@ impl RowWriter {
         requires setup { writer_setup self.old.writer ≡ default_writer }
         requires few { fields_written self.old.writer < 7 }
         ensures setup { OnOk result (writer_setup self.new.writer ≡ default_writer) }
-        ensures count { OnOk result (fields_written self.new.writer ≡ fields_written self.old.writer + 1) }
-        ensures bytes { OnOk result (bytes_of self.new.writer ≡ bytes_of self.old.writer ++ (next_sep default_writer (fields_written self.old.writer) ++ field_text default_writer field.now)) }
+        ensures count { OnOk result (fields_written self.new.writer
+            ≡ fields_written self.old.writer + 1) }
+        ensures bytes { OnOk result (bytes_of self.new.writer ≡ bytes_of self.old.writer
+            ++ (next_sep default_writer (fields_written self.old.writer)
+            ++ field_text default_writer field.now)) }
     {
         match self.writer.write_field(field) {
             Ok(()) => Ok(()),
@@ -80,8 +83,11 @@ impl RowWriter {
         requires setup { writer_setup self.old.writer ≡ default_writer }
         requires few { fields_written self.old.writer < 7 }
         ensures setup { OnOk result (writer_setup self.new.writer ≡ default_writer) }
-        ensures count { OnOk result (fields_written self.new.writer ≡ fields_written self.old.writer + 1) }
-        ensures bytes { OnOk result (bytes_of self.new.writer ≡ bytes_of self.old.writer ++ (next_sep default_writer (fields_written self.old.writer) ++ field_text default_writer (clock seconds))) }
+        ensures count { OnOk result (fields_written self.new.writer
+            ≡ fields_written self.old.writer + 1) }
+        ensures bytes { OnOk result (bytes_of self.new.writer ≡ bytes_of self.old.writer
+            ++ (next_sep default_writer (fields_written self.old.writer)
+            ++ field_text default_writer (clock seconds))) }
     {
         write_clock(&mut self.clock, seconds)?;
         match self.writer.write_field(&self.clock) {
@@ -95,7 +101,8 @@ impl RowWriter {
         requires setup { writer_setup self.old.writer ≡ default_writer }
         requires full { fields_written self.old.writer ≡ 7 }
         ensures between { OnOk result (IsBetweenRows self.new.writer) }
-        ensures bytes { OnOk result (bytes_of self.new.writer ≡ bytes_of self.old.writer ++ end_text default_writer.terminator) }
+        ensures bytes { OnOk result (bytes_of self.new.writer ≡ bytes_of self.old.writer
+            ++ end_text default_writer.terminator) }
     {
         match self.writer.end_record() {
             Ok(()) => Ok(()),
@@ -113,7 +120,8 @@ fn push_event(
 ) -> Result<(), OutOfMemory>
     requires between { IsBetweenRows out.old.writer }
     ensures between { OnOk result (IsBetweenRows out.new.writer) }
-    ensures row { OnOk result (bytes_of out.new.writer ≡ bytes_of out.old.writer ++ row (fields dir.now (λ _. time) event.now)) }
+    ensures row { OnOk result (bytes_of out.new.writer ≡ bytes_of out.old.writer
+        ++ row (fields dir.now (λ _. time) event.now)) }
 {
     let key = &event.key;
     out.push(dir.trip_name(key.train).as_bytes())?;
@@ -138,7 +146,8 @@ fn push_live<L: Ledger>(
     requires there { event_named t.now.state (node_of event.now.key) ≡ Some event.now }
     requires between { IsBetweenRows out.old.writer }
     ensures between { OnOk result (IsBetweenRows out.new.writer) }
-    ensures rows { OnOk result (bytes_of out.new.writer ≡ bytes_of out.old.writer ++ rows_of_events dir.now (event_time t.now.network t.now.state) (event.now ∷ [])) }
+    ensures rows { OnOk result (bytes_of out.new.writer ≡ bytes_of out.old.writer
+        ++ rows_of_events dir.now (event_time t.now.network t.now.state) (event.now ∷ [])) }
 {
     match t.time(event.key.node(), steps) {
         Some(time) => push_event(out, dir, event, time),
@@ -158,7 +167,8 @@ fn push_train<L: Ledger>(
     requires parts { blank.parts ≡ L.parts }
     requires some { 0 < blank.parts }
     requires between { IsBetweenRows out.old.writer }
-    ensures { OnOk result (bytes_of out.new.writer ≡ bytes_of out.old.writer ++ rows_of_train dir.now t.now.network t.now.state train) }
+    ensures { OnOk result (bytes_of out.new.writer ≡ bytes_of out.old.writer
+        ++ rows_of_train dir.now t.now.network t.now.state train) }
 {
     let mut steps = Steps::<L>::open(blank);
     for event in t.graph().trains().events(train) {
@@ -167,7 +177,8 @@ fn push_train<L: Ledger>(
     Ok(())
 }
 
-/// The rows of a train in the table of times: one for each live event, in the train's order. None where there is no such train.
+/// The rows of a train in the table of times: one for each live event, in the train's order. None
+/// where there is no such train.
 pub fn times_rows(
     alloc: Global,
     t: &Timetable,

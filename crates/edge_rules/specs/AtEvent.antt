@@ -20,11 +20,13 @@ outgoing gs k = filter (λ e. is_same e.from k) gs
 
 -- the edges that lead to the event of this name
 abbrev pub edges_to : Timetabled → Node → List Edge
-edges_to g n = option_map_or (λ (v : Event). incoming (edges g.network g.state) v.key) (event_named g.state n) []
+edges_to g n = option_map_or (λ (v : Event). incoming (edges g.network g.state) v.key)
+    (event_named g.state n) []
 
 -- the edges that leave the event of this name
 abbrev pub edges_from : Timetabled → Node → List Edge
-edges_from g n = option_map_or (λ (v : Event). outgoing (edges g.network g.state) v.key) (event_named g.state n) []
+edges_from g n = option_map_or (λ (v : Event). outgoing (edges g.network g.state) v.key)
+    (event_named g.state n) []
 
 -- the time that is stored for the event of a key, or 0
 abbrev pub stored_time : StoredTimes → Key → ℕ
@@ -32,12 +34,15 @@ stored_time k key = unwrap_or (time_of k (node_of key)) 0
 
 -- the local rule at the event of this name, from stored times, if the event is there
 abbrev pub local_at : Timetabled → StoredTimes → Node → Option ℕ
-local_at g k n = option_map (local (events g.state) (edges g.network g.state) (stored_time k)) (event_named g.state n)
+local_at g k n = option_map (local (events g.state) (edges g.network g.state) (stored_time k))
+    (event_named g.state n)
 
 -- the edges along trains that lead to the event of this name
 abbrev pub along_to : Opts → State → Node → List Edge
-along_to o st n = option_map_or (λ (v : Event). incoming (train_edges o 0 st.trains) v.key) (event_named st n) []
+along_to o st n = option_map_or (λ (v : Event). incoming (train_edges o 0 st.trains) v.key)
+    (event_named st n) []
 
 -- the edges along trains that leave the event of this name
 abbrev pub along_from : Opts → State → Node → List Edge
-along_from o st n = option_map_or (λ (v : Event). outgoing (train_edges o 0 st.trains) v.key) (event_named st n) []
+along_from o st n = option_map_or (λ (v : Event). outgoing (train_edges o 0 st.trains) v.key)
+    (event_named st n) []

@@ -10,9 +10,15 @@ use Rattle.waiting_rules.specs.WaitTable.{WaitTable, parent_station}
 use Rattle.edge_rules.specs.Timetabled.{Timetabled}
 use Rattle.edge_rules.specs.declared.graph.Graph.TheInside.{Inside}
 
--- what no message changes: the stops with the change times between them, the waiting rules and the options
+-- what no message changes: the stops with the change times between them, the waiting rules and the
+-- options
 abbrev pub network_of : ChangeTables → WaitTable → Opts → Network
-network_of changes waits o = record { stops = changes.stops; transfers = changes.transfers; rules = waits.rules; opts = o }
+network_of changes waits o = record {
+  stops = changes.stops;
+  transfers = changes.transfers;
+  rules = waits.rules;
+  opts = o;
+}
 
 abbrev pub seen : Inside → Timetabled
 seen a = record { network = network_of a.changes a.waits a.opts; state = a.trains }
@@ -21,8 +27,8 @@ seen a = record { network = network_of a.changes a.waits a.opts; state = a.train
 abbrev pub HasOwnLabels : Train → Type 0
 HasOwnLabels t = HasDistinctLabels t.calls
 
--- no two calls of a train have one label; the change times and the waits are of the same stops, and the change time where no row
--- says one is the options'
+-- no two calls of a train have one label; the change times and the waits are of the same stops, and
+-- the change time where no row says one is the options'
 pub record IsHeld (a : Inside) : Type 0 where
   pub options : IsInRange a.opts
   pub default : a.changes.default ≡ a.opts.change

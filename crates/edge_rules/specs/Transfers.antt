@@ -9,6 +9,7 @@ use Rattle.edge_rules.specs.Timetabled.{Timetabled}
 abbrev pub transfer_between : Timetabled → Event → Event → List Edge
 transfer_between g u v = transfer g.network (override_of g.state u v) u v
 
--- the edge between two trains that joins the event v and another: that leads to v if v is a departure, and else that leaves v
+-- the edge between two trains that joins the event v and another: that leads to v if v is a
+-- departure, and else that leaves v
 abbrev pub transfer_with : Timetabled → Event → Event → List Edge
 transfer_with g v u = if v.key.dep then transfer_between g u v else transfer_between g v u

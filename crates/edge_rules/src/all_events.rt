@@ -9,7 +9,8 @@ use mt_base::numbers::TrainNo;
 use std::marker::Model;
 use train_nodes::{TrainEvents, Trains};
 
-/// The events of trains, train by train and in the order of each. It is seen as the list of those that are still to come.
+/// The events of trains, train by train and in the order of each. It is seen as the list of those
+/// that are still to come.
 #[derive(Drop)]
 pub(crate) struct AllEvents<'a> {
     pub(crate) trains: &'a Trains,

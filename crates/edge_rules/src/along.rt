@@ -43,7 +43,8 @@ fn next(trains: &Trains, n: &Node) -> Option<Node>
     }
 }
 
-/// The least time in seconds from an event of a train to the next one, by the times at which the two are scheduled.
+/// The least time in seconds from an event of a train to the next one, by the times at which the
+/// two are scheduled.
 fn minimum(opts: &Opts, from: &Event, to: &Event) -> u32
     ensures { result ≡ minimum_between opts.now from.now to.now }
 {

@@ -10,8 +10,8 @@ use crate::graph::Graph;
 use delay_model::state::{Edge, Event};
 use std::marker::Model;
 
-/// The edges at an event: the one along its train, and those between trains, which are found by testing the other events. It is seen
-/// as the list of the edges that are still to come.
+/// The edges at an event: the one along its train, and those between trains, which are found by
+/// testing the other events. It is seen as the list of the edges that are still to come.
 #[derive(Drop)]
 pub struct Edges<'a> {
     pub(crate) graph: &'a Graph,

@@ -38,7 +38,8 @@ use std::sync::ledger::Ledger;
 use train_nodes::{NodeTimes, Steps, Trains};
 use waiting_rules::Waits;
 
-/// The trains, the change times, the waiting rules and the options, from which the edges at an event are found.
+/// The trains, the change times, the waiting rules and the options, from which the edges at an
+/// event are found.
 #[derive(Drop)]
 pub struct Graph {
     trains: Trains,
@@ -127,12 +128,15 @@ impl Graph {
         self.edges_from(&self.live_event(&n))
     }
 
-    /// The time of an event by the rule, in seconds from the base of day 0, from the stored times of the events that feed it. For
-    /// each edge to it one of these is read, which takes a step, and nothing else takes one.
+    /// The time of an event by the rule, in seconds from the base of day 0, from the stored times
+    /// of the events that feed it. For each edge to it one of these is read, which takes a step,
+    /// and nothing else takes one.
     pub fn local<L: Ledger>(&self, n: Node, times: &NodeTimes, steps: &mut Steps<L>) -> Time
         requires live { IsTrue (is_live self.now.state n) }
-        requires held { All (λ e. IsTrue (has_time times.now (node_of e.from))) (edges_to self.now n) }
-        requires fits { All (λ e. stored_time times.now e.from + e.weight < 2 ^ 25) (edges_to self.now n) }
+        requires held { All (λ e. IsTrue (has_time times.now (node_of e.from)))
+            (edges_to self.now n) }
+        requires fits { All (λ e. stored_time times.now e.from + e.weight < 2 ^ 25)
+            (edges_to self.now n) }
         ensures rule { local_at self.now times.now n ≡ Some result }
         ensures cost { steps.new ≡ steps.old + length (edges_to self.now n) }
     {
@@ -148,7 +152,10 @@ impl Graph {
     /// Sets the forecast of an event, in seconds from the base of day 0.
     pub fn set_forecast(&mut self, n: Node, t: Time)
         requires { IsTrue (is_live self.old.state n) }
-        ensures { self.new ≡ record self.old { state = with_event n (forecasted t) self.old.state } }
+        ensures { self.new ≡ record self.old {
+          state = with_event n
+              (forecasted t) self.old.state;
+        } }
     {
         self.trains.set_forecast(n, t);
         self.trains.labels_are_distinct();
@@ -165,35 +172,48 @@ impl Graph {
 
     /// Keeps or drops a connection, in place of what was chosen before. It takes no memory.
     pub fn set_override(&mut self, feeder: Node, train: Node, choice: Override)
-        requires spare { has_override self.old.state (connection feeder train) ≡ false → 0 < self.old.state.spare_overrides }
-        ensures { self.new ≡ record self.old { state = with_override (connection feeder train) choice self.old.state } }
+        requires spare { has_override self.old.state (connection feeder train) ≡ false
+            → 0 < self.old.state.spare_overrides }
+        ensures { self.new ≡ record self.old {
+          state = with_override
+              (connection feeder train) choice self.old.state;
+        } }
     {
         self.trains.set_override(feeder, train, choice);
     }
 
     /// Takes back what was chosen for a connection.
     pub fn clear_override(&mut self, feeder: Node, train: Node)
-        ensures { self.new ≡ record self.old { state = without_override (connection feeder train) self.old.state } }
+        ensures { self.new ≡ record self.old {
+          state = without_override
+              (connection feeder train) self.old.state;
+        } }
     {
         self.trains.clear_override(feeder, train);
     }
 
-    /// A train does not run from the departure of one call to the arrival of a later one, and what was chosen for connections that name
-    /// one of these events goes.
+    /// A train does not run from the departure of one call to the arrival of a later one, and what
+    /// was chosen for connections that name one of these events goes.
     pub fn cancel(&mut self, t: TrainNo, from: Label, to: Label)
         requires { stands_before from to (calls_of self.old.state t) ≡ true }
-        ensures { self.new ≡ record self.old { state = effect self.old.state (messages.Cancel t from to) } }
+        ensures { self.new ≡ record self.old {
+          state = effect self.old.state
+              (messages.Cancel t from to);
+        } }
     {
         self.trains.cancel(t, from, to);
         self.trains.labels_are_distinct();
     }
 
-    /// Between two of its calls a train makes these calls, and not those that it made so far, for which what was chosen goes with them.
-    /// It takes no memory.
+    /// Between two of its calls a train makes these calls, and not those that it made so far, for
+    /// which what was chosen goes with them. It takes no memory.
     pub fn reroute(&mut self, t: TrainNo, from: Label, to: Label, via: &[NewCall])
         requires stand { stands_before from to (calls_of self.old.state t) ≡ true }
         requires spare { length via.now ≤ self.old.state.spare_calls }
-        ensures { self.new ≡ record self.old { state = effect self.old.state (messages.Reroute t from to via.now) } }
+        ensures { self.new ≡ record self.old {
+          state = effect self.old.state
+              (messages.Reroute t from to via.now);
+        } }
     {
         self.trains.reroute(t, from, to, via);
         self.trains.labels_are_distinct();
@@ -205,7 +225,10 @@ impl Graph {
         requires calls_spare { length calls.now ≤ self.old.state.spare_calls }
         requires two_calls { 2 ≤ length calls.now }
         ensures number { result ≡ length self.old.state.trains }
-        ensures train { self.new ≡ record self.old { state = effect self.old.state (messages.Extra (length self.old.state.trains) day route calls.now) } }
+        ensures train { self.new ≡ record self.old {
+          state = effect self.old.state
+              (messages.Extra (length self.old.state.trains) day route calls.now);
+        } }
     {
         let number = self.trains.add_train(day, route, calls);
         self.trains.labels_are_distinct();
@@ -219,10 +242,11 @@ impl Graph {
         edge_between(&self.opts, from, to)
     }
 
-    /// Whether edges between trains can be at an event of this kind: where there is no waiting rule and nothing is kept or dropped,
-    /// nowhere.
+    /// Whether edges between trains can be at an event of this kind: where there is no waiting rule
+    /// and nothing is kept or dropped, nowhere.
     fn has_transfers(&self, kind: bool) -> bool
-        ensures { result ≡ (kind && not (nat_eq (length self.now.network.rules) 0 && nat_eq (finmap.len self.now.state.overrides) 0)) }
+        ensures { result ≡ (kind && not (nat_eq (length self.now.network.rules) 0
+            && nat_eq (finmap.len self.now.state.overrides) 0)) }
     {
         kind && !(self.waits.is_empty() && self.trains.has_no_overrides())
     }
@@ -254,10 +278,12 @@ impl Graph {
         self.edges_at(at, along, self.has_transfers(!at.key.dep))
     }
 
-    /// The given edge along a train at an event, and the edges between trains there if they are wanted.
+    /// The given edge along a train at an event, and the edges between trains there if they are
+    /// wanted.
     fn edges_at(&self, at: &Event, along: Option<Edge>, transfers: bool) -> Edges<'_>
         ensures { result ≡ option_to_list along
-            ++ (if transfers then flat_map (transfer_with self.now at.now) (events self.now.state) else []) }
+            ++ (if transfers then flat_map (transfer_with self.now at.now) (events self.now.state)
+            else []) }
     {
         let first = if transfers { 0 } else { self.trains.count() };
         Edges {
@@ -284,7 +310,8 @@ impl Graph {
 
     /// The edge between two trains from an arrival to a departure, where a change is possible.
     fn edge_by_change(&self, from: &Event, to: &Event) -> Option<Edge>
-        ensures { option_to_list result ≡ edge_by_change self.now.network (override_of self.now.state from.now to.now) from.now to.now
+        ensures { option_to_list result ≡ edge_by_change self.now.network
+            (override_of self.now.state from.now to.now) from.now to.now
             (change_between self.now.network from.now to.now) }
     {
         let weight = self.changes.change(from.stop, to.stop)?;
@@ -297,11 +324,12 @@ impl Graph {
         })
     }
 
-    /// The kind of the edge from an arrival to a departure with a change of so many seconds, if there is one: what a dispatcher chose
-    /// for it, or else whether it is planned.
+    /// The kind of the edge from an arrival to a departure with a change of so many seconds, if
+    /// there is one: what a dispatcher chose for it, or else whether it is planned.
     fn transfer_kind(&self, from: &Event, to: &Event, change: u32) -> Option<EdgeKind>
         ensures { result ≡ transfer_kind (override_of self.now.state from.now to.now)
-            (is_planned self.now.network.opts change (wait_between self.now.network from.now to.now) from.now to.now)
+            (is_planned self.now.network.opts change (wait_between self.now.network from.now to.now)
+            from.now to.now)
             (wait_between self.now.network from.now to.now) }
     {
         match self.trains.override_of(from.key.node(), to.key.node()) {

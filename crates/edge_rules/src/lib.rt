@@ -1,4 +1,5 @@
-//! The edges of the dependency graph at one event, and the rule for times there, over the trains as they are stored.
+//! The edges of the dependency graph at one event, and the rule for times there, over the trains as
+//! they are stored.
 //!
 //! The edges run along the trains and, as connections that are planned or kept, between them.
 #![tactic(auto)]

@@ -23,7 +23,8 @@ pub(crate) fn floor(event: &Event) -> u32
     }
 }
 
-/// Whether an edge counts that asks for this time: along a train, or kept, always; else not past the schedule and the wait.
+/// Whether an edge counts that asks for this time: along a train, or kept, always; else not past
+/// the schedule and the wait.
 fn counts(edge: &Edge, asked: u32) -> bool
     ensures { result ≡ counts edge.now.kind edge.now.to.time asked }
 {
@@ -46,11 +47,13 @@ pub(crate) fn later(edge: &Edge, so_far: u32, asked: u32) -> u32
     }
 }
 
-/// The time of an event by the reports of its train: its own report, or else what is asked for, but no later than the next report.
+/// The time of an event by the reports of its train: its own report, or else what is asked for, but
+/// no later than the next report.
 pub(crate) fn by_reports(trains: &Trains, event: &Event, asked: u32) -> Time
     requires there { IsTrue (has_event trains.now (node_of event.now.key)) }
     requires small { asked < 2 ^ 25 }
-    ensures { result ≡ unwrap_or event.now.report (capped (report_after trains.now (node_of event.now.key)) asked) }
+    ensures { result ≡ unwrap_or event.now.report
+        (capped (report_after trains.now (node_of event.now.key)) asked) }
 {
     if let Some(report) = event.report {
         return report;

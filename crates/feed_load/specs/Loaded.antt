@@ -34,7 +34,8 @@ unless_too_many (Some what) timetable = Err (TooMany what)
 
 -- the timetable of so many days from the date `first` on, from the tables of a feed
 abbrev pub days_loaded : Tables → ℕ → ℕ → Opts → Result Timetable FeedRefusal
-days_loaded t first days o = unless_too_many (too_many t.calls (all_runs t first days)) (schedule t first days o, names_of t first days o)
+days_loaded t first days o = unless_too_many (too_many t.calls (all_runs t first days))
+    (schedule t first days o, names_of t first days o)
 
 -- there are not too many pairs of a stop or station and a stop to which one can change from it
 abbrev pub few_pairs : Tables → Opts → Result (Unit {0}) FeedRefusal
@@ -59,4 +60,5 @@ schedule_error build.OutOfMemory = OutOfMemory
 
 -- every call of every train is at a stop or platform
 abbrev pub AreAtStops : List StopRow → State → Type 0
-AreAtStops stops st = All (λ (t : Train). All (λ (c : Call). is_stop stops c.stop ≡ true) t.calls) st.trains
+AreAtStops stops st = All (λ (t : Train). All (λ (c : Call). is_stop stops c.stop ≡ true) t.calls)
+    st.trains

@@ -57,7 +57,8 @@ pub struct Loaded {
 fn load_changes(alloc: Global, t: &FeedTables, default: u32) -> Result<Changes, FeedError>
     requires default_least { 1 ≤ default }
     requires default_most { default ≤ 3600 }
-    ensures few { Yields (λ _. tt) result (at_most 4000000 Pairs (pairs (tables_of t.now default))) }
+    ensures few { Yields (λ _. tt) result
+        (at_most 4000000 Pairs (pairs (tables_of t.now default))) }
     ensures same { IfOk result (HaveSameChanges (tables_of t.now default)) }
     ensures failed { IsErrOf result FeedError.ReadFault → ⊥ }
 {
@@ -117,14 +118,17 @@ fn load_tables(
     requires year { first < 21010000 }
     requires days { (1 ≤ days) × (days ≤ 31) }
     requires options { IsInRange opts.now }
-    ensures found { Yields (λ r. (r.trains, r.directory)) result (tables_loaded t.now first days opts.now) }
-    ensures network { IfOk result (λ r. HaveSameChanges (tables_of t.now opts.now.change) r.changes × (r.waits ≡ wait_table t.now.stops t.now.rules)) }
+    ensures found { Yields (λ r. (r.trains, r.directory)) result
+        (tables_loaded t.now first days opts.now) }
+    ensures network { IfOk result (λ r. HaveSameChanges (tables_of t.now opts.now.change) r.changes
+        × (r.waits ≡ wait_table t.now.stops t.now.rules)) }
     ensures default { IfOk result (λ r. r.changes.default ≡ opts.now.change) }
     ensures parents { IfOk result (λ r. r.waits.parents ≡ map parent_station r.changes.stops) }
     ensures valid { IfOk result (λ r. IsValid (network_of r.changes r.waits opts.now) r.trains) }
     ensures in_step { IfOk result (λ r. AreInStep r.directory r.trains) }
     ensures stops { IfOk result (λ r. AreAtStops r.changes.stops r.trains) }
-    ensures nodes { IfOk result (λ r. length (events r.trains) + 2 * r.trains.spare_calls ≤ 2097152) }
+    ensures nodes { IfOk result (λ r. length (events r.trains) + 2 * r.trains.spare_calls
+        ≤ 2097152) }
     ensures failed { IsErrOf result FeedError.ReadFault → ⊥ }
 {
     let changes = load_changes(alloc, t, opts.change)?;
@@ -138,10 +142,11 @@ fn load_tables(
     })
 }
 
-/// What the feed in a folder makes on so many days from `first` on, a date as the number YYYYMMDD of a year up to 2100. There is room
-/// for what the options spare. `Refused` has the first cause to refuse the feed: a fault of its tables; more than 4,000,000 pairs of a
-/// stop or station and a stop with a change from the first to the second; more than 200,000 trains; or more than 2,000,000 nodes, two for
-/// each call. `ReadFault` comes only where the feed failed.
+/// What the feed in a folder makes on so many days from `first` on, a date as the number YYYYMMDD
+/// of a year up to 2100. There is room for what the options spare. `Refused` has the first cause to
+/// refuse the feed: a fault of its tables; more than 4,000,000 pairs of a stop or station and a
+/// stop with a change from the first to the second; more than 200,000 trains; or more than
+/// 2,000,000 nodes, two for each call. `ReadFault` comes only where the feed failed.
 pub fn load_feed<F: Feed>(
     alloc: Global,
     feed: &mut F,
@@ -155,16 +160,22 @@ pub fn load_feed<F: Feed>(
     requires days { (1 ≤ days) × (days ≤ 31) }
     requires options { IsInRange opts.now }
     ensures exact { (files : List ℕ → List ℕ → Option (List ℕ)) → F.tables feed.old ≡ Some files
-        → Yields (λ r. (r.trains, r.directory)) result (loaded (contents_of files folder.now) first days opts.now) }
-    ensures network { IfOk result (λ r. (files : List ℕ → List ℕ → Option (List ℕ)) (t : ATables) → F.tables feed.old ≡ Some files
-        → tables_in (contents_of files folder.now) ≡ Ok t → HaveSameChanges (tables_of t opts.now.change) r.changes × (r.waits ≡ wait_table t.stops t.rules)) }
+        → Yields (λ r. (r.trains, r.directory)) result
+        (loaded (contents_of files folder.now) first days opts.now) }
+    ensures network { IfOk result (λ r. (files : List ℕ → List ℕ → Option (List ℕ)) (t : ATables)
+        → F.tables feed.old ≡ Some files
+        → tables_in (contents_of files folder.now) ≡ Ok t
+        → HaveSameChanges (tables_of t opts.now.change) r.changes
+        × (r.waits ≡ wait_table t.stops t.rules)) }
     ensures default { IfOk result (λ r. r.changes.default ≡ opts.now.change) }
     ensures parents { IfOk result (λ r. r.waits.parents ≡ map parent_station r.changes.stops) }
     ensures valid { IfOk result (λ r. IsValid (network_of r.changes r.waits opts.now) r.trains) }
     ensures in_step { IfOk result (λ r. AreInStep r.directory r.trains) }
     ensures stops { IfOk result (λ r. AreAtStops r.changes.stops r.trains) }
-    ensures nodes { IfOk result (λ r. length (events r.trains) + 2 * r.trains.spare_calls ≤ 2097152) }
-    ensures failed { IsErrOf result FeedError.ReadFault → Rose (F.faults feed.old) (F.faults feed.new) }
+    ensures nodes { IfOk result (λ r. length (events r.trains) + 2 * r.trains.spare_calls
+        ≤ 2097152) }
+    ensures failed { IsErrOf result FeedError.ReadFault
+        → Rose (F.faults feed.old) (F.faults feed.new) }
     ensures later { F.faults feed.old ≤ F.faults feed.new }
 {
     let tables = read_tables(alloc, feed, folder)?;

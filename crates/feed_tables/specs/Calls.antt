@@ -38,7 +38,8 @@ has_calls calls trip = nat_lt 0 (length (rows_of calls trip))
 abbrev pub calls_of : List CallRow → ℕ → List CallRow
 calls_of calls trip = in_order sequence (rows_of calls trip)
 
--- the arrival and the departure of a row in seconds of its service day, if it has a time: a row with one time uses it for both
+-- the arrival and the departure of a row in seconds of its service day, if it has a time: a row
+-- with one time uses it for both
 abbrev pub both_times : Option ℕ → Option ℕ → Option (ℕ × ℕ)
 both_times None None = None
 both_times None (Some dep) = Some (dep, dep)

@@ -54,7 +54,8 @@ pub record IsTransfer (stops : ℕ) (row : TransferRow) : Type 0 where
   pub from_stop : row.from_stop < stops
   pub to_stop : row.to_stop < stops
 
--- a row of `waiting_rules.txt` names routes and a location that are there, and no wait is above 86,400 seconds
+-- a row of `waiting_rules.txt` names routes and a location that are there, and no wait is above
+-- 86,400 seconds
 pub record IsRule (stops routes : ℕ) (row : RuleRow) : Type 0 where
   pub feeder : IfSome row.feeder (λ r. r < routes)
   pub connecting : IfSome row.connecting (λ r. r < routes)
@@ -75,7 +76,8 @@ abbrev pub HasTimedEnds : List CallRow → Type 0
 HasTimedEnds [] = Unit {0}
 HasTimedEnds (row ∷ rest) = (1 ≤ length rest) × IsTimed row × IsTimed (last_row row rest)
 
--- the rows of a trip by `stop_sequence`: no two have one place, the ends have times, and times do not fall
+-- the rows of a trip by `stop_sequence`: no two have one place, the ends have times, and times do
+-- not fall
 pub record IsTripwise (rows : List CallRow) : Type 0 where
   pub sequences : AreDistinct (map sequence rows)
   pub ends : HasTimedEnds rows
@@ -104,8 +106,8 @@ pub record HasDistinctNames (t : Tables) : Type 0 where
   pub routes : AreDistinct t.routes
   pub services : AreDistinct t.services
 
--- what the tables of a feed keep: every number is a row of its table, names are distinct, the calls of each trip are in order,
--- and no table has more rows than it may have
+-- what the tables of a feed keep: every number is a row of its table, names are distinct, the calls
+-- of each trip are in order, and no table has more rows than it may have
 pub record IsLawful (t : Tables) : Type 0 where
   pub stops : All (IsLocation t.stops) t.stops
   pub trips : All (IsTrip (length t.routes) (length t.services)) t.trips

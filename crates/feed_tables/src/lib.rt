@@ -7,9 +7,9 @@ ghost use Rattle.feed_tables.specs.Lawful.{IsLawful};
 use mt_base::tables::Tables;
 use std::marker::Model;
 
-/// The tables of a feed. Every number in them is a row of its table, ids and names are distinct, the calls of each trip
-/// are in order with times at both ends, dates are civil, and no table has more rows than it may have. It is seen as its
-/// tables.
+/// The tables of a feed. Every number in them is a row of its table, ids and names are distinct,
+/// the calls of each trip are in order with times at both ends, dates are civil, and no table has
+/// more rows than it may have. It is seen as its tables.
 #[derive(Drop)]
 pub struct FeedTables {
     tables: Tables,

@@ -12,4 +12,5 @@ use Rattle.delay_model.specs.Refusals.{refused_if, is_no_connection}
 -- one of the two events is not live, or there is no connection between them
 abbrev pub no_edge : Network → State → Node → Node → Option Refusal
 no_edge nw st feeder train =
-    option_or (refused_if (not (is_live st feeder && is_live st train)) Unknown) (refused_if (is_no_connection nw st feeder train) NoConnection)
+    option_or (refused_if (not (is_live st feeder && is_live st train)) Unknown)
+    (refused_if (is_no_connection nw st feeder train) NoConnection)

@@ -9,8 +9,9 @@ abbrev pub Answers : Result (Unit {0}) Refusal → Option Refusal → Type 0
 Answers (Ok done) refusal = refusal ≡ None
 Answers (Err r) refusal = refusal ≡ Some r
 
--- a report contradicts that an event of the same train takes place at t: the report of an event before that one, if it is after t,
--- its own report, if it is another time, and the report of an event behind it, if it is before t
+-- a report contradicts that an event of the same train takes place at t: the report of an event
+-- before that one, if it is after t, its own report, if it is another time, and the report of an
+-- event behind it, if it is before t
 abbrev pub contradicts : Ordering → ℕ → ℕ → Bool
 contradicts Less t report = nat_lt t report
 contradicts Equal t report = not (nat_eq report t)

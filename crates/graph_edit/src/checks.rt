@@ -20,7 +20,8 @@ pub fn check_unreported(event: &Event) -> Result<(), Refusal>
     }
 }
 
-/// Whether the edge leads to an event that is later by key, and the schedule leaves time enough for it.
+/// Whether the edge leads to an event that is later by key, and the schedule leaves time enough for
+/// it.
 pub fn check_rank(edge: &Edge) -> Result<(), Refusal>
     ensures { Answers result (first_against_rank (edge.now ∷ [])) }
 {

@@ -18,7 +18,8 @@ use edge_rules::Graph;
 use mt_base::keys::Node;
 use train_nodes::kinds::Choice;
 
-/// Whether a kept or dropped connection, or one that is left to the waiting rules again, is accepted, or why it is refused.
+/// Whether a kept or dropped connection, or one that is left to the waiting rules again, is
+/// accepted, or why it is refused.
 #[tactic(auto, unfolding(delay_model::specs::Refusals::refusal), using(crate::proofs::ChoiceLemmas::refused_first, crate::proofs::ChoiceLemmas::accepted_first))]
 pub fn check_choice(g: &Graph, c: &Choice) -> Result<(), Refusal>
     requires well_formed { IsWellFormed (message_of_choice c.now) }
@@ -51,12 +52,15 @@ pub fn apply_choice(g: &mut Graph, c: &Choice)
     }
 }
 
-/// The edge from the arrival to the departure, as it is if the connection is kept, or why there is no such connection.
+/// The edge from the arrival to the departure, as it is if the connection is kept, or why there is
+/// no such connection.
 fn kept_edge(g: &Graph, c: &Choice) -> Result<Edge, Refusal>
     requires well_formed { IsWellFormed (message_of_choice c.now) }
-    ensures refused { result_err result ≡ no_edge g.now.network g.now.state c.now.feeder c.now.train }
+    ensures refused { result_err result ≡ no_edge g.now.network g.now.state c.now.feeder
+        c.now.train }
     ensures live { OnOk result (IsTrue (is_live g.now.state c.now.train)) }
-    ensures edge { IfOk result (λ edge. kept_edge g.now.network g.now.state c.now.feeder c.now.train ≡ edge ∷ []) }
+    ensures edge { IfOk result (λ edge. kept_edge g.now.network g.now.state c.now.feeder c.now.train
+        ≡ edge ∷ []) }
 {
     let trains = g.trains();
     if !trains.live(c.feeder) || !trains.live(c.train) {

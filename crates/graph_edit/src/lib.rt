@@ -1,5 +1,5 @@
-//! What messages about one event's values and about connections do to the graph: which of them are refused, and what the others
-//! change.
+//! What messages about one event's values and about connections do to the graph: which of them are
+//! refused, and what the others change.
 #![tactic(auto)]
 
 pub mod checks;

@@ -37,10 +37,11 @@ pub fn apply_value(g: &mut Graph, v: &Value)
     }
 }
 
-/// Whether an event may be given this time: it is live, and no report of its train contradicts it. The first that does, in the
-/// train's order, is shown.
+/// Whether an event may be given this time: it is live, and no report of its train contradicts it.
+/// The first that does, in the train's order, is shown.
 fn check_time(g: &Graph, n: &Node, t: Time) -> Result<(), Refusal>
-    ensures { Answers result (option_or (refused_if (not (is_live g.now.state n.now)) Unknown) (contradicted_at t n.now (train_events g.now.state n.now.train))) }
+    ensures { Answers result (option_or (refused_if (not (is_live g.now.state n.now)) Unknown)
+        (contradicted_at t n.now (train_events g.now.state n.now.train))) }
 {
     let trains = g.trains();
     if !trains.live(*n) {
@@ -61,8 +62,9 @@ fn check_time(g: &Graph, n: &Node, t: Time) -> Result<(), Refusal>
     Ok(())
 }
 
-/// Whether the report of an event, if it is live and has one, leaves room for this time of an event of the same train. `place` says
-/// where the reported event stands: before that one, at it, or behind it.
+/// Whether the report of an event, if it is live and has one, leaves room for this time of an event
+/// of the same train. `place` says where the reported event stands: before that one, at it, or
+/// behind it.
 fn check_report(event: &Event, place: Ordering, t: Time) -> Result<(), Refusal>
     ensures { Answers result (first_reported (contradicts place t) (event.now ∷ [])) }
 {

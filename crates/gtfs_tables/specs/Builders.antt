@@ -51,7 +51,8 @@ dates_view t = record { services = names_of t.services; rows = t.rows.items }
 -- services are found by number, and the keys are the services and dates of the rows
 pub record IsKeyedDates (t : DateTable) : Type 0 where
   pub services : IsNumbered t.services
-  pub keys : (service date : ℕ) → contains key_cmp t.keys (service, date) ≡ has_date service date t.rows.items
+  pub keys : (service date : ℕ) → contains key_cmp t.keys (service, date)
+      ≡ has_date service date t.rows.items
 
 -- what the rows of transfers.txt made
 abbrev pub transfers_view : TransferTable → Transfers

@@ -13,14 +13,16 @@ use Rattle.gtfs_tables.specs.Numbers.{number_in, names_with}
 
 -- the columns that the table needs, in the order of their checks
 abbrev pub calendar_columns : List Column
-calendar_columns = ServiceId ∷ Monday ∷ Tuesday ∷ Wednesday ∷ Thursday ∷ Friday ∷ Saturday ∷ Sunday ∷ StartDate ∷ EndDate ∷ []
+calendar_columns = ServiceId ∷ Monday ∷ Tuesday ∷ Wednesday ∷ Thursday ∷ Friday ∷ Saturday ∷ Sunday
+    ∷ StartDate ∷ EndDate ∷ []
 
 -- whether the service runs on a weekday: `1` if it does, `0` if it does not
 abbrev pub runs_of : List ℕ → Option Bool
 runs_of bytes = option_map (λ d. d == 1) (digit_within 0 1 bytes)
 
 -- the weekdays of a service from Monday, or the first fault in them
-unfoldable pub days_of : ℕ → List ℕ → List ℕ → List ℕ → List ℕ → List ℕ → List ℕ → List ℕ → Result (List Bool) Fault
+unfoldable pub days_of : ℕ → List ℕ → List ℕ → List ℕ → List ℕ → List ℕ → List ℕ → List ℕ
+    → Result (List Bool) Fault
 days_of row monday tuesday wednesday thursday friday saturday sunday = do
   mon ← need (fault row BadNumber) (runs_of monday)
   tue ← need (fault row BadNumber) (runs_of tuesday)
@@ -53,11 +55,15 @@ with_service row name days first last s =
 -- what a row makes of the calendar so far
 abbrev pub calendar_step : Step Calendar
 calendar_step row field s = do
-  days ← days_of row (field Monday) (field Tuesday) (field Wednesday) (field Thursday) (field Friday) (field Saturday) (field Sunday)
+  days ← days_of row (field Monday) (field Tuesday) (field Wednesday) (field Thursday)
+      (field Friday) (field Saturday) (field Sunday)
   first ← need (fault row BadDate) (date_of (field StartDate))
   last ← need (fault row BadDate) (date_of (field EndDate))
   with_service row (field ServiceId) days first last s
 
 -- the table, by all its records: services are numbered on from the names that earlier tables gave
 abbrev pub calendar_of : List (List ℕ) → List (List (List ℕ)) → Result Calendar Fault
-calendar_of names all = table_from calendar_columns calendar_step (record { services = names; rows = [] }) all
+calendar_of names all = table_from calendar_columns calendar_step (record {
+  services = names;
+  rows = [];
+}) all

@@ -47,4 +47,7 @@ date_step row field s = do
 
 -- the table, by all its records: services are numbered on from the names that earlier tables gave
 abbrev pub calendar_dates_of : List (List ℕ) → List (List (List ℕ)) → Result Dates Fault
-calendar_dates_of names all = table_from date_columns date_step (record { services = names; rows = [] }) all
+calendar_dates_of names all = table_from date_columns date_step (record {
+  services = names;
+  rows = [];
+}) all

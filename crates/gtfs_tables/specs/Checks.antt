@@ -37,18 +37,21 @@ all_utf8 (field ∷ fields) = is_utf8 field && all_utf8 fields
 
 -- the header, which is row 1: its fields are UTF-8, and then each needed column is there
 abbrev pub check_header : List Column → List (List ℕ) → Result (Unit {0}) Fault
-check_header needed header = if all_utf8 header then check (fault 1 NoColumn) (has_columns header needed) else Err (fault 1 NotUtf8)
+check_header needed header = if all_utf8 header then check (fault 1 NoColumn)
+    (has_columns header needed) else Err (fault 1 NotUtf8)
 
 -- a row behind the header: it has as many fields as the header, and then its fields are UTF-8
 abbrev pub check_row : ℕ → ℕ → List (List ℕ) → Result (Unit {0}) Fault
-check_row row width fields = if length fields == width then check (fault row NotUtf8) (all_utf8 fields) else Err (fault row FieldCount)
+check_row row width fields = if length fields == width then check (fault row NotUtf8)
+    (all_utf8 fields) else Err (fault row FieldCount)
 
 -- what a row makes of what the rows before it made, by its number and its field in each column
 abbrev pub Step : Type 0 → Type 0
 Step S = ℕ → (Column → List ℕ) → S → Result S Fault
 
 -- the rows from a number on, one after the other
-unfoldable pub rows_from : {S : Type 0} → Step S → List (List ℕ) → ℕ → S → List (List (List ℕ)) → Result S Fault
+unfoldable pub rows_from : {S : Type 0} → Step S → List (List ℕ) → ℕ → S → List (List (List ℕ))
+    → Result S Fault
 rows_from step header row s [] = Ok s
 rows_from step header row s (fields ∷ rest) = do
   _ ← check_row row (length header) fields
@@ -56,7 +59,8 @@ rows_from step header row s (fields ∷ rest) = do
   rows_from step header (row + 1) next rest
 
 -- a table, by all its records: the header, which must be there, and then its rows
-unfoldable pub table_from : {S : Type 0} → List Column → Step S → S → List (List (List ℕ)) → Result S Fault
+unfoldable pub table_from : {S : Type 0} → List Column → Step S → S → List (List (List ℕ))
+    → Result S Fault
 table_from needed step s [] = Err (fault 1 NoColumn)
 table_from needed step s (header ∷ rows) = do
   _ ← check_header needed header
@@ -67,7 +71,8 @@ abbrev pub Fails : {Y : Type 0} → TableError → Result Y Fault → Type 0
 Fails errors.OutOfMemory read = ⊤
 Fails (errors.Bad f) read = read ≡ Err f
 
--- what was made, as it is seen, is what reading gives; an error is want of memory or the fault that reading finds
+-- what was made, as it is seen, is what reading gives; an error is want of memory or the fault that
+-- reading finds
 abbrev pub Gives : {X Y : Type 0} → (X → Y) → Result X TableError → Result Y Fault → Type 0
 Gives view (Ok x) read = read ≡ Ok (view x)
 Gives view (Err e) read = Fails e read

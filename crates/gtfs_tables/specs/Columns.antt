@@ -42,10 +42,12 @@ column_name FeederRouteId = codes "feeder_route_id"
 column_name ConnectingRouteId = codes "connecting_route_id"
 column_name MaxWait = codes "max_wait"
 
--- where the first field with this name stands, counted on from a place; the blanks round a field are passed over
+-- where the first field with this name stands, counted on from a place; the blanks round a field
+-- are passed over
 abbrev pub place_from : List ℕ → ℕ → List (List ℕ) → Option ℕ
 place_from name at [] = None
-place_from name at (field ∷ fields) = if bytes_eq (trimmed field) name then Some at else place_from name (at + 1) fields
+place_from name at (field ∷ fields) = if bytes_eq (trimmed field) name then Some at
+    else place_from name (at + 1) fields
 
 -- where a column stands in a header
 abbrev pub place_of : List (List ℕ) → Column → Option ℕ
@@ -54,7 +56,8 @@ place_of header column = place_from (column_name column) 0 header
 -- the header has each of the columns
 abbrev pub has_columns : List (List ℕ) → List Column → Bool
 has_columns header [] = true
-has_columns header (column ∷ columns) = is_some (place_of header column) && has_columns header columns
+has_columns header (column ∷ columns) = is_some (place_of header column)
+    && has_columns header columns
 
 -- the field of a row at a place without the blanks round it; empty where there is no such place
 abbrev pub field_at_place : List (List ℕ) → Option ℕ → List ℕ

@@ -37,7 +37,8 @@ pub data Content : Type 0 where
 -- the same, by the bytes of the table's file
 abbrev pub content_of : Option (List ℕ) → Content
 content_of None = absent
-content_of (Some bytes) = if nat_lt 268435456 (length bytes) then too_long else holds (records_of bytes)
+content_of (Some bytes) = if nat_lt 268435456 (length bytes) then too_long else holds
+    (records_of bytes)
 
 -- a feed as what it holds of each table
 abbrev pub Contents : Type 0
@@ -61,13 +62,15 @@ fetched t too_long = Err (TooLong t)
 fetched t (holds records) = Ok (Some records)
 
 -- what reading makes of a table that is there, and what stands for one that is absent
-abbrev pub read_content : {A : Type 0} → Table → Result A FeedRefusal → (Records → Result A Fault) → Content → Result A FeedRefusal
+abbrev pub read_content : {A : Type 0} → Table → Result A FeedRefusal → (Records → Result A Fault)
+    → Content → Result A FeedRefusal
 read_content t otherwise read absent = otherwise
 read_content t otherwise read too_long = Err (TooLong t)
 read_content t otherwise read (holds records) = unless_bad t (read records)
 
 -- a table that must be there
-abbrev pub needed : {A : Type 0} → Table → (Records → Result A Fault) → Content → Result A FeedRefusal
+abbrev pub needed : {A : Type 0} → Table → (Records → Result A Fault) → Content
+    → Result A FeedRefusal
 needed t read content = read_content t (Err (Missing t)) read content
 
 -- more rows than a table may have are a refusal
@@ -89,11 +92,18 @@ trips_in contents = needed table.Trips trips_of (contents table.Trips)
 
 -- the calls of the trips
 unfoldable pub calls_in : Contents → List StopRow → List TripRow → Result (List CallRow) FeedRefusal
-calls_in contents stops trips = needed table.StopTimes (stop_times_of (record { trips = trip_ids trips; stops = stops })) (contents table.StopTimes)
+calls_in contents stops trips = needed table.StopTimes (stop_times_of (record {
+  trips = trip_ids
+      trips;
+  stops = stops;
+})) (contents table.StopTimes)
 
 -- the weekdays of services, by the names of services so far; an absent table has no rows
 unfoldable pub calendar_in : Contents → List (List ℕ) → Result Calendar FeedRefusal
-calendar_in contents services = read_content table.Calendar (Ok (record { services = services; rows = [] })) (calendar_of services) (contents table.Calendar)
+calendar_in contents services = read_content table.Calendar (Ok (record {
+  services = services;
+  rows = [];
+})) (calendar_of services) (contents table.Calendar)
 
 -- a table that is not there
 abbrev pub is_absent : Content → Bool
@@ -111,14 +121,16 @@ dates_in contents services =
 -- the changes: at most 1,000,000 rows, those that are not listed among them
 unfoldable pub transfers_in : Contents → List StopRow → Result (List TransferRow) FeedRefusal
 transfers_in contents stops = do
-  transfers ← read_content table.Transfers (Ok (record { rows = []; count = 0 })) (transfers_of (stop_ids stops)) (contents table.Transfers)
+  transfers ← read_content table.Transfers (Ok (record { rows = []; count = 0 }))
+      (transfers_of (stop_ids stops)) (contents table.Transfers)
   _ ← at_most 1000000 what.Transfers transfers.count
   Ok transfers.rows
 
 -- the waiting rules, by the names of routes so far: at most 10,000 rows
 unfoldable pub rules_in : Contents → List StopRow → List (List ℕ) → Result Rules FeedRefusal
 rules_in contents stops routes = do
-  rules ← read_content table.WaitingRules (Ok (record { routes = routes; rows = [] })) (waiting_rules_of stops routes) (contents table.WaitingRules)
+  rules ← read_content table.WaitingRules (Ok (record { routes = routes; rows = [] }))
+      (waiting_rules_of stops routes) (contents table.WaitingRules)
   _ ← at_most 10000 what.Rules (length rules.rows)
   Ok rules
 
@@ -129,7 +141,8 @@ unless_frequencies found = if found then Err Frequencies else Ok tt
 -- no trip runs at intervals
 unfoldable pub frequencies_in : Contents → Result (Unit {0}) FeedRefusal
 frequencies_in contents = do
-  found ← read_content table.Frequencies (Ok false) (λ records. Ok (has_rows records)) (contents table.Frequencies)
+  found ← read_content table.Frequencies (Ok false) (λ records. Ok (has_rows records))
+      (contents table.Frequencies)
   unless_frequencies found
 
 -- the tables of a feed, or the first cause to refuse it

@@ -37,7 +37,8 @@ digits_after n (byte ∷ bytes) = option_and_then (λ d. digits_after (10 * n + 
 
 -- a number of one to nine digits
 abbrev pub number_of : List ℕ → Option ℕ
-number_of bytes = if nat_le 1 (length bytes) && nat_le (length bytes) 9 then digits_after 0 bytes else None
+number_of bytes = if nat_le 1 (length bytes) && nat_le (length bytes) 9 then digits_after 0 bytes
+    else None
 
 -- a number of one to nine digits, 0 where the field is empty
 abbrev pub number_or_zero : List ℕ → Option ℕ
@@ -46,7 +47,8 @@ number_or_zero (byte ∷ bytes) = number_of (byte ∷ bytes)
 
 -- one digit from the least to the most
 unfoldable pub digit_within : ℕ → ℕ → List ℕ → Option ℕ
-digit_within least most (byte ∷ []) = option_and_then (λ d. if nat_le least d && nat_le d most then Some d else None) (digit byte)
+digit_within least most (byte ∷ []) =
+    option_and_then (λ d. if nat_le least d && nat_le d most then Some d else None) (digit byte)
 digit_within least most bytes = None
 
 -- the kind of place that a digit stands for; 48 is `0`
@@ -59,7 +61,8 @@ kind_of_digit byte =
     else (if byte == 52 then Some BoardingArea
     else None))))
 
--- the kind of place that a `location_type` stands for: one digit from 0 to 4, and an empty field for 0
+-- the kind of place that a `location_type` stands for: one digit from 0 to 4, and an empty field
+-- for 0
 abbrev pub location_kind : List ℕ → Option PlaceKind
 location_kind [] = Some Platform
 location_kind (byte ∷ []) = kind_of_digit byte
@@ -67,18 +70,24 @@ location_kind bytes = None
 
 -- two digits
 abbrev pub two : ℕ → ℕ → Option ℕ
-two a b = option_and_then (λ tens. option_and_then (λ ones. Some (10 * tens + ones)) (digit b)) (digit a)
+two a b = option_and_then (λ tens. option_and_then (λ ones. Some (10 * tens + ones)) (digit b))
+    (digit a)
 
 -- `:MM:SS` behind the hours, in seconds, with minutes and seconds below 60; 58 is `:`
 unfoldable pub clock : ℕ → List ℕ → Option ℕ
-clock hours (x ∷ a ∷ b ∷ y ∷ c ∷ d ∷ []) = if (x == 58) && (y == 58) then option_and_then (λ m. option_and_then (λ s. Some (3600 * hours + 60 * m + s)) (option_and_then (below 60) (two c d))) (option_and_then (below 60) (two a b)) else None
+clock hours (x ∷ a ∷ b ∷ y ∷ c ∷ d ∷ []) =
+    if (x == 58) && (y == 58) then option_and_then
+    (λ m. option_and_then (λ s. Some (3600 * hours + 60 * m + s))
+    (option_and_then (below 60) (two c d))) (option_and_then (below 60) (two a b)) else None
 clock hours bytes = None
 
 -- `H:MM:SS` or `HH:MM:SS`, in seconds
 unfoldable pub seconds_of : List ℕ → Option ℕ
 seconds_of [] = None
 seconds_of (h ∷ []) = None
-seconds_of (g ∷ h ∷ rest) = if length rest == 5 then option_and_then (λ hours. clock hours (h ∷ rest)) (digit g) else option_and_then (λ hours. clock hours rest) (two g h)
+seconds_of (g ∷ h ∷ rest) = if length rest == 5 then option_and_then
+    (λ hours. clock hours (h ∷ rest)) (digit g) else option_and_then (λ hours. clock hours rest)
+    (two g h)
 
 -- a time: no time where the field is empty, else the seconds of `H:MM:SS` or `HH:MM:SS`
 abbrev pub time_of : List ℕ → Option (Option ℕ)
@@ -87,9 +96,14 @@ time_of (byte ∷ bytes) = option_map (λ seconds. Some seconds) (seconds_of (by
 
 -- eight digits, as the number YYYYMMDD
 unfoldable pub eight_digits : List ℕ → Option ℕ
-eight_digits (a ∷ b ∷ c ∷ d ∷ e ∷ f ∷ g ∷ h ∷ []) = option_and_then (λ century. option_and_then (λ year. option_and_then (λ month. option_and_then (λ day. Some (1000000 * century + 10000 * year + 100 * month + day)) (two g h)) (two e f)) (two c d)) (two a b)
+eight_digits (a ∷ b ∷ c ∷ d ∷ e ∷ f ∷ g ∷ h ∷ []) =
+    option_and_then (λ century. option_and_then (λ year.
+    option_and_then (λ month. option_and_then (λ day.
+    Some (1000000 * century + 10000 * year + 100 * month + day)) (two g h)) (two e f))
+    (two c d)) (two a b)
 eight_digits bytes = None
 
 -- eight digits that name a civil date
 unfoldable pub date_of : List ℕ → Option ℕ
-date_of bytes = option_and_then (λ date. if is_civil date then Some date else None) (eight_digits bytes)
+date_of bytes = option_and_then (λ date. if is_civil date then Some date else None)
+    (eight_digits bytes)

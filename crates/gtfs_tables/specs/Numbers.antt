@@ -5,7 +5,8 @@ use Rattle.std.specs.declared.option.Option.{Option}
 -- the place of a name, counted on from a number
 abbrev pub number_from : ℕ → List ℕ → List (List ℕ) → Option ℕ
 number_from at name [] = None
-number_from at name (first ∷ names) = if bytes_eq name first then Some at else number_from (at + 1) name names
+number_from at name (first ∷ names) = if bytes_eq name first then Some at else number_from
+    (at + 1) name names
 
 -- the names, with the name at their end if it is a new one
 abbrev pub with_name : Option ℕ → List ℕ → List (List ℕ) → List (List ℕ)

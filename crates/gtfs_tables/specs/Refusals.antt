@@ -14,7 +14,8 @@ IsErrorOf (Refused why) held = held ≡ Err why
 IsErrorOf ReadFault held = ⊤
 IsErrorOf OutOfMemory held = ⊤
 
--- what was made, as it is seen, is what the feed holds, or an error is the refusal that the feed holds
+-- what was made, as it is seen, is what the feed holds, or an error is the refusal that the feed
+-- holds
 abbrev pub Yields : {X Y : Type 0} → (X → Y) → Result X FeedError → Result Y FeedRefusal → Type 0
 Yields view (Ok x) held = held ≡ Ok (view x)
 Yields view (Err e) held = IsErrorOf e held

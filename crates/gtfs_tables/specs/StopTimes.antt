@@ -1,4 +1,5 @@
--- What the rows of `stop_times.txt` mean, or the first fault in them (GTFS Schedule, stop_times.txt).
+-- What the rows of `stop_times.txt` mean, or the first fault in them (GTFS Schedule,
+-- stop_times.txt).
 use Rattle.std.specs.Prelude.{ℕ, ◌==◌, ◌&&◌, ◌||◌, not, List, [], ◌∷◌, ◌++◌, Bool, false, nat_le, if◌then◌else◌, Some, None, Result, Ok, Err, is_none, is_some, unwrap_or, slice_get, option_and_then}
 use Rattle.std.specs.declared.option.Option.{Option}
 use Rattle.std.specs.Option.{option_map_or}
@@ -38,14 +39,16 @@ is_stop stops n = option_map_or (λ (row : StopRow). is_platform row.kind) (slic
 
 -- the number of the stop or platform with an id
 abbrev pub stop_named : List StopRow → List ℕ → Option ℕ
-stop_named stops id = option_and_then (λ n. if is_stop stops n then Some n else None) (number_from 0 id (stop_ids stops))
+stop_named stops id = option_and_then (λ n. if is_stop stops n then Some n else None)
+    (number_from 0 id (stop_ids stops))
 
 -- a pickup or drop-off of type 1 is forbidden, and every other one is regular
 abbrev pub is_regular : ℕ → Bool
 is_regular kind = not (kind == 1)
 
 -- a row from its texts, or the first fault in them
-unfoldable pub call_of : Named → ℕ → List ℕ → List ℕ → List ℕ → List ℕ → List ℕ → List ℕ → List ℕ → Result CallRow Fault
+unfoldable pub call_of : Named → ℕ → List ℕ → List ℕ → List ℕ → List ℕ → List ℕ → List ℕ → List ℕ
+    → Result CallRow Fault
 call_of named row trip arr dep stop seq pickup drop_off = do
   t ← need (fault row UnknownReference) (number_from 0 trip named.trips)
   a ← need (fault row BadTime) (time_of arr)
@@ -54,7 +57,15 @@ call_of named row trip arr dep stop seq pickup drop_off = do
   s ← need (fault row BadNumber) (number_of seq)
   u ← need (fault row BadNumber) (number_or_zero pickup)
   o ← need (fault row BadNumber) (number_or_zero drop_off)
-  Ok (record { trip = t; stop = p; seq = s; arr = a; dep = d; board = is_regular u; alight = is_regular o })
+  Ok (record {
+    trip = t;
+    stop = p;
+    seq = s;
+    arr = a;
+    dep = d;
+    board = is_regular u;
+    alight = is_regular o;
+  })
 
 -- the number of a trip, and a stop_sequence
 abbrev pub Key : Type 0
@@ -76,16 +87,22 @@ no_calls = record { rows = []; by_key = [] }
 -- the calls with one row more, whose key no earlier row has
 unfoldable pub with_call : ℕ → CallRow → Calls → Result Calls Fault
 with_call row call s =
-    check (fault row DuplicateKey) (is_none (lookup (is_at (key_cmp (call.trip, call.seq))) s.by_key))
+    check (fault row DuplicateKey)
+    (is_none (lookup (is_at (key_cmp (call.trip, call.seq))) s.by_key))
     >>= λ _. Ok (record {
       rows = s.rows ++ call ∷ [];
-      by_key = insert_entry key_cmp s.by_key (call.trip, call.seq) (record { row = row; arr = call.arr; dep = call.dep });
+      by_key = insert_entry key_cmp s.by_key (call.trip, call.seq) (record {
+        row = row;
+        arr = call.arr;
+        dep = call.dep;
+      });
     })
 
 -- what a row makes of the calls so far, by what it may name
 abbrev pub call_step : Named → Step Calls
 call_step named row field s =
-    call_of named row (field TripId) (field ArrivalTime) (field DepartureTime) (field StopId) (field StopSequence) (field PickupType) (field DropOffType)
+    call_of named row (field TripId) (field ArrivalTime) (field DepartureTime) (field StopId)
+    (field StopSequence) (field PickupType) (field DropOffType)
     >>= λ call. with_call row call s
 
 -- the call has a time
@@ -105,13 +122,17 @@ abbrev pub last_call : CallTimes → List CallTimes → CallTimes
 last_call call [] = call
 last_call call (next ∷ rest) = last_call next rest
 
--- no call with a time arrives before the departure of the one before it, or departs before it arrives
+-- no call with a time arrives before the departure of the one before it, or departs before it
+-- arrives
 unfoldable pub check_order : ℕ → List CallTimes → Result (Unit {0}) Fault
 check_order before [] = Ok tt
 check_order before (call ∷ rest) =
-    if is_timed call then (if nat_le before (arrival call) && nat_le (arrival call) (departure call) then check_order (departure call) rest else Err (fault call.row BackwardsTimes)) else check_order before rest
+    if is_timed call then (if nat_le before (arrival call) && nat_le (arrival call) (departure call)
+    then check_order (departure call) rest else Err (fault call.row BackwardsTimes))
+    else check_order before rest
 
--- the calls of a trip by stop_sequence: more than one, the first and then the last with a time, and the times in order
+-- the calls of a trip by stop_sequence: more than one, the first and then the last with a time, and
+-- the times in order
 unfoldable pub check_trip : List CallTimes → Result (Unit {0}) Fault
 check_trip [] = Ok tt
 check_trip (call ∷ []) = Err (fault call.row TooFewCalls)
@@ -120,14 +141,16 @@ check_trip (call ∷ next ∷ rest) = do
   _ ← check (fault (last_call next rest).row UntimedEnd) (is_timed (last_call next rest))
   check_order 0 (call ∷ next ∷ rest)
 
--- trip by trip, where the calls of one trip stand together: the calls of the current trip that were passed, and the rest
+-- trip by trip, where the calls of one trip stand together: the calls of the current trip that were
+-- passed, and the rest
 unfoldable pub check_trips : ℕ → List CallTimes → List (Key × CallTimes) → Result (Unit {0}) Fault
 check_trips trip passed [] = check_trip passed
 check_trips trip passed (entry ∷ rest) =
     if entry.0.0 == trip then check_trips trip (passed ++ entry.1 ∷ []) rest
     else (check_trip passed >>= λ _. check_trips entry.0.0 (entry.1 ∷ []) rest)
 
--- the table, by what it may name and all its records: its rows one after the other, and then its trips in the order of trips.txt
+-- the table, by what it may name and all its records: its rows one after the other, and then its
+-- trips in the order of trips.txt
 unfoldable pub stop_times_of : Named → List (List (List ℕ)) → Result (List CallRow) Fault
 stop_times_of named all = do
   calls ← table_from needed_columns (call_step named) no_calls all

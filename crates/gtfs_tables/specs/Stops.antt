@@ -31,38 +31,48 @@ line_ids lines = map (λ (line : StopLine). line.id) lines
 
 -- the rows with one more, whose `stop_id` no earlier row has
 abbrev pub with_stop : ℕ → StopLine → List StopLine → Result (List StopLine) Fault
-with_stop row line lines = check (fault row DuplicateKey) (is_none (number_from 0 line.id (line_ids lines))) >>= λ _. Ok (lines ++ line ∷ [])
+with_stop row line lines = check (fault row DuplicateKey)
+    (is_none (number_from 0 line.id (line_ids lines))) >>= λ _. Ok (lines ++ line ∷ [])
 
 -- the rows with one more, by its texts
 abbrev pub stop_added : ℕ → List ℕ → List ℕ → List ℕ → List StopLine → Result (List StopLine) Fault
-stop_added row id kind parent lines = stop_of row id kind parent >>= λ line. with_stop row line lines
+stop_added row id kind parent lines = stop_of row id kind parent >>= λ line.
+    with_stop row line lines
 
 -- what a row makes of the rows so far
 abbrev pub stop_step : Step (List StopLine)
-stop_step row field lines = stop_added row (field StopId) (field LocationType) (field ParentStation) lines
+stop_step row field lines = stop_added row (field StopId) (field LocationType)
+    (field ParentStation) lines
 
 -- the row with a number is a station
 abbrev pub has_station : List StopLine → ℕ → Bool
-has_station lines n = option_map_or (λ (line : StopLine). is_station line.kind) (slice_get lines n) false
+has_station lines n = option_map_or (λ (line : StopLine). is_station line.kind)
+    (slice_get lines n) false
 
 -- the number of the station with an id
 abbrev pub station_in : List StopLine → List ℕ → Option ℕ
-station_in lines id = option_and_then (λ n. if has_station lines n then Some n else None) (number_from 0 id (line_ids lines))
+station_in lines id = option_and_then (λ n. if has_station lines n then Some n else None)
+    (number_from 0 id (line_ids lines))
 
 -- a stop or platform with a `parent_station`; that of other rows is not looked at
 abbrev pub has_parent : StopLine → Bool
 has_parent line = is_platform line.kind && not (length line.parent == 0)
 
--- the number of the station that a row belongs to; a `parent_station` that is no station's id is a fault of the row
+-- the number of the station that a row belongs to; a `parent_station` that is no station's id is a
+-- fault of the row
 abbrev pub parent_of : List StopLine → ℕ → StopLine → Result (Option ℕ) Fault
-parent_of lines row line = if has_parent line then need (fault row UnknownReference) (option_map (λ n. Some n) (station_in lines line.parent)) else Ok None
+parent_of lines row line = if has_parent line then need (fault row UnknownReference)
+    (option_map (λ n. Some n) (station_in lines line.parent)) else Ok None
 
--- the rows with their stations: the rows before the row of a number as they are given, then the others in their order
-unfoldable pub with_stations : List StopLine → ℕ → List StopRow → List StopLine → Result (List StopRow) Fault
+-- the rows with their stations: the rows before the row of a number as they are given, then the
+-- others in their order
+unfoldable pub with_stations : List StopLine → ℕ → List StopRow → List StopLine
+    → Result (List StopRow) Fault
 with_stations lines row rows [] = Ok rows
 with_stations lines row rows (line ∷ rest) = do
   parent ← parent_of lines row line
-  with_stations lines (row + 1) (rows ++ record { id = line.id; kind = line.kind; parent = parent } ∷ []) rest
+  with_stations lines (row + 1) (rows ++ record { id = line.id; kind = line.kind; parent = parent }
+      ∷ []) rest
 
 -- the ids of the stops
 abbrev pub stop_ids : List StopRow → List (List ℕ)

@@ -26,9 +26,11 @@ pub record Rests (reader : Reader Text) : Type 0 where
 
 -- these are all the records that it has yet to read
 abbrev pub Remains : Reader Text → List (List (List ℕ)) → Type 0
-Remains reader all = (bytes : List ℕ) × (source_of known reader ≡ Some bytes) × AreRecords default_config (reader_state reader) bytes all
+Remains reader all = (bytes : List ℕ) × (source_of known reader ≡ Some bytes)
+    × AreRecords default_config (reader_state reader) bytes all
 
 -- the first of them was read, or there is none
 abbrev pub Steps : Reader Text → Reader Text → Bool → List (List ℕ) → Type 0
-Steps old new true fields = (all : List (List (List ℕ))) → Remains old all → (rest : List (List (List ℕ))) × (all ≡ fields ∷ rest) × Remains new rest
+Steps old new true fields = (all : List (List (List ℕ))) → Remains old all
+    → (rest : List (List (List ℕ))) × (all ≡ fields ∷ rest) × Remains new rest
 Steps old new false fields = (all : List (List (List ℕ))) → Remains old all → all ≡ []

@@ -31,16 +31,23 @@ number_if_any (byte ∷ bytes) = option_map (λ n. Some n) (number_of (byte ∷ 
 -- the row is for all routes and trips
 abbrev pub is_for_all : List ℕ → List ℕ → List ℕ → List ℕ → Bool
 is_for_all from_route to_route from_trip to_trip =
-    (length from_route == 0) && (length to_route == 0) && (length from_trip == 0) && (length to_trip == 0)
+    (length from_route == 0) && (length to_route == 0) && (length from_trip == 0)
+    && (length to_trip == 0)
 
--- the change between two stops, with its transfer_type and its min_transfer_time in seconds: none where the row does not
--- give both stops, or is not for all routes and trips
+-- the change between two stops, with its transfer_type and its min_transfer_time in seconds: none
+-- where the row does not give both stops, or is not for all routes and trips
 abbrev pub listed : Option ℕ → Option ℕ → ℕ → Option ℕ → Bool → Option TransferRow
-listed (Some from_stop) (Some to_stop) kind seconds true = Some (record { from_stop = from_stop; to_stop = to_stop; kind = kind; seconds = seconds })
+listed (Some from_stop) (Some to_stop) kind seconds true = Some (record {
+  from_stop = from_stop;
+  to_stop = to_stop;
+  kind = kind;
+  seconds = seconds;
+})
 listed from_stop to_stop kind seconds for_all = None
 
 -- the change from the fields of its row, or the first fault in them
-unfoldable pub transfer_of : List (List ℕ) → ℕ → List ℕ → List ℕ → List ℕ → List ℕ → Bool → Result (Option TransferRow) Fault
+unfoldable pub transfer_of : List (List ℕ) → ℕ → List ℕ → List ℕ → List ℕ → List ℕ → Bool
+    → Result (Option TransferRow) Fault
 transfer_of stops row from_id to_id transfer_type least for_all = do
   from_stop ← need (fault row UnknownReference) (stop_of stops from_id)
   to_stop ← need (fault row UnknownReference) (stop_of stops to_id)
@@ -61,7 +68,8 @@ with_transfer (Some t) s = record { rows = s.rows ++ t ∷ []; count = s.count +
 -- what a row makes of the transfers so far, by the ids of stops.txt
 abbrev pub transfer_step : List (List ℕ) → Step Transfers
 transfer_step stops row field s =
-    transfer_of stops row (field FromStopId) (field ToStopId) (field TransferType) (field MinTransferTime)
+    transfer_of stops row (field FromStopId) (field ToStopId) (field TransferType)
+    (field MinTransferTime)
     (is_for_all (field FromRouteId) (field ToRouteId) (field FromTripId) (field ToTripId))
     >>= λ t. Ok (with_transfer t s)
 

@@ -6,7 +6,11 @@ use Rattle.gtfs_tables.specs.Trips.{ListedTrips, trip_ids}
 
 -- what the rows made
 abbrev pub trips_view : TripTable → ListedTrips
-trips_view t = record { rows = t.rows.items; routes = t.routes.names.items; services = t.services.names.items }
+trips_view t = record {
+  rows = t.rows.items;
+  routes = t.routes.names.items;
+  services = t.services.names.items;
+}
 
 -- its trips, routes and services are found by number
 pub record IsTripTable (t : TripTable) : Type 0 where

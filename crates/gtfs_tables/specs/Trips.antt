@@ -12,7 +12,8 @@ use Rattle.gtfs_tables.specs.Numbers.{number_from, number_in, names_with}
 abbrev pub trip_columns : List Column
 trip_columns = RouteId ∷ ServiceId ∷ TripId ∷ []
 
--- the trips in the order of the rows, and the names of their routes and services in the order in which they first appear
+-- the trips in the order of the rows, and the names of their routes and services in the order in
+-- which they first appear
 pub record ListedTrips : Type 0 where
   pub rows : List TripRow
   pub routes : List (List ℕ)
@@ -31,7 +32,11 @@ abbrev pub with_trip : ℕ → List ℕ → List ℕ → List ℕ → ListedTrip
 with_trip row route service id s =
     check (fault row DuplicateKey) (is_none (number_from 0 id (trip_ids s.rows)))
     >>= λ _. Ok (record {
-      rows = s.rows ++ record { id = id; route = number_in route s.routes; service = number_in service s.services } ∷ [];
+      rows = s.rows ++ record {
+        id = id;
+        route = number_in route s.routes;
+        service = number_in service s.services;
+      } ∷ [];
       routes = names_with route s.routes;
       services = names_with service s.services;
     })

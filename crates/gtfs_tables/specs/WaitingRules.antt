@@ -20,13 +20,16 @@ rule_columns = FeederRouteId ∷ ConnectingRouteId ∷ StopId ∷ MaxWait ∷ []
 
 -- the location of a number is a stop, a platform or a station
 abbrev pub is_stop_or_station : List StopRow → ℕ → Bool
-is_stop_or_station stops n = option_map_or (λ (row : StopRow). is_platform_or_station row.kind) (slice_get stops n) false
+is_stop_or_station stops n = option_map_or (λ (row : StopRow). is_platform_or_station row.kind)
+    (slice_get stops n) false
 
--- where a train waits: at any place where the field is empty, else at the stop, platform or station with this id
+-- where a train waits: at any place where the field is empty, else at the stop, platform or station
+-- with this id
 abbrev pub waiting_place : List StopRow → List ℕ → Option (Option ℕ)
 waiting_place stops [] = Some None
 waiting_place stops (byte ∷ bytes) =
-    option_and_then (λ n. if is_stop_or_station stops n then Some (Some n) else None) (number_from 0 (byte ∷ bytes) (stop_ids stops))
+    option_and_then (λ n. if is_stop_or_station stops n then Some (Some n) else None)
+    (number_from 0 (byte ∷ bytes) (stop_ids stops))
 
 -- a longest wait: a number of one to nine digits that is at most 86,400 seconds
 abbrev pub wait_of : List ℕ → Option ℕ
@@ -53,7 +56,12 @@ with_rule feeder connecting place longest s =
     let routes = routes_with feeder s.routes in
     record {
       routes = routes_with connecting routes;
-      rows = s.rows ++ record { feeder = route_in feeder s.routes; connecting = route_in connecting routes; stop = place; max_wait = longest } ∷ [];
+      rows = s.rows ++ record {
+        feeder = route_in feeder s.routes;
+        connecting = route_in connecting routes;
+        stop = place;
+        max_wait = longest;
+      } ∷ [];
     }
 
 -- what a row makes of the rules so far, by the rows of stops.txt
@@ -63,6 +71,8 @@ rule_step stops row field s = do
   longest ← need (fault row BadNumber) (wait_of (field MaxWait))
   Ok (with_rule (field FeederRouteId) (field ConnectingRouteId) place longest s)
 
--- the table, by the rows of stops.txt and all its records: routes are numbered on from the names that earlier tables gave
-abbrev pub waiting_rules_of : List StopRow → List (List ℕ) → List (List (List ℕ)) → Result Rules Fault
+-- the table, by the rows of stops.txt and all its records: routes are numbered on from the names
+-- that earlier tables gave
+abbrev pub waiting_rules_of : List StopRow → List (List ℕ) → List (List (List ℕ))
+    → Result Rules Fault
 waiting_rules_of stops names all = table_from rule_columns (rule_step stops) (record { routes = names; rows = [] }) all

@@ -43,8 +43,11 @@ pub(crate) trait TableBuilder {
         requires text { all_utf8 (fields_of sheet.now.current) ≡ true }
         ensures sound { OnOk result (IsSound self.new) }
         ensures given { given self.new ≡ given self.old }
-        ensures made { (header : List (List ℕ)) → sheet.now.places.items ≡ map (place_of header) columns
-            → Gives (λ u. made self.new) result (step (given self.old) row (field_in header (fields_of sheet.now.current)) (made self.old)) };
+        ensures made { (header : List (List ℕ)) → sheet.now.places.items
+            ≡ map (place_of header) columns
+            → Gives (λ u. made self.new) result
+            (step (given self.old) row (field_in header (fields_of sheet.now.current))
+            (made self.old)) };
 }
 
 // The rows behind the header. No text in memory has so many rows that their numbers run out.
@@ -57,8 +60,10 @@ fn add_rows<T: TableBuilder>(
     requires columns { length sheet.old.places.items ≡ length T.columns }
     requires sound { T.IsSound table.old }
     ensures sound { OnOk result (T.IsSound table.new) }
-    ensures made { (header : List (List ℕ)) (all : List (List (List ℕ))) → IsUnder header T.columns sheet.old → Remains sheet.old.reader all
-        → Gives (λ u. T.made table.new) result (rows_from (T.step (T.given table.old)) header 2 (T.made table.old) all) }
+    ensures made { (header : List (List ℕ)) (all : List (List (List ℕ)))
+        → IsUnder header T.columns sheet.old → Remains sheet.old.reader all
+        → Gives (λ u. T.made table.new) result (rows_from (T.step (T.given table.old)) header 2
+        (T.made table.old) all) }
 {
     for row in 2..u64::MAX {
         if !sheet.advance(row)? {
@@ -69,7 +74,8 @@ fn add_rows<T: TableBuilder>(
     Err(TableError::OutOfMemory)
 }
 
-/// Adds all rows of a text with the columns that it needs and those that it may have, or answers its first fault.
+/// Adds all rows of a text with the columns that it needs and those that it may have, or answers
+/// its first fault.
 pub(crate) fn build_table<T: TableBuilder>(
     alloc: Global,
     text: &[u8],
@@ -80,7 +86,9 @@ pub(crate) fn build_table<T: TableBuilder>(
     requires columns { needed.now ++ others.now ≡ T.columns }
     requires sound { T.IsSound table.old }
     ensures sound { OnOk result (T.IsSound table.new) }
-    ensures made { (all : List (List (List ℕ))) → AreRecordsOf text.now all → Gives (λ u. T.made table.new) result (table_from needed.now (T.step (T.given table.old)) (T.made table.old) all) }
+    ensures made { (all : List (List (List ℕ))) → AreRecordsOf text.now all
+        → Gives (λ u. T.made table.new) result (table_from needed.now (T.step (T.given table.old))
+        (T.made table.old) all) }
 {
     let mut sheet = Sheet::open(alloc, text, needed, others)?;
     add_rows(alloc, &mut sheet, table)

@@ -38,7 +38,8 @@ fn runs(bytes: &[u8]) -> Option<bool>
 #[tactic(auto, unfolding(crate::specs::Calendar::days_of))]
 fn read_days(sheet: &Sheet<'_>, row: u64) -> Result<[bool; 7], TableError>
     requires { length sheet.now.places.items ≡ 10 }
-    ensures { Gives (λ days. days) result (days_of row (cell sheet.now 1) (cell sheet.now 2) (cell sheet.now 3)
+    ensures { Gives (λ days. days) result (days_of row (cell sheet.now 1) (cell sheet.now 2)
+        (cell sheet.now 3)
         (cell sheet.now 4) (cell sheet.now 5) (cell sheet.now 6) (cell sheet.now 7)) }
 {
     let monday = need(row, Cause::BadNumber, runs(sheet.field(1)))?;
@@ -67,7 +68,8 @@ impl CalendarTable {
     ) -> Result<(), TableError>
         requires { IsKeyedCalendar self.old }
         ensures keyed { OnOk result (IsKeyedCalendar self.new) }
-        ensures made { Gives (λ u. calendar_view self.new) result (with_service row name.now days first last (calendar_view self.old)) }
+        ensures made { Gives (λ u. calendar_view self.new) result
+            (with_service row name.now days first last (calendar_view self.old)) }
     {
         let service = self.services.number(alloc, name)?;
         if !self.keys.insert(service)? {
@@ -111,10 +113,10 @@ impl TableBuilder for CalendarTable {
     }
 }
 
-/// The rows of calendar.txt (GTFS Schedule, calendar.txt), or the first fault in it, by the list of all records of the
-/// text: BadNumber for a weekday that is not `0` or `1`, BadDate for a start or end that is no civil date, DuplicateKey
-/// for a second row of a service. Services that no earlier table names are numbered on; after an error `services` is of
-/// no more use.
+/// The rows of calendar.txt (GTFS Schedule, calendar.txt), or the first fault in it, by the list of
+/// all records of the text: BadNumber for a weekday that is not `0` or `1`, BadDate for a start or
+/// end that is no civil date, DuplicateKey for a second row of a service. Services that no earlier
+/// table names are numbered on; after an error `services` is of no more use.
 pub(crate) fn read_calendar(
     alloc: Global,
     text: &[u8],
@@ -123,7 +125,8 @@ pub(crate) fn read_calendar(
     requires { IsNumbered services.old }
     ensures numbered { OnOk result (IsNumbered services.new) }
     ensures rows { (all : List (List (List ℕ))) → AreRecordsOf text.now all
-        → Gives (λ rows. record { services = names_of services.new; rows = rows }) result (calendar_of (names_of services.old) all) }
+        → Gives (λ rows. record { services = names_of services.new; rows = rows }) result
+        (calendar_of (names_of services.old) all) }
 {
     let needed = [
         Column::ServiceId,

@@ -47,7 +47,8 @@ impl DateTable {
     ) -> Result<(), TableError>
         requires { IsKeyedDates self.old }
         ensures keyed { OnOk result (IsKeyedDates self.new) }
-        ensures made { Gives (λ u. dates_view self.new) result (with_date row name.now date added (dates_view self.old)) }
+        ensures made { Gives (λ u. dates_view self.new) result
+            (with_date row name.now date added (dates_view self.old)) }
     {
         let service = self.services.number(alloc, name)?;
         if !self.keys.insert((service, date))? {
@@ -89,10 +90,10 @@ impl TableBuilder for DateTable {
     }
 }
 
-/// The rows of calendar_dates.txt (GTFS Schedule, calendar_dates.txt), or the first fault in it, by the list of all
-/// records of the text: BadDate for no civil date, BadNumber for an exception_type that is not `1` or `2`, DuplicateKey
-/// for a second row of a service and a date. Services that no earlier table names are numbered on; after an error
-/// `services` is of no more use.
+/// The rows of calendar_dates.txt (GTFS Schedule, calendar_dates.txt), or the first fault in it, by
+/// the list of all records of the text: BadDate for no civil date, BadNumber for an exception_type
+/// that is not `1` or `2`, DuplicateKey for a second row of a service and a date. Services that no
+/// earlier table names are numbered on; after an error `services` is of no more use.
 pub(crate) fn read_calendar_dates(
     alloc: Global,
     text: &[u8],
@@ -101,7 +102,8 @@ pub(crate) fn read_calendar_dates(
     requires { IsNumbered services.old }
     ensures numbered { OnOk result (IsNumbered services.new) }
     ensures rows { (all : List (List (List ℕ))) → AreRecordsOf text.now all
-        → Gives (λ rows. record { services = names_of services.new; rows = rows }) result (calendar_dates_of (names_of services.old) all) }
+        → Gives (λ rows. record { services = names_of services.new; rows = rows }) result
+        (calendar_dates_of (names_of services.old) all) }
 {
     let needed = [Column::ServiceId, Column::Date, Column::ExceptionType];
     let mut table = DateTable {

@@ -73,8 +73,11 @@ fn read_call(
 ) -> Result<CallRow, TableError>
     requires columns { length sheet.now.places.items ≡ 7 }
     requires text { all_utf8 (fields_of sheet.now.current) ≡ true }
-    ensures { Gives (λ call. call) result (call_of (record { trips = trip_ids trips.now.rows; stops = stops.now }) row (cell sheet.now 0) (cell sheet.now 1)
-        (cell sheet.now 2) (cell sheet.now 3) (cell sheet.now 4) (cell sheet.now 5) (cell sheet.now 6)) }
+    ensures { Gives (λ call. call) result
+        (call_of (record { trips = trip_ids trips.now.rows; stops = stops.now }) row
+        (cell sheet.now 0) (cell sheet.now 1)
+        (cell sheet.now 2) (cell sheet.now 3) (cell sheet.now 4) (cell sheet.now 5)
+        (cell sheet.now 6)) }
 {
     let trip = need(row, Cause::UnknownReference, trips.find(sheet.text(0)))?;
     let arr = need(row, Cause::BadTime, time(sheet.field(1)))?;
@@ -103,7 +106,8 @@ impl CallTable<'_> {
     #[tactic(auto, unfolding(crate::specs::StopTimes::with_call))]
     fn add(&mut self, row: u64, call: &CallRow) -> Result<(), TableError>
         ensures named { named_of self.new ≡ named_of self.old }
-        ensures made { Gives (λ u. calls_view self.new) result (with_call row call.now (calls_view self.old)) }
+        ensures made { Gives (λ u. calls_view self.new) result
+            (with_call row call.now (calls_view self.old)) }
     {
         let times = CallTimes {
             row,

@@ -31,8 +31,10 @@ use std::alloc::Global;
 /// The text of a table, where there is one.
 fn fetch<F: Feed>(feed: &mut F, folder: &str, table: Table) -> Result<Option<Vec<u8>>, FeedError>
     ensures text { (files : List ℕ → List ℕ → Option (List ℕ)) → F.tables feed.old ≡ Some files
-        → Yields (λ text. option_map (λ bytes. records_of bytes.items) text) result (fetched table (contents_of files folder.now table)) }
-    ensures failed { IsErrOf result FeedError.ReadFault → Rose (F.faults feed.old) (F.faults feed.new) }
+        → Yields (λ text. option_map (λ bytes. records_of bytes.items) text) result
+        (fetched table (contents_of files folder.now table)) }
+    ensures failed { IsErrOf result FeedError.ReadFault
+        → Rose (F.faults feed.old) (F.faults feed.new) }
     ensures later { F.faults feed.old ≤ F.faults feed.new }
     ensures same { F.tables feed.new ≡ F.tables feed.old }
 {
@@ -87,7 +89,8 @@ fn read_stops_in<F: Feed>(alloc: Global, feed: &mut F, folder: &str) -> Result<S
     ensures made { (files : List ℕ → List ℕ → Option (List ℕ)) → F.tables feed.old ≡ Some files
         → Yields (λ stops. stops) result (stops_in (contents_of files folder.now)) }
     ensures some { IfOk result (λ stops. (contents : Contents) × (stops_in contents ≡ Ok stops)) }
-    ensures failed { IsErrOf result FeedError.ReadFault → Rose (F.faults feed.old) (F.faults feed.new) }
+    ensures failed { IsErrOf result FeedError.ReadFault
+        → Rose (F.faults feed.old) (F.faults feed.new) }
     ensures later { F.faults feed.old ≤ F.faults feed.new }
     ensures same { F.tables feed.new ≡ F.tables feed.old }
 {
@@ -104,7 +107,8 @@ fn read_trips_in<F: Feed>(alloc: Global, feed: &mut F, folder: &str) -> Result<T
     ensures made { (files : List ℕ → List ℕ → Option (List ℕ)) → F.tables feed.old ≡ Some files
         → Yields (λ trips. trips) result (trips_in (contents_of files folder.now)) }
     ensures some { IfOk result (λ trips. (contents : Contents) × (trips_in contents ≡ Ok trips)) }
-    ensures failed { IsErrOf result FeedError.ReadFault → Rose (F.faults feed.old) (F.faults feed.new) }
+    ensures failed { IsErrOf result FeedError.ReadFault
+        → Rose (F.faults feed.old) (F.faults feed.new) }
     ensures later { F.faults feed.old ≤ F.faults feed.new }
     ensures same { F.tables feed.new ≡ F.tables feed.old }
 {
@@ -123,9 +127,12 @@ fn read_calls_in<F: Feed>(
     trips: &Trips,
 ) -> Result<Rows<CallRow>, FeedError>
     ensures made { (files : List ℕ → List ℕ → Option (List ℕ)) → F.tables feed.old ≡ Some files
-        → Yields (λ calls. calls) result (calls_in (contents_of files folder.now) stops.now trips.now.rows) }
-    ensures some { IfOk result (λ calls. (contents : Contents) × (calls_in contents stops.now trips.now.rows ≡ Ok calls)) }
-    ensures failed { IsErrOf result FeedError.ReadFault → Rose (F.faults feed.old) (F.faults feed.new) }
+        → Yields (λ calls. calls) result
+        (calls_in (contents_of files folder.now) stops.now trips.now.rows) }
+    ensures some { IfOk result (λ calls. (contents : Contents)
+        × (calls_in contents stops.now trips.now.rows ≡ Ok calls)) }
+    ensures failed { IsErrOf result FeedError.ReadFault
+        → Rose (F.faults feed.old) (F.faults feed.new) }
     ensures later { F.faults feed.old ≤ F.faults feed.new }
     ensures same { F.tables feed.new ≡ F.tables feed.old }
 {
@@ -147,12 +154,17 @@ fn read_calendar_in<F: Feed>(
 ) -> Result<(Rows<CalendarRow>, bool), FeedError>
     requires { IsNumbered services.old }
     ensures made { (files : List ℕ → List ℕ → Option (List ℕ)) → F.tables feed.old ≡ Some files
-        → Yields (λ r. record { services = names_of services.new; rows = r.0 }) result (calendar_in (contents_of files folder.now) (names_of services.old)) }
+        → Yields (λ r. record { services = names_of services.new; rows = r.0 }) result
+        (calendar_in (contents_of files folder.now) (names_of services.old)) }
     ensures absent { (files : List ℕ → List ℕ → Option (List ℕ)) → F.tables feed.old ≡ Some files
         → IfOk result (λ r. r.1 ≡ is_absent (contents_of files folder.now tables.Calendar)) }
     ensures numbered { OnOk result (IsNumbered services.new) }
-    ensures some { IfOk result (λ r. (contents : Contents) × (calendar_in contents (names_of services.old) ≡ Ok (record { services = names_of services.new; rows = r.0 })) × (is_absent (contents tables.Calendar) ≡ r.1)) }
-    ensures failed { IsErrOf result FeedError.ReadFault → Rose (F.faults feed.old) (F.faults feed.new) }
+    ensures some { IfOk result (λ r. (contents : Contents)
+        × (calendar_in contents (names_of services.old)
+        ≡ Ok (record { services = names_of services.new; rows = r.0 }))
+        × (is_absent (contents tables.Calendar) ≡ r.1)) }
+    ensures failed { IsErrOf result FeedError.ReadFault
+        → Rose (F.faults feed.old) (F.faults feed.new) }
     ensures later { F.faults feed.old ≤ F.faults feed.new }
     ensures same { F.tables feed.new ≡ F.tables feed.old }
 {
@@ -173,9 +185,15 @@ fn read_dates_in<F: Feed>(
 ) -> Result<Rows<DateRow>, FeedError>
     requires { IsNumbered services.old }
     ensures made { (files : List ℕ → List ℕ → Option (List ℕ)) → F.tables feed.old ≡ Some files
-        → no_calendar ≡ is_absent (contents_of files folder.now tables.Calendar) → Yields (λ rows. record { services = names_of services.new; rows = rows }) result (dates_in (contents_of files folder.now) (names_of services.old)) }
-    ensures some { IfOk result (λ rows. (contents : Contents) × (dates_in contents (names_of services.old) ≡ Ok (record { services = names_of services.new; rows = rows })) × (is_absent (contents tables.Calendar) ≡ no_calendar)) }
-    ensures failed { IsErrOf result FeedError.ReadFault → Rose (F.faults feed.old) (F.faults feed.new) }
+        → no_calendar ≡ is_absent (contents_of files folder.now tables.Calendar)
+        → Yields (λ rows. record { services = names_of services.new; rows = rows }) result
+        (dates_in (contents_of files folder.now) (names_of services.old)) }
+    ensures some { IfOk result (λ rows. (contents : Contents)
+        × (dates_in contents (names_of services.old)
+        ≡ Ok (record { services = names_of services.new; rows = rows }))
+        × (is_absent (contents tables.Calendar) ≡ no_calendar)) }
+    ensures failed { IsErrOf result FeedError.ReadFault
+        → Rose (F.faults feed.old) (F.faults feed.new) }
     ensures later { F.faults feed.old ≤ F.faults feed.new }
     ensures same { F.tables feed.new ≡ F.tables feed.old }
 {
@@ -200,8 +218,10 @@ fn read_transfers_in<F: Feed>(
 ) -> Result<Rows<TransferRow>, FeedError>
     ensures made { (files : List ℕ → List ℕ → Option (List ℕ)) → F.tables feed.old ≡ Some files
         → Yields (λ rows. rows) result (transfers_in (contents_of files folder.now) stops.now) }
-    ensures some { IfOk result (λ rows. (contents : Contents) × (transfers_in contents stops.now ≡ Ok rows)) }
-    ensures failed { IsErrOf result FeedError.ReadFault → Rose (F.faults feed.old) (F.faults feed.new) }
+    ensures some { IfOk result (λ rows. (contents : Contents)
+        × (transfers_in contents stops.now ≡ Ok rows)) }
+    ensures failed { IsErrOf result FeedError.ReadFault
+        → Rose (F.faults feed.old) (F.faults feed.new) }
     ensures later { F.faults feed.old ≤ F.faults feed.new }
     ensures same { F.tables feed.new ≡ F.tables feed.old }
 {
@@ -223,9 +243,13 @@ fn read_rules_in<F: Feed>(
 ) -> Result<Rows<RuleRow>, FeedError>
     requires { IsNumbered routes.old }
     ensures made { (files : List ℕ → List ℕ → Option (List ℕ)) → F.tables feed.old ≡ Some files
-        → Yields (λ rows. record { routes = names_of routes.new; rows = rows }) result (rules_in (contents_of files folder.now) stops.now (names_of routes.old)) }
-    ensures some { IfOk result (λ rows. (contents : Contents) × (rules_in contents stops.now (names_of routes.old) ≡ Ok (record { routes = names_of routes.new; rows = rows }))) }
-    ensures failed { IsErrOf result FeedError.ReadFault → Rose (F.faults feed.old) (F.faults feed.new) }
+        → Yields (λ rows. record { routes = names_of routes.new; rows = rows }) result
+        (rules_in (contents_of files folder.now) stops.now (names_of routes.old)) }
+    ensures some { IfOk result (λ rows. (contents : Contents)
+        × (rules_in contents stops.now (names_of routes.old)
+        ≡ Ok (record { routes = names_of routes.new; rows = rows }))) }
+    ensures failed { IsErrOf result FeedError.ReadFault
+        → Rose (F.faults feed.old) (F.faults feed.new) }
     ensures later { F.faults feed.old ≤ F.faults feed.new }
     ensures same { F.tables feed.new ≡ F.tables feed.old }
 {
@@ -245,7 +269,8 @@ fn check_frequencies_in<F: Feed>(alloc: Global, feed: &mut F, folder: &str) -> R
     ensures made { (files : List ℕ → List ℕ → Option (List ℕ)) → F.tables feed.old ≡ Some files
         → Yields (λ u. u) result (frequencies_in (contents_of files folder.now)) }
     ensures some { IfOk result (λ u. (contents : Contents) × (frequencies_in contents ≡ Ok u)) }
-    ensures failed { IsErrOf result FeedError.ReadFault → Rose (F.faults feed.old) (F.faults feed.new) }
+    ensures failed { IsErrOf result FeedError.ReadFault
+        → Rose (F.faults feed.old) (F.faults feed.new) }
     ensures later { F.faults feed.old ≤ F.faults feed.new }
     ensures same { F.tables feed.new ≡ F.tables feed.old }
 {
@@ -272,10 +297,11 @@ fn has_few_rows(t: &Tables) -> bool
         && t.dates.len() <= most
 }
 
-/// The tables of the feed in a folder, read and checked in this order: stops.txt, trips.txt, stop_times.txt, calendar.txt,
-/// calendar_dates.txt, transfers.txt, waiting_rules.txt, frequencies.txt. `Refused` has the first cause to refuse the feed:
-/// a table that must be there is absent, a table is too long, has a fault or has too many rows. `ReadFault` comes only
-/// where the feed failed. `OutOfMemory` also comes where the rows of a table cannot be numbered with 32 bits.
+/// The tables of the feed in a folder, read and checked in this order: stops.txt, trips.txt,
+/// stop_times.txt, calendar.txt, calendar_dates.txt, transfers.txt, waiting_rules.txt,
+/// frequencies.txt. `Refused` has the first cause to refuse the feed: a table that must be there is
+/// absent, a table is too long, has a fault or has too many rows. `ReadFault` comes only where the
+/// feed failed. `OutOfMemory` also comes where the rows of a table cannot be numbered with 32 bits.
 #[tactic(auto, unfolding(crate::specs::Feeds::tables_of))]
 pub fn read_tables<F: Feed>(
     alloc: Global,
@@ -284,7 +310,8 @@ pub fn read_tables<F: Feed>(
 ) -> Result<FeedTables, FeedError>
     ensures exact { (files : List ℕ → List ℕ → Option (List ℕ)) → F.tables feed.old ≡ Some files
         → Yields (λ tables. tables) result (tables_of (contents_of files folder.now)) }
-    ensures failed { IsErrOf result FeedError.ReadFault → Rose (F.faults feed.old) (F.faults feed.new) }
+    ensures failed { IsErrOf result FeedError.ReadFault
+        → Rose (F.faults feed.old) (F.faults feed.new) }
     ensures later { F.faults feed.old ≤ F.faults feed.new }
     ensures same { F.tables feed.new ≡ F.tables feed.old }
 {

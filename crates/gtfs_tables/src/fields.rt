@@ -92,7 +92,8 @@ pub fn digit_within(bytes: &[u8], least: u32, most: u32) -> Option<u32>
     }
 }
 
-/// The kind of place that a `location_type` stands for: one digit from 0 to 4, and an empty field for 0.
+/// The kind of place that a `location_type` stands for: one digit from 0 to 4, and an empty field
+/// for 0.
 pub fn location_kind(bytes: &[u8]) -> Option<PlaceKind>
     ensures { result ≡ location_kind bytes.now }
 {
@@ -153,7 +154,8 @@ fn seconds(bytes: &[u8]) -> Option<u32>
     }
 }
 
-/// The time of a field, in seconds from the base of the service day: no time where the field is empty.
+/// The time of a field, in seconds from the base of the service day: no time where the field is
+/// empty.
 pub fn time(bytes: &[u8]) -> Option<Option<u32>>
     ensures value { result ≡ time_of bytes.now }
     ensures small { IfSome result (λ t. IfSome t (λ n. n ≤ 359999)) }

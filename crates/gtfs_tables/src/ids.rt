@@ -23,9 +23,11 @@ impl Ids {
         }
     }
 
-    /// Adds the id of the row with this number, which is the number of rows before it. False where an earlier row has it.
+    /// Adds the id of the row with this number, which is the number of rows before it. False where
+    /// an earlier row has it.
     pub fn add(&mut self, alloc: Global, id: &str, number: usize) -> Result<bool, TableError>
-        ensures { (names : List (List ℕ)) → AreIds self.old names → number ≡ length names → AddsId result id.now names self.new }
+        ensures { (names : List (List ℕ)) → AreIds self.old names → number ≡ length names
+            → AddsId result id.now names self.new }
     {
         let Ok(number) = u32::try_from(number) else {
             return Err(TableError::OutOfMemory);

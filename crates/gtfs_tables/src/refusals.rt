@@ -10,7 +10,8 @@ use std::alloc::AllocError;
 /// Why a feed is refused.
 #[derive(Clone, Copy, Debug, PartialEq, Eq)]
 pub enum FeedRefusal {
-    /// A table that must be there is absent. It is `Calendar` where neither calendar.txt nor calendar_dates.txt is there.
+    /// A table that must be there is absent. It is `Calendar` where neither calendar.txt nor
+    /// calendar_dates.txt is there.
     Missing {
         /// The table.
         table: Table,

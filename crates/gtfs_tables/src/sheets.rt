@@ -66,7 +66,8 @@ fn push_places(
     columns: &[Column],
     places: &mut Vec<Option<usize>>,
 ) -> Result<(), TableError>
-    ensures places { OnOk result (places.new.items ≡ places.old.items ++ map (place_of (fields_of header.now)) columns.now) }
+    ensures places { OnOk result (places.new.items ≡ places.old.items
+        ++ map (place_of (fields_of header.now)) columns.now) }
     ensures memory { IfErr result (λ e. e ≡ OutOfMemory) }
 {
     for column in columns {
@@ -131,14 +132,16 @@ fn check_row(fields: &ByteRecord, row: u64, width: usize) -> Result<(), TableErr
     Ok(())
 }
 
-/// Whether there is a next record, which is read into `fields`. An error over bytes in memory is want of memory.
+/// Whether there is a next record, which is read into `fields`. An error over bytes in memory is
+/// want of memory.
 pub(crate) fn next_record(
     reader: &mut Reader<&[u8]>,
     fields: &mut ByteRecord,
 ) -> Result<bool, TableError>
     requires { Rests reader.old }
     ensures rests { OnOk result (Rests reader.new) }
-    ensures steps { IfOk result (λ found. Steps reader.old reader.new found (fields_of fields.new)) }
+    ensures steps { IfOk result (λ found. Steps reader.old reader.new found
+        (fields_of fields.new)) }
     ensures memory { IfErr result (λ e. e ≡ OutOfMemory) }
 {
     let Ok(found) = reader.read_byte_record(fields) else {
@@ -167,8 +170,10 @@ impl<'a> Sheet<'a> {
         others: &[Column],
     ) -> Result<Sheet<'a>, TableError>
         ensures rests { IfOk result (λ sheet. Rests sheet.reader) }
-        ensures columns { IfOk result (λ sheet. length sheet.places.items ≡ length needed.now + length others.now) }
-        ensures opens { (all : List (List (List ℕ))) → AreRecordsOf text.now all → Opens needed.now others.now result all }
+        ensures columns { IfOk result (λ sheet. length sheet.places.items
+            ≡ length needed.now + length others.now) }
+        ensures opens { (all : List (List (List ℕ))) → AreRecordsOf text.now all
+            → Opens needed.now others.now result all }
     {
         let mut reader = make_reader(alloc, text);
         let mut current = ByteRecord::new(alloc);
@@ -191,14 +196,17 @@ impl<'a> Sheet<'a> {
         })
     }
 
-    /// Whether there is a next row, which then is the current one. It gets the number that is given for it.
+    /// Whether there is a next row, which then is the current one. It gets the number that is given
+    /// for it.
     pub fn advance(&mut self, row: u64) -> Result<bool, TableError>
         requires { Rests self.old.reader }
         ensures rests { OnOk result (Rests self.new.reader) }
-        ensures text { IfOk result (λ found. found ≡ true → all_utf8 (fields_of self.new.current) ≡ true) }
+        ensures text { IfOk result (λ found. found ≡ true → all_utf8 (fields_of self.new.current)
+            ≡ true) }
         ensures width { self.new.width ≡ self.old.width }
         ensures places { self.new.places ≡ self.old.places }
-        ensures advances { (all : List (List (List ℕ))) → Remains self.old.reader all → Advances row self.old self.new result all }
+        ensures advances { (all : List (List (List ℕ))) → Remains self.old.reader all
+            → Advances row self.old self.new result all }
     {
         if !next_record(&mut self.reader, &mut self.current)? {
             return Ok(false);
@@ -207,10 +215,12 @@ impl<'a> Sheet<'a> {
         Ok(true)
     }
 
-    /// The current row's field in the column numbered `i` of those that are wanted, without the blanks round it.
+    /// The current row's field in the column numbered `i` of those that are wanted, without the
+    /// blanks round it.
     pub fn field(&self, i: usize) -> &[u8]
         requires { i < length self.now.places.items }
-        ensures { result.now ≡ field_at_place (fields_of self.now.current) (slice_index_or self.now.places.items i None) }
+        ensures { result.now ≡ field_at_place (fields_of self.now.current)
+            (slice_index_or self.now.places.items i None) }
     {
         match self.places[i] {
             Some(at) => trimmed(field(&self.current, at)),
@@ -222,7 +232,8 @@ impl<'a> Sheet<'a> {
     pub fn text(&self, i: usize) -> &str
         requires place { i < length self.now.places.items }
         requires text { all_utf8 (fields_of self.now.current) ≡ true }
-        ensures { result.now ≡ field_at_place (fields_of self.now.current) (slice_index_or self.now.places.items i None) }
+        ensures { result.now ≡ field_at_place (fields_of self.now.current)
+            (slice_index_or self.now.places.items i None) }
     {
         match str::from_utf8(self.field(i)) {
             Ok(text) => text,

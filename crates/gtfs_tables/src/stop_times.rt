@@ -103,12 +103,13 @@ fn check_trips(alloc: Global, by_key: &BTreeMap<(u32, u32), CallTimes>) -> Resul
     check_trip(&passed)
 }
 
-/// The rows of stop_times.txt (GTFS Schedule, stop_times.txt), or the first fault in it, by the list of all records of the
-/// text: UnknownReference for a trip that is not in trips.txt or a stop that is no stop or platform of stops.txt, BadTime
-/// for a time that is not empty, `H:MM:SS` or `HH:MM:SS`, BadNumber for a stop_sequence, pickup_type or drop_off_type that
-/// is no number, DuplicateKey for a second row of a trip and a stop_sequence. Then come the trips in the order of
-/// trips.txt: TooFewCalls for a trip with one row, UntimedEnd for a first or last call without a time, BackwardsTimes for
-/// a time before an earlier one.
+/// The rows of stop_times.txt (GTFS Schedule, stop_times.txt), or the first fault in it, by the
+/// list of all records of the text: UnknownReference for a trip that is not in trips.txt or a stop
+/// that is no stop or platform of stops.txt, BadTime for a time that is not empty, `H:MM:SS` or
+/// `HH:MM:SS`, BadNumber for a stop_sequence, pickup_type or drop_off_type that is no number,
+/// DuplicateKey for a second row of a trip and a stop_sequence. Then come the trips in the order of
+/// trips.txt: TooFewCalls for a trip with one row, UntimedEnd for a first or last call without a
+/// time, BackwardsTimes for a time before an earlier one.
 #[tactic(auto, unfolding(crate::specs::StopTimes::stop_times_of))]
 pub(crate) fn read_stop_times(
     alloc: Global,
@@ -117,7 +118,8 @@ pub(crate) fn read_stop_times(
     stops: &Stops,
 ) -> Result<Rows<CallRow>, TableError>
     ensures { (all : List (List (List ℕ))) → AreRecordsOf text.now all
-        → Gives (λ rows. rows) result (stop_times_of (record { trips = trip_ids trips.now.rows; stops = stops.now }) all) }
+        → Gives (λ rows. rows) result
+        (stop_times_of (record { trips = trip_ids trips.now.rows; stops = stops.now }) all) }
 {
     let needed = [
         Column::TripId,

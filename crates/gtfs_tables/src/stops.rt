@@ -42,7 +42,8 @@ struct StopTable {
 fn read_stop(alloc: Global, sheet: &Sheet<'_>, row: u64) -> Result<StopLine, TableError>
     requires columns { length sheet.now.places.items ≡ 3 }
     requires text { all_utf8 (fields_of sheet.now.current) ≡ true }
-    ensures { Gives (λ line. line) result (stop_of row (cell sheet.now 0) (cell sheet.now 1) (cell sheet.now 2)) }
+    ensures { Gives (λ line. line) result (stop_of row (cell sheet.now 0) (cell sheet.now 1)
+        (cell sheet.now 2)) }
 {
     let kind = need(row, Cause::BadNumber, location_kind(sheet.field(1)))?;
     let id = Name::build(alloc, sheet.text(0))?;
@@ -55,7 +56,8 @@ impl StopTable {
     fn add(&mut self, alloc: Global, row: u64, line: StopLine) -> Result<(), TableError>
         requires { IsStopTable self.old }
         ensures ids { OnOk result (IsStopTable self.new) }
-        ensures adds { Gives (λ _. self.new.lines.items) result (with_stop row line self.old.lines.items) }
+        ensures adds { Gives (λ _. self.new.lines.items) result
+            (with_stop row line self.old.lines.items) }
     {
         if !self.ids.add(alloc, line.id.text(), self.lines.len())? {
             return Err(TableError::Bad(Fault {
@@ -123,7 +125,8 @@ impl TableBuilder for StopTable {
 fn with_stations(alloc: Global, table: &StopTable) -> Result<Vec<StopRow>, TableError>
     requires { IsStopTable table.now }
     ensures ids { IfOk result (λ rows. stop_ids rows.items ≡ line_ids table.now.lines.items) }
-    ensures rows { Gives (λ rows. rows.items) result (with_stations table.now.lines.items 2 [] table.now.lines.items) }
+    ensures rows { Gives (λ rows. rows.items) result
+        (with_stations table.now.lines.items 2 [] table.now.lines.items) }
 {
     let mut rows = Vec::with_capacity(alloc, table.lines.len())?;
     for line in &table.lines {
@@ -180,12 +183,14 @@ impl Stops {
     }
 }
 
-/// The stops of a feed (GTFS Schedule, stops.txt), or the first fault in its table, by the list of all records of the text:
-/// BadNumber for a location_type that is not empty or `0` to `4`, DuplicateKey for a second row of a stop_id, and then,
-/// over the whole table, UnknownReference for a parent_station of a stop or platform that is no station.
+/// The stops of a feed (GTFS Schedule, stops.txt), or the first fault in its table, by the list of
+/// all records of the text: BadNumber for a location_type that is not empty or `0` to `4`,
+/// DuplicateKey for a second row of a stop_id, and then, over the whole table, UnknownReference for
+/// a parent_station of a stop or platform that is no station.
 #[tactic(auto, unfolding(crate::specs::Stops::stops_of))]
 pub(crate) fn read_stops(alloc: Global, text: &[u8]) -> Result<Stops, TableError>
-    ensures { (all : List (List (List ℕ))) → AreRecordsOf text.now all → Gives (λ stops. stops) result (stops_of all) }
+    ensures { (all : List (List (List ℕ))) → AreRecordsOf text.now all
+        → Gives (λ stops. stops) result (stops_of all) }
 {
     let others = [Column::LocationType, Column::ParentStation];
     let mut table = StopTable {

@@ -64,7 +64,8 @@ fn number_if_any(bytes: &[u8]) -> Option<Option<u32>>
 
 fn is_for_all(sheet: &Sheet<'_>) -> bool
     requires { length sheet.now.places.items ≡ 8 }
-    ensures { result ≡ is_for_all (cell sheet.now 4) (cell sheet.now 5) (cell sheet.now 6) (cell sheet.now 7) }
+    ensures { result ≡ is_for_all (cell sheet.now 4) (cell sheet.now 5) (cell sheet.now 6)
+        (cell sheet.now 7) }
 {
     sheet.field(4).is_empty()
         && sheet.field(5).is_empty()
@@ -100,7 +101,8 @@ fn read_transfer(
 ) -> Result<Option<TransferRow>, TableError>
     requires columns { length sheet.now.places.items ≡ 8 }
     requires text { all_utf8 (fields_of sheet.now.current) ≡ true }
-    ensures { Gives (λ t. t) result (transfer_of (stop_ids stops.now) row (cell sheet.now 0) (cell sheet.now 1) (cell sheet.now 2) (cell sheet.now 3)
+    ensures { Gives (λ t. t) result (transfer_of (stop_ids stops.now) row (cell sheet.now 0)
+        (cell sheet.now 1) (cell sheet.now 2) (cell sheet.now 3)
         (is_for_all (cell sheet.now 4) (cell sheet.now 5) (cell sheet.now 6) (cell sheet.now 7))) }
 {
     let from_stop = need(
@@ -122,7 +124,8 @@ impl TransferTable<'_> {
     /// Counts a row, and adds the change that it lists.
     fn add(&mut self, transfer: Option<TransferRow>) -> Result<(), TableError>
         ensures stops { self.new.stops ≡ self.old.stops }
-        ensures made { Gives (λ u. transfers_view self.new) result (Ok (with_transfer transfer (transfers_view self.old))) }
+        ensures made { Gives (λ u. transfers_view self.new) result
+            (Ok (with_transfer transfer (transfers_view self.old))) }
     {
         let Some(count) = self.count.checked_add(1) else {
             return Err(TableError::OutOfMemory);
@@ -158,17 +161,18 @@ impl TableBuilder for TransferTable<'_> {
     }
 }
 
-/// The rows of transfers.txt (GTFS Schedule, transfers.txt), or the first fault in it, by the list of all records of the
-/// text: UnknownReference for a stop that is not in stops.txt, BadNumber for a transfer_type or min_transfer_time that is
-/// no number. A row that does not give both stops, or is not for all routes and trips,
-/// is checked and counted, and not listed.
+/// The rows of transfers.txt (GTFS Schedule, transfers.txt), or the first fault in it, by the list
+/// of all records of the text: UnknownReference for a stop that is not in stops.txt, BadNumber for
+/// a transfer_type or min_transfer_time that is no number. A row that does not give both stops, or
+/// is not for all routes and trips, is checked and counted, and not listed.
 pub(crate) fn read_transfers(
     alloc: Global,
     text: &[u8],
     stops: &Stops,
 ) -> Result<Transfers, TableError>
     ensures { (all : List (List (List ℕ))) → AreRecordsOf text.now all
-        → Gives (λ t. record { rows = t.rows; count = t.count }) result (transfers_of (stop_ids stops.now) all) }
+        → Gives (λ t. record { rows = t.rows; count = t.count }) result
+        (transfers_of (stop_ids stops.now) all) }
 {
     let needed = [Column::FromStopId, Column::ToStopId, Column::TransferType];
     let others = [

@@ -42,7 +42,8 @@ impl TripTable {
     ) -> Result<(), TableError>
         requires { IsTripTable self.old }
         ensures numbered { OnOk result (IsTripTable self.new) }
-        ensures made { Gives (λ _. trips_view self.new) result (with_trip row route.now service.now trip.now (trips_view self.old)) }
+        ensures made { Gives (λ _. trips_view self.new) result
+            (with_trip row route.now service.now trip.now (trips_view self.old)) }
     {
         if !self.ids.add(alloc, trip, self.rows.len())? {
             return Err(TableError::Bad(Fault {
@@ -81,7 +82,8 @@ impl TableBuilder for TripTable {
     }
 }
 
-/// The trips of a feed with their routes and services, which are numbered in the order in which they first appear.
+/// The trips of a feed with their routes and services, which are numbered in the order in which
+/// they first appear.
 #[derive(Drop)]
 pub(crate) struct Trips {
     table: TripTable,
@@ -111,7 +113,8 @@ pub(crate) struct TripParts {
 }
 
 impl Trips {
-    /// The number of the trip with this `trip_id`: its row in `trips.txt`, from 0. None exactly where there is none.
+    /// The number of the trip with this `trip_id`: its row in `trips.txt`, from 0. None exactly
+    /// where there is none.
     pub fn find(&self, id: &str) -> Option<u32>
         ensures { result ≡ number_from 0 id.now (trip_ids self.now.rows) }
     {
@@ -134,10 +137,11 @@ impl Trips {
     }
 }
 
-/// The trips of a feed (GTFS Schedule, trips.txt), or the first fault in its table, by the list of all records of the text:
-/// DuplicateKey for a second row of a trip_id.
+/// The trips of a feed (GTFS Schedule, trips.txt), or the first fault in its table, by the list of
+/// all records of the text: DuplicateKey for a second row of a trip_id.
 pub(crate) fn read_trips(alloc: Global, text: &[u8]) -> Result<Trips, TableError>
-    ensures { (all : List (List (List ℕ))) → AreRecordsOf text.now all → Gives (λ trips. trips) result (trips_of all) }
+    ensures { (all : List (List (List ℕ))) → AreRecordsOf text.now all
+        → Gives (λ trips. trips) result (trips_of all) }
 {
     let needed = [Column::RouteId, Column::ServiceId, Column::TripId];
     let mut table = TripTable {

@@ -89,7 +89,8 @@ impl RuleTable<'_> {
         requires { IsNumbered self.old.routes }
         ensures numbered { OnOk result (IsNumbered self.new.routes) }
         ensures stops { self.new.stops ≡ self.old.stops }
-        ensures made { Gives (λ u. rules_view self.new) result (Ok (with_rule feeder.now connecting.now place longest (rules_view self.old))) }
+        ensures made { Gives (λ u. rules_view self.new) result
+            (Ok (with_rule feeder.now connecting.now place longest (rules_view self.old))) }
     {
         let feeder = number_route(&mut self.routes, alloc, feeder)?;
         let connecting = number_route(&mut self.routes, alloc, connecting)?;
@@ -129,9 +130,10 @@ impl TableBuilder for RuleTable<'_> {
     }
 }
 
-/// The rows of waiting_rules.txt, or the first fault in it, by the list of all records of the text: UnknownReference for
-/// a place that is no stop, platform or station of stops.txt, BadNumber for a longest wait that is no number or is above
-/// 86,400 seconds. Routes that no earlier table names are numbered on; after an error `routes` is of no more use.
+/// The rows of waiting_rules.txt, or the first fault in it, by the list of all records of the text:
+/// UnknownReference for a place that is no stop, platform or station of stops.txt, BadNumber for a
+/// longest wait that is no number or is above 86,400 seconds. Routes that no earlier table names
+/// are numbered on; after an error `routes` is of no more use.
 pub(crate) fn read_waiting_rules(
     alloc: Global,
     text: &[u8],
@@ -141,7 +143,8 @@ pub(crate) fn read_waiting_rules(
     requires { IsNumbered routes.old }
     ensures numbered { OnOk result (IsNumbered routes.new) }
     ensures rows { (all : List (List (List ℕ))) → AreRecordsOf text.now all
-        → Gives (λ rows. record { routes = names_of routes.new; rows = rows }) result (waiting_rules_of stops.now (names_of routes.old) all) }
+        → Gives (λ rows. record { routes = names_of routes.new; rows = rows }) result
+        (waiting_rules_of stops.now (names_of routes.old) all) }
 {
     let needed = [
         Column::FeederRouteId,

@@ -1,13 +1,13 @@
 -- What a line says, or its first fault. A line is one object of JSON, as
---   {"v":1,"type":"forecast","trip":"T1","date":"20260105","call":1,"event":"arr","time":"08:36:00"}
---   {"v":1,"type":"query","client":"c1","from":"A","to":"D","date":"20260105","time":"08:00:00"}
---   {"v":1,"type":"keep","feeder":{"trip":"T1","date":"20260105","call":1},"train":{"trip":"T2","date":"20260105","call":0}}
--- Members that are not named here are passed over, and of two members of one name the last counts. The faults, in order:
---   Utf8   the bytes are no text
---   Json   the text is no JSON, or nests deeper than `serde_json` reads
---   Shape  the value is no object with `v` and `type`, or a member that its type needs is absent or of another kind
---   Stop   a query names a place that is neither a stop nor a station
---   Time   a date is not eight digits that name a civil date, a time is not H:MM:SS or HH:MM:SS, or the date of a query is not loaded
+-- {"v":1,"type":"forecast","trip":"T1","date":"20260105","call":1,"event":"arr","time":"08:36:00"}
+-- {"v":1,"type":"query","client":"c1","from":"A","to":"D","date":"20260105","time":"08:00:00"}
+-- {"v":1,"type":"keep","feeder":{"trip":"T1","date":"20260105","call":1},"train":{"trip":"T2","date":"20260105","call":0}}
+-- Members that are not named here are passed over, and of two members of one name the last counts.
+-- The faults, in order: Utf8   the bytes are no text Json   the text is no JSON, or nests deeper
+-- than `serde_json` reads Shape  the value is no object with `v` and `type`, or a member that its
+-- type needs is absent or of another kind Stop   a query names a place that is neither a stop nor a
+-- station Time   a date is not eight digits that name a civil date, a time is not H:MM:SS or
+-- HH:MM:SS, or the date of a query is not loaded
 use Rattle.std.specs.Prelude.{ℕ, ◌==◌, List, if◌then◌else◌, true, false, Some, None, Result, Ok, Err, codes}
 use Rattle.std.specs.declared.option.Option.{Option}
 use Rattle.std.specs.Str.{is_utf8}

@@ -1,4 +1,5 @@
--- What an object says, by the type of its line. Every needed member has its kind (Shape) before any date or time is read (Time).
+-- What an object says, by the type of its line. Every needed member has its kind (Shape) before any
+-- date or time is read (Time).
 use Rattle.std.specs.Prelude.{ℕ, suc, nat_le, List, [], ◌∷◌, Result, Ok, codes}
 use Rattle.serde_json.specs.Data.{Data, Items, no_items, item}
 use Rattle.serde_json.specs.Find.{get}
@@ -13,7 +14,8 @@ use Rattle.message_reader.specs.declared.wire.Wire.TheVariants.{Event, Cancel, R
 use Rattle.message_reader.specs.Chain.{◌>>=◌, need, unless}
 use Rattle.message_reader.specs.Fields.{text_at, label_at, items_at, departure_of, date_of, seconds_of}
 
--- `forecast` and `report`: a train by `trip` and `date`, a call by its label `call`, `event` and `time`
+-- `forecast` and `report`: a train by `trip` and `date`, a call by its label `call`, `event` and
+-- `time`
 unfoldable pub event_of : ValueKind → Data → Result Wire Bad
 event_of kind d = do
   trip ← need Shape (text_at (codes "trip") d)
@@ -111,7 +113,8 @@ unfoldable pub count : Items → ℕ
 count no_items = 0
 count (item d ds) = suc (count ds)
 
--- `reroute`: a train, the labels `from` and `to` of two of its calls, and `via`, a list of calls that may be empty
+-- `reroute`: a train, the labels `from` and `to` of two of its calls, and `via`, a list of calls
+-- that may be empty
 unfoldable pub reroute_of : Data → Result Wire Bad
 reroute_of d = do
   trip ← need Shape (text_at (codes "trip") d)
@@ -124,7 +127,8 @@ reroute_of d = do
   calls ← calls_of via
   Ok (Reroute trip day from to calls)
 
--- `extra`: a train that is not there yet, the text `route`, and `calls`, a list of at least two calls
+-- `extra`: a train that is not there yet, the text `route`, and `calls`, a list of at least two
+-- calls
 unfoldable pub extra_of : Data → Result Wire Bad
 extra_of d = do
   trip ← need Shape (text_at (codes "trip") d)

@@ -15,11 +15,12 @@ use Rattle.message_reader.specs.Fields.{text_at, date_of, seconds_of}
 -- the place with an id, if a journey can begin or end there: it is a stop, a platform or a station
 unfoldable pub stop_or_station_named : Names → List ℕ → Option ℕ
 stop_or_station_named names id =
-    option_and_then (λ place. if option_map_or is_platform_or_station (kind_of_place names place) false then Some place else None)
+    option_and_then (λ place. if option_map_or is_platform_or_station
+    (kind_of_place names place) false then Some place else None)
     (place_named names id)
 
--- `query`: who asks, `client`; two places, `from` and `to`; and `date` and `time`, from when on the passenger can leave. The date is
--- that of a loaded service day, and the time lies on it
+-- `query`: who asks, `client`; two places, `from` and `to`; and `date` and `time`, from when on the
+-- passenger can leave. The date is that of a loaded service day, and the time lies on it
 unfoldable pub query_of : Names → Data → Result Line Bad
 query_of names d = do
   client ← need Shape (text_at (codes "client") d)
@@ -32,4 +33,8 @@ query_of names d = do
   civil ← need Time (date_of date)
   secs ← need Time (seconds_of time)
   day ← need Time (day_named names civil)
-  Ok (Query client day (record { from_stop = from_stop; to_stop = to_stop; time = base_of day + secs }))
+  Ok (Query client day (record {
+    from_stop = from_stop;
+    to_stop = to_stop;
+    time = base_of day + secs;
+  }))

@@ -1,6 +1,6 @@
--- The message by number that a message by name stands for, or the refusal that the names decide. The refusals, in order:
---   Unknown  a train, a stop, a route or a service day of the message has no number. The new train of an extra needs none
---   Known    the new train of an extra is there already
+-- The message by number that a message by name stands for, or the refusal that the names decide.
+-- The refusals, in order: Unknown  a train, a stop, a route or a service day of the message has no
+-- number. The new train of an extra needs none Known    the new train of an extra is there already
 use Rattle.std.specs.Prelude.{◌≡◌, ℕ, ◌+◌, List, [], ◌∷◌, Bool, true, false, if◌then◌else◌, length, Some, None, is_none, option_and_then, Result, Ok, Err}
 use Rattle.std.specs.declared.option.Option.{Option}
 use Rattle.std.specs.Option.{option_map_or}
@@ -37,7 +37,8 @@ train_on names trip date = do
 -- the place with an id, if it is a stop, where trains call
 unfoldable pub stop_named : Names → List ℕ → Option ℕ
 stop_named names id =
-    option_and_then (λ place. if option_map_or is_platform (kind_of_place names place) false then Some place else None)
+    option_and_then (λ place. if option_map_or is_platform (kind_of_place names place) false
+    then Some place else None)
     (place_named names id)
 
 -- the arrival or the departure of a call
@@ -69,10 +70,12 @@ connect_message connects.Drop feeder train = messages.Drop feeder train
 connect_message connects.Rule feeder train = messages.Rule feeder train
 
 -- a report or a forecast, at so many seconds on the train's service day
-unfoldable pub event_resolved : Names → ValueKind → List ℕ → ℕ → ℕ → Bool → ℕ → Result Message Refusal
+unfoldable pub event_resolved : Names → ValueKind → List ℕ → ℕ → ℕ → Bool → ℕ
+    → Result Message Refusal
 event_resolved names kind trip date call dep secs = do
   found ← train_on names trip date
-  Ok (message_by_kind kind (record { train = found.train; label = call; dep = dep }) (base_of found.day + secs))
+  Ok (message_by_kind kind (record { train = found.train; label = call; dep = dep })
+      (base_of found.day + secs))
 
 -- a cancelled stretch
 unfoldable pub cancel_resolved : Names → List ℕ → ℕ → ℕ → ℕ → Result Message Refusal
@@ -81,7 +84,8 @@ cancel_resolved names trip date from to = do
   Ok (messages.Cancel found.train from to)
 
 -- a rerouting; its times are those of the train's service day
-unfoldable pub reroute_resolved : Names → List ℕ → ℕ → ℕ → ℕ → List WireCall → Result Message Refusal
+unfoldable pub reroute_resolved : Names → List ℕ → ℕ → ℕ → ℕ → List WireCall
+    → Result Message Refusal
 reroute_resolved names trip date from to via = do
   found ← train_on names trip date
   calls ← new_calls names found.day via
@@ -105,7 +109,8 @@ connect_resolved names kind feeder train = do
 
 -- the message by number, or the refusal
 unfoldable pub resolved : Names → Wire → Result Message Refusal
-resolved names (Event kind trip date call dep secs) = event_resolved names kind trip date call dep secs
+resolved names (Event kind trip date call dep secs) =
+    event_resolved names kind trip date call dep secs
 resolved names (Cancel trip date from to) = cancel_resolved names trip date from to
 resolved names (Reroute trip date from to via) = reroute_resolved names trip date from to via
 resolved names (Extra trip date route calls) = extra_resolved names trip date route calls

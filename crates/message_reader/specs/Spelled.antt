@@ -20,7 +20,8 @@ time_text s = two_digits (s / 3600) ++ (58 ∷ two_digits (s / 60 % 60) ++ (58 �
 
 -- the eight digits of a date YYYYMMDD
 unfoldable pub date_text : ℕ → List ℕ
-date_text date = two_digits (date / 1000000) ++ (two_digits (date / 10000 % 100) ++ (two_digits (date / 100 % 100) ++ two_digits (date % 100)))
+date_text date = two_digits (date / 1000000) ++ (two_digits (date / 10000 % 100)
+    ++ (two_digits (date / 100 % 100) ++ two_digits (date % 100)))
 
 -- the object that names a call of a train
 abbrev pub ref_object : WireRef → Data

@@ -21,19 +21,30 @@ pub fn dates_are_read_back()
     ensures { (date : ℕ) → IsCivil date → date_of (date_text date) ≡ Some date }
 {}
 
-/// Every message with civil dates, times up to 99:59:59 and, for an extra train, two calls, is read from the object that says it.
+/// Every message with civil dates, times up to 99:59:59 and, for an extra train, two calls, is read
+/// from the object that says it.
 pub fn messages_are_read_back()
-    ensures { (names : Names) (w : AWire) → IsWire w → HasLabels w → said_by names (object_of w) ≡ Ok (Message w) }
+    ensures { (names : Names) (w : AWire) → IsWire w → HasLabels w → said_by names (object_of w)
+        ≡ Ok (Message w) }
 {}
 
-/// Every query from one stop or station to another, at a time up to 99:59:59 of a loaded day, is read from the object that asks it.
+/// Every query from one stop or station to another, at a time up to 99:59:59 of a loaded day, is
+/// read from the object that asks it.
 pub fn queries_are_read_back()
-    ensures { (names : Names) (client from to : List ℕ) (date secs from_stop to_stop day : ℕ) → IsCivil date → secs ≤ 359999
-        → stop_or_station_named names from ≡ Some from_stop → stop_or_station_named names to ≡ Some to_stop → day_named names date ≡ Some day
-        → said_by names (query_object client from to date secs) ≡ Ok (Query client day (record { from_stop = from_stop; to_stop = to_stop; time = base_of day + secs })) }
+    ensures { (names : Names) (client from to : List ℕ) (date secs from_stop to_stop day : ℕ)
+        → IsCivil date → secs ≤ 359999
+        → stop_or_station_named names from ≡ Some from_stop → stop_or_station_named names to
+        ≡ Some to_stop → day_named names date ≡ Some day
+        → said_by names (query_object client from to date secs)
+        ≡ Ok (Query client day (record {
+          from_stop = from_stop;
+          to_stop = to_stop;
+          time = base_of day + secs;
+        })) }
 {}
 
 /// Whether a line says a message, and which, does not depend on names.
 pub fn messages_need_no_names()
-    ensures { (names others : Names) (bytes : List ℕ) → message_in (line_of names bytes) ≡ message_in (line_of others bytes) }
+    ensures { (names others : Names) (bytes : List ℕ) → message_in (line_of names bytes)
+        ≡ message_in (line_of others bytes) }
 {}

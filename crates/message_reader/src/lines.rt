@@ -79,7 +79,8 @@ fn said(alloc: Global, dir: &Directory, value: &Value) -> Result<Line, Bad>
     message(alloc, dir, kind, value)
 }
 
-/// What a line says by the names of a directory, or its first fault. Only a query asks for names. Memory may run out at any line.
+/// What a line says by the names of a directory, or its first fault. Only a query asks for names.
+/// Memory may run out at any line.
 #[tactic(auto, unfolding(crate::specs::Lines::line_of))]
 pub fn read_line(alloc: Global, bytes: &[u8], dir: &Directory) -> Result<Line, Bad>
     ensures exact { Gives result (line_of dir.now bytes.now) }

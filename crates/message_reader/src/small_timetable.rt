@@ -26,7 +26,12 @@ fn place(alloc: Global, id: &str, kind: PlaceKind) -> Result<StopRow, OutOfMemor
 
 /// The stop A, the station B and the entrance C.
 fn places(alloc: Global) -> Result<Vec<StopRow>, OutOfMemory>
-    ensures { IfOk result (λ rows. rows.items ≡ record { id = codes "A"; kind = Platform; parent = None } ∷ record { id = codes "B"; kind = Station; parent = None } ∷ record { id = codes "C"; kind = Entrance; parent = None } ∷ []) }
+    ensures { IfOk result (λ rows. rows.items ≡ record {
+      id = codes "A";
+      kind = Platform;
+      parent = None;
+    } ∷ record { id = codes "B"; kind = Station; parent = None }
+        ∷ record { id = codes "C"; kind = Entrance; parent = None } ∷ []) }
 {
     let mut rows = Vec::new(alloc);
     rows.push(place(alloc, "A", PlaceKind::Platform)?)?;

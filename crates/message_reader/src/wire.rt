@@ -96,7 +96,8 @@ pub enum Wire {
         /// Its calls.
         calls: Rows<WireCall>,
     },
-    /// A train waits or does not wait for a feeder: the feeder's arrival and the train's departure are named.
+    /// A train waits or does not wait for a feeder: the feeder's arrival and the train's departure
+    /// are named.
     Connect {
         /// What is said of it.
         kind: Connect,

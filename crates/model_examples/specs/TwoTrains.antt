@@ -1,5 +1,6 @@
--- A small timetable of two trains, and messages about it. The train 0 runs from A over B, platform 1, to C, and the
--- train 1 from B, platform 2, to D. The second waits at B for the first, for 5 minutes at most.
+-- A small timetable of two trains, and messages about it. The train 0 runs from A over B, platform
+-- 1, to C, and the train 1 from B, platform 2, to D. The second waits at B for the first, for 5
+-- minutes at most.
 use Rattle.std.specs.Prelude.{ℕ, ◌*◌, ◌+◌, List, [], ◌∷◌, Bool, true, false, Option, Some, None, Ok, map}
 use Rattle.std.specs.FinMap.{empty}
 use Rattle.mt_base.specs.declared.keys.Node.{Node}
@@ -38,7 +39,15 @@ clock hours minutes seconds = 3600 * hours + 60 * minutes + seconds
 
 -- trains run no faster than scheduled, stand for a minute at least, and a change takes 3 minutes
 abbrev pub opts : Opts
-opts = record { slack = 0; stop = 60; change = 180; window = 1800; spare_trains = 200; spare_calls = 4000; overrides = 10000 }
+opts = record {
+  slack = 0;
+  stop = 60;
+  change = 180;
+  window = 1800;
+  spare_trains = 200;
+  spare_calls = 4000;
+  overrides = 10000;
+}
 
 -- trains catch up 7 of 100 seconds of running time
 abbrev pub with_slack : Opts
@@ -69,7 +78,8 @@ stop_d = 5
 -- the stops A, C and D, and the station B with two platforms
 abbrev pub stops : List StopRow
 stops =
-    place 65 Platform None ∷ place 66 Station None ∷ place 67 Platform (Some station_b) ∷ place 68 Platform (Some station_b)
+    place 65 Platform None ∷ place 66 Station None ∷ place 67 Platform (Some station_b)
+    ∷ place 68 Platform (Some station_b)
     ∷ place 69 Platform None ∷ place 70 Platform None ∷ []
 
 -- trains of the second route wait so long for trains of the first, at any stop
@@ -81,7 +91,12 @@ abbrev pub for_any : ℕ → RuleRow
 for_any seconds = record { feeder = None; connecting = None; stop = None; max_wait = seconds }
 
 abbrev pub network_by : Opts → List TransferRow → List RuleRow → Network
-network_by o transfers rules = record { stops = stops; transfers = transfers; rules = rules; opts = o }
+network_by o transfers rules = record {
+  stops = stops;
+  transfers = transfers;
+  rules = rules;
+  opts = o;
+}
 
 abbrev pub network : Opts → Network
 network o = network_by o [] (waits_for 300 ∷ [])
@@ -91,7 +106,14 @@ at time live = record { scheduled = time; live = live; forecast = None; report =
 
 abbrev pub call : ℕ → ℕ → EventValues → EventValues → Call
 call label stop arrival departure =
-    record { label = label; stop = stop; arrival = arrival; departure = departure; board = true; alight = true }
+    record {
+      label = label;
+      stop = stop;
+      arrival = arrival;
+      departure = departure;
+      board = true;
+      alight = true;
+    }
 
 -- the first train's call at B, and the second's
 abbrev pub t1_at_b : Call
@@ -224,7 +246,8 @@ and_d = Reroute 0 0 1 (new stop_d (clock 8 10 0) (clock 8 11 0) ∷ [])
 
 -- one more train, from D to A
 abbrev pub extra : ℕ → Message
-extra number = Extra number 0 0 (new stop_d (clock 9 20 0) (clock 9 20 0) ∷ new stop_a (clock 10 0 0) (clock 10 0 0) ∷ [])
+extra number = Extra number 0 0 (new stop_d (clock 9 20 0) (clock 9 20 0)
+    ∷ new stop_a (clock 10 0 0) (clock 10 0 0) ∷ [])
 
 -- a wish to travel from a place to another, from eight o'clock on
 abbrev pub at_eight : ℕ → ℕ → Query
@@ -247,23 +270,27 @@ ride train board board_stop board_time alight alight_stop alight_time =
 abbrev pub answered : ℕ → ℕ → Answer ℕ
 answered client count = record { client = client; count = count }
 
--- the second train where passengers may board at B and alight at D, or not, and a state in which no other runs
+-- the second train where passengers may board at B and alight at D, or not, and a state in which no
+-- other runs
 abbrev pub t2_by : Bool → Bool → Train
 t2_by board alight =
     record t2 {
       calls =
           record t2_at_b { board = board }
-          ∷ record (call 1 stop_d (at (clock 9 10 0) true) (at (clock 9 10 0) false)) { alight = alight }
+          ∷ record (call 1 stop_d (at (clock 9 10 0) true) (at (clock 9 10 0) false))
+          { alight = alight }
           ∷ [];
     }
 
 abbrev pub alone : Train → State
 alone t = record (start opts) { trains = t ∷ [] }
 
--- the timetable where the first train runs on to D and not to C, and comes there in the second in which the other does
+-- the timetable where the first train runs on to D and not to C, and comes there in the second in
+-- which the other does
 abbrev pub both_to_d : State
 both_to_d =
-    let to_d = call 0 stop_a (at (clock 8 0 0) false) (at (clock 8 0 0) true) ∷ t1_at_b ∷ call 2 stop_d (at (clock 9 10 0) true) (at (clock 9 10 0) false) ∷ [] in
+    let to_d = call 0 stop_a (at (clock 8 0 0) false) (at (clock 8 0 0) true) ∷ t1_at_b
+    ∷ call 2 stop_d (at (clock 9 10 0) true) (at (clock 9 10 0) false) ∷ [] in
     record (start opts) { trains = record t1 { calls = to_d } ∷ t2 ∷ [] }
 
 -- the train 0 calls at D on its way to B, does not run from D to B, and leaves A 33 minutes late
@@ -291,4 +318,8 @@ by_number = record { message = λ names m. Ok m; known = λ names m. names }
 
 -- extra trains of the first route that are read with the next number, where so many are taken
 abbrev pub next_extra : Reading (List NewCall) ℕ
-next_extra = record { message = λ taken calls. Ok (Extra taken 0 0 calls); known = λ taken calls. taken + 1 }
+next_extra = record {
+  message = λ taken calls. Ok (Extra taken 0 0 calls);
+  known = λ taken calls.
+      taken + 1;
+}

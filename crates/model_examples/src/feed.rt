@@ -95,7 +95,8 @@ fn event(scheduled: u32, live: bool) -> EventValues
     }
 }
 
-/// Adds a call at which passengers may board and alight, by the scheduled times of its events and whether they are live.
+/// Adds a call at which passengers may board and alight, by the scheduled times of its events and
+/// whether they are live.
 fn push_call(
     calls: &mut Vec<Call>,
     label: u32,
@@ -105,7 +106,8 @@ fn push_call(
 ) -> Result<(), OutOfMemory>
     requires arrival { arrival.0 < 2 ^ 25 }
     requires departure { departure.0 < 2 ^ 25 }
-    ensures { OnOk result (calls.new.items ≡ calls.old.items ++ call label stop (at arrival.0 arrival.1) (at departure.0 departure.1) ∷ []) }
+    ensures { OnOk result (calls.new.items ≡ calls.old.items ++ call label stop
+        (at arrival.0 arrival.1) (at departure.0 departure.1) ∷ []) }
 {
     calls.push(Call {
         label: Label::new(label),

@@ -2,7 +2,8 @@
 use Rattle.std.specs.Prelude.{◌≤◌}
 use Rattle.mt_base.specs.declared.options.Opts.{Opts}
 
--- every option is in its range: the slack in per cent, the stop, the change and the window in seconds, the rest as counts
+-- every option is in its range: the slack in per cent, the stop, the change and the window in
+-- seconds, the rest as counts
 pub record IsInRange (o : Opts) : Type 0 where
   pub slack : o.slack ≤ 50
   pub stop : o.stop ≤ 3600

@@ -9,7 +9,8 @@ use jiff_core::civil::Date;
 /// The date that the number YYYYMMDD names.
 fn date_of(date: u32) -> Option<Date>
     ensures some { IsSome result ↔ IsCivil date }
-    ensures value { IfSome result (IsYmd (pos (date / 10000)) (pos (date / 100 % 100)) (pos (date % 100))) }
+    ensures value { IfSome result (IsYmd (pos (date / 10000)) (pos (date / 100 % 100))
+        (pos (date % 100))) }
 {
     if date >= 100_000_000 {
         return None;

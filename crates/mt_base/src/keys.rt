@@ -65,8 +65,8 @@ impl Node {
     }
 }
 
-/// An event with its scheduled time: events are settled in the order of their keys, which is by scheduled time,
-/// train, label, and the arrival before the departure.
+/// An event with its scheduled time: events are settled in the order of their keys, which is by
+/// scheduled time, train, label, and the arrival before the departure.
 #[derive(Clone, Copy, Debug, PartialEq, Eq, PartialOrd, Ord, Hash)]
 pub struct Key {
     /// The scheduled time of the event.
@@ -109,13 +109,15 @@ impl Key {
     }
 }
 
-/// The order in which events are settled is total: of any two keys one is before the other, or they are one key.
+/// The order in which events are settled is total: of any two keys one is before the other, or they
+/// are one key.
 pub fn key_order_is_total()
     ensures total { IsTotalOrder key_cmp }
     ensures exact { (a b : AKey) → key_cmp a b ≡ Equal → a ≡ b }
 {}
 
-/// The order of events by name is total: of any two events one is before the other, or they are one event.
+/// The order of events by name is total: of any two events one is before the other, or they are one
+/// event.
 pub fn node_order_is_total()
     ensures total { IsTotalOrder node_cmp }
     ensures exact { (a b : ANode) → node_cmp a b ≡ Equal → a ≡ b }

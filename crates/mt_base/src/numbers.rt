@@ -128,7 +128,8 @@ impl StopNo {
     }
 }
 
-/// The number of a route, by first appearance in `trips.txt` and then in `waiting_rules.txt`, from 0.
+/// The number of a route, by first appearance in `trips.txt` and then in `waiting_rules.txt`, from
+/// 0.
 #[derive(Clone, Copy, Debug, PartialEq, Eq, PartialOrd, Ord, Hash)]
 pub struct RouteNo {
     number: u32,

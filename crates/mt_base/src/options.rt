@@ -8,13 +8,15 @@ pub struct Opts {
     /// How much of a scheduled running time a late train can make up, in per cent: 0 to 50.
     pub slack: u32,
 
-    /// The least time that a late train stands at a stop where it is scheduled to stand that long or longer, in seconds: 0 to 3,600.
+    /// The least time that a late train stands at a stop where it is scheduled to stand that long
+    /// or longer, in seconds: 0 to 3,600.
     pub stop: u32,
 
     /// The change time where `transfers.txt` gives no seconds, in seconds: 1 to 3,600.
     pub change: u32,
 
-    /// How long after the least change a departure may lie that a train is still planned to feed, in seconds: 0 to 3,600.
+    /// How long after the least change a departure may lie that a train is still planned to feed,
+    /// in seconds: 0 to 3,600.
     pub window: u32,
 
     /// How many extra trains may be accepted: 0 to 2,000.

@@ -60,8 +60,8 @@ pub struct NewCall {
     pub dep: Time,
 }
 
-/// An event in the index of events by stop and time. Entries are ordered by stop, arrivals before departures,
-/// scheduled time, and event.
+/// An event in the index of events by stop and time. Entries are ordered by stop, arrivals before
+/// departures, scheduled time, and event.
 #[derive(Clone, Copy, Debug, PartialEq, Eq, PartialOrd, Ord)]
 pub struct Entry {
     /// The stop of the event's call.
@@ -86,7 +86,8 @@ impl Entry {
     }
 }
 
-/// The order of the index of events is total: of any two entries one is before the other, or they are one entry.
+/// The order of the index of events is total: of any two entries one is before the other, or they
+/// are one entry.
 pub fn entry_order_is_total()
     ensures total { IsTotalOrder entry_cmp }
     ensures exact { (a b : AnEntry) → entry_cmp a b ≡ Equal → a ≡ b }

@@ -31,7 +31,8 @@ pub data Line : Type 0 where
 abbrev pub line_of : List ℕ → Line
 line_of piece = if nat_lt (length piece) 65536 then short piece else long
 
--- whether the piece behind the last LF is a line: at the end of the input if it isn't empty, else if it is long
+-- whether the piece behind the last LF is a line: at the end of the input if it isn't empty, else
+-- if it is long
 abbrev pub last_counts : Bool → List ℕ → Bool
 last_counts true piece = nat_lt 0 (length piece)
 last_counts false piece = nat_le 65536 (length piece)

@@ -3,8 +3,8 @@ use Rattle.std.specs.Prelude.{ℕ, List, ◌++◌, drop}
 use Rattle.mt_io.specs.Causes.{counted}
 use Rattle.mt_io.specs.Tables.{Shelved}
 
--- Bytes that are left, the most that a read gives, the numbers of the calls that fail, and how many calls and faults
--- there were.
+-- Bytes that are left, the most that a read gives, the numbers of the calls that fail, and how many
+-- calls and faults there were.
 pub record MemoryReader : Type 0 where
   pub left : List ℕ
   pub piece : ℕ
@@ -20,7 +20,8 @@ after_read s n = record s { left = drop n s.left; calls = counted s.calls }
 abbrev pub after_read_fault : MemoryReader → MemoryReader
 after_read_fault s = record s { calls = counted s.calls; faults = counted s.faults }
 
--- Bytes that are held, how many can be, the numbers of the calls that fail, and how many calls and faults there were.
+-- Bytes that are held, how many can be, the numbers of the calls that fail, and how many calls and
+-- faults there were.
 pub record MemoryWriter : Type 0 where
   pub held : List ℕ
   pub room : ℕ

@@ -4,8 +4,8 @@ use Rattle.std.specs.declared.option.Option.{Option}
 use Rattle.std.specs.Io.KnownBytes.{Consumes, IsAtEnd}
 use Rattle.mt_io.specs.Lines.{Line, lines_past}
 
--- Bytes that were taken and not yet answered, whether they begin inside a long line, whether the end was read, how many
--- bytes were taken in all, how many may be, and the line last answered.
+-- Bytes that were taken and not yet answered, whether they begin inside a long line, whether the
+-- end was read, how many bytes were taken in all, how many may be, and the line last answered.
 pub record Reader : Type 0 where
   pub held : List ℕ
   pub inside_long : Bool
@@ -26,13 +26,16 @@ HoldsNoLine r = lines_past r.inside_long false r.held ≡ []
 abbrev pub CanCome : Reader → List ℕ → Bool → Type 0
 CanCome r rest ended = r.ended ≡ true → (rest ≡ []) × (ended ≡ true)
 
--- A call took these bytes from the source and answered these lines. Whatever comes then, the lines of what was held, of
--- the bytes and of what comes are those answered, followed by those of what is held now and of what comes.
-pub record Gives (old new : Reader) (left left_now : Option (List ℕ)) (bytes : List ℕ) (lines : List Line) : Type 0 where
+-- A call took these bytes from the source and answered these lines. Whatever comes then, the lines
+-- of what was held, of the bytes and of what comes are those answered, followed by those of what is
+-- held now and of what comes.
+pub record Gives (old new : Reader) (left left_now : Option (List ℕ)) (bytes : List ℕ)
+    (lines : List Line) : Type 0 where
   pub source : Consumes left left_now bytes
   pub taken : new.taken ≡ old.taken + length bytes
   pub budget : new.budget ≡ old.budget
-  pub lines_ahead : (rest : List ℕ) (ended : Bool) → CanCome new rest ended → ahead old (bytes ++ rest) ended ≡ lines ++ ahead new rest ended
+  pub lines_ahead : (rest : List ℕ) (ended : Bool) → CanCome new rest ended
+      → ahead old (bytes ++ rest) ended ≡ lines ++ ahead new rest ended
   pub still_ended : old.ended ≡ true → (new.ended ≡ true) × (bytes ≡ [])
   pub end : old.ended ≡ false → new.ended ≡ true → IsAtEnd left_now
 

@@ -30,7 +30,8 @@ pub record SameCounts (old new : Reader) : Type 0 where
   pub budget : new.budget ≡ old.budget
 
 -- these bytes came from the source, or none since it is at its end
-pub record Takes (old new : Reader) (left left_now : Option (List ℕ)) (bytes : List ℕ) : Type 0 where
+pub record Takes (old new : Reader) (left left_now : Option (List ℕ))
+    (bytes : List ℕ) : Type 0 where
   pub held : new.held ≡ old.held ++ bytes
   pub inside_long : new.inside_long ≡ old.inside_long
   pub taken : new.taken ≡ old.taken + length bytes

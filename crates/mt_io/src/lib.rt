@@ -1,4 +1,5 @@
-//! The outside as traits, objects in memory that stand for it, the lines of an input, and the real edges.
+//! The outside as traits, objects in memory that stand for it, the lines of an input, and the real
+//! edges.
 #![tactic(auto)]
 
 pub mod edges;

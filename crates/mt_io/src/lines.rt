@@ -113,7 +113,8 @@ impl LineReader {
         ensures* gives { sem 𝓛 (Rests the_row self.entry (λ new.
             GivesNext self.old new (S.left source.old) (S.left source.new) (next_lines result)
             × LeavesNext result self.old new)) }
-        ensures read_fault { result ≡ Next.ReadFault → Rose (S.faults source.old) (S.faults source.new) }
+        ensures read_fault { result ≡ Next.ReadFault
+            → Rose (S.faults source.old) (S.faults source.new) }
         ensures later { S.faults source.old ≤ S.faults source.new }
         ensures holds { ¬ (HoldsNoLine self.old) → source.new ≡ source.old }
         ensures ended { self.old.ended ≡ true → source.new ≡ source.old }
@@ -140,7 +141,8 @@ impl LineReader {
         ensures gives { GivesNext self.old self.new (S.left source.old) (S.left source.new)
             (answers result self.new.line) }
         ensures leaves { Leaves result self.old self.new }
-        ensures read_fault { result ≡ Found.ReadFault → Rose (S.faults source.old) (S.faults source.new) }
+        ensures read_fault { result ≡ Found.ReadFault
+            → Rose (S.faults source.old) (S.faults source.new) }
         ensures later { S.faults source.old ≤ S.faults source.new }
         ensures holds { ¬ (HoldsNoLine self.old) → source.new ≡ source.old }
         ensures ended { self.old.ended ≡ true → source.new ≡ source.old }
@@ -158,7 +160,8 @@ impl LineReader {
         ensures gives { GivesNext self.old self.new (S.left source.old) (S.left source.new)
             (answers result self.new.line) }
         ensures leaves { Leaves result self.old self.new }
-        ensures read_fault { result ≡ Found.ReadFault → Rose (S.faults source.old) (S.faults source.new) }
+        ensures read_fault { result ≡ Found.ReadFault
+            → Rose (S.faults source.old) (S.faults source.new) }
         ensures later { S.faults source.old ≤ S.faults source.new }
         ensures ended { self.old.ended ≡ true → source.new ≡ source.old }
         ensures spent { self.old.taken ≡ self.old.budget → source.new ≡ source.old }
@@ -198,7 +201,8 @@ impl LineReader {
 
     // Passes over the rest of a long line, as far as it is held.
     fn pass(&mut self)
-        ensures ahead { (rest : List ℕ) (ended : Bool) → ahead self.old rest ended ≡ ahead self.new rest ended }
+        ensures ahead { (rest : List ℕ) (ended : Bool) → ahead self.old rest ended
+            ≡ ahead self.new rest ended }
         ensures work { work self.new ≤ work self.old }
         ensures passed { self.new.inside_long ≡ true → self.new.held ≡ [] }
         ensures counts { SameCounts self.old self.new }
@@ -224,7 +228,8 @@ impl LineReader {
         ensures found { IfSome result (λ f. IsLine f × ((rest : List ℕ) (ended : Bool)
             → ahead self.old rest ended ≡ answers f self.new.line ++ ahead self.new rest ended)) }
         ensures less { IfSome result (λ _. work self.new < work self.old) }
-        ensures none { IfNone result ((self.new ≡ self.old) × HasNoLf self.new.held × (length self.new.held < 65536)) }
+        ensures none { IfNone result ((self.new ≡ self.old) × HasNoLf self.new.held
+            × (length self.new.held < 65536)) }
         ensures counts { SameCounts self.old self.new }
     {
         let limit = self.end.min(self.start + LONG);
@@ -250,7 +255,8 @@ impl LineReader {
     fn finish(&mut self) -> Found
         requires ended { self.old.ended ≡ true }
         requires waits { Waits self.old }
-        ensures ahead { ahead self.old [] true ≡ answers result self.new.line ++ ahead self.new [] true }
+        ensures ahead { ahead self.old [] true ≡ answers result self.new.line
+            ++ ahead self.new [] true }
         ensures leaves { Leaves result self.old self.new }
         ensures counts { SameCounts self.old self.new }
     {
@@ -271,7 +277,8 @@ impl LineReader {
         requires budget { self.old.taken < self.old.budget }
         ensures ok { OnOk result ((bytes : List ℕ)
             × Takes self.old self.new (S.left source.old) (S.left source.new) bytes) }
-        ensures err { OnErr result (TookNothing self.old self.new (S.left source.old) (S.left source.new)) }
+        ensures err { OnErr result (TookNothing self.old self.new (S.left source.old)
+            (S.left source.new)) }
         ensures cause { HasCause (S.faults source.old) (S.faults source.new) result }
     {
         let held = self.end - self.start;
@@ -301,7 +308,8 @@ fn make_room(bytes: &mut Vec<u8>, start: usize, end: usize) -> usize
     requires small { end - start < 65536 }
     ensures room { result + (end - start) < 131072 }
     ensures len { vec_len bytes.new ≡ 131072 }
-    ensures held { slice_range bytes.new.items result (result + (end - start)) ≡ slice_range bytes.old.items start end }
+    ensures held { slice_range bytes.new.items result (result + (end - start))
+        ≡ slice_range bytes.old.items start end }
 {
     if start < end && end <= NARROW {
         return start;
@@ -322,7 +330,8 @@ fn read_at<S: Source>(
     ensures front { take at bytes.new.items ≡ take at bytes.old.items }
     ensures bound { IfOk result (λ n. n ≤ room) }
     ensures moved { MatchResult result
-        (λ n. Consumes (S.left source.old) (S.left source.new) (slice_range bytes.new.items at (at + n))
+        (λ n. Consumes (S.left source.old) (S.left source.new)
+        (slice_range bytes.new.items at (at + n))
         × (n ≡ 0 → 0 < room → IsAtEnd (S.left source.new)))
         (λ _. Keeps (S.left source.old) (S.left source.new)) }
     ensures cause { HasCause (S.faults source.old) (S.faults source.new) result }
@@ -334,7 +343,8 @@ fn read_at<S: Source>(
 fn next_lf(bytes: &[u8], from: usize) -> Option<usize>
     requires within { from ≤ length bytes.now }
     requires searched { HasNoLf (take from bytes.now) }
-    ensures { MatchOption result (HasNoLf bytes.now) (λ i. (i < length bytes.now) × HasNoLf (take i bytes.now)
+    ensures { MatchOption result (HasNoLf bytes.now) (λ i. (i < length bytes.now)
+        × HasNoLf (take i bytes.now)
         × (bytes.now ≡ take i bytes.now ++ 10 ∷ drop (i + 1) bytes.now)) }
 {
     match memchr(b'\n', &bytes[from..]) {

@@ -1,4 +1,5 @@
-//! A source, a sink and a feed in memory, which fail where they are told to. Their calls are numbered from 0.
+//! A source, a sink and a feed in memory, which fail where they are told to. Their calls are
+//! numbered from 0.
 ghost use Rattle.std.specs.Prelude.{◌≡◌, ◌↔◌, ◌⊎◌, ◌<◌, ◌≤◌, ◌-◌, ◌∷◌, [], length, drop, take, min, Contains, IsErr, IsErrOf, IfOk, IfSome, OnOk, OnErr, Some, option_map, vec_len, vec_capacity, IsTrue, ◌++◌, ◌+◌};
 ghost use Rattle.std.specs.Io.{ReadsAtMost, WritesAtMost};
 ghost use Rattle.std.specs.Io.KnownBytes.{ReadConsumes, WriteAppends};
@@ -39,7 +40,8 @@ impl Model for MemSource {
 }
 
 impl MemSource {
-    /// A source of these bytes, of which a read gives at most `piece`. The reads whose numbers are listed fail.
+    /// A source of these bytes, of which a read gives at most `piece`. The reads whose numbers are
+    /// listed fail.
     pub fn build(bytes: Vec<u8>, piece: usize, failing: Vec<u64>) -> MemSource
         requires { 1 ≤ piece }
         ensures { result ≡ record {
@@ -71,7 +73,8 @@ impl Source for MemSource {
         ensures bytes { ReadConsumes (Some self.old.left) (Some self.new.left) result buf.new }
         ensures cause { HasCause self.old.faults self.new.faults result }
         ensures fails { IsErr result ↔ Contains self.old.failing self.old.calls }
-        ensures gives { IfOk result (λ n. n ≡ min (min (length self.old.left) self.old.piece) (length buf.old)) }
+        ensures gives { IfOk result (λ n. n ≡ min (min (length self.old.left) self.old.piece)
+            (length buf.old)) }
         ensures ok { IfOk result (λ n. self.new ≡ after_read self.old n) }
         ensures err { OnErr result (self.new ≡ after_read_fault self.old) }
     {
@@ -151,7 +154,8 @@ impl Sink for MemSink {
         ensures cause { HasCause self.old.faults self.new.faults result }
         ensures fails { IsErr result ↔ (Contains self.old.failing self.old.calls
             ⊎ ((0 < length bytes.now) × (self.old.room ≤ length self.old.held))) }
-        ensures takes { IfOk result (λ n. n ≡ min (length bytes.now) (self.old.room - length self.old.held)) }
+        ensures takes { IfOk result (λ n. n ≡ min (length bytes.now)
+            (self.old.room - length self.old.held)) }
         ensures ok { IfOk result (λ n. self.new ≡ after_write self.old (take n bytes.now)) }
         ensures err { OnErr result (self.new ≡ after_write_fault self.old) }
     {
@@ -225,7 +229,8 @@ impl Feed for MemFeed {
         ensures bytes { IfOk result (λ table.
             table_in self.old.tables folder.now name.now ≡ option_map (λ v. v.items) table) }
         ensures small { IfOk result (λ table. IfSome table (λ v. length v.items ≤ 268435456)) }
-        ensures long { IsErrOf result FeedFault.TooLong → IsTooLong (table_in self.old.tables folder.now name.now) }
+        ensures long { IsErrOf result FeedFault.TooLong
+            → IsTooLong (table_in self.old.tables folder.now name.now) }
         ensures failed { IsErrOf result FeedFault.Failed → Rose self.old.faults self.new.faults }
         ensures later { self.old.faults ≤ self.new.faults }
         ensures same { Some (table_in self.new.tables) ≡ Some (table_in self.old.tables) }

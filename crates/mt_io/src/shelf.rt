@@ -70,7 +70,8 @@ impl Shelf {
         ensures bytes { IfOk result (λ table.
             table_in self.now folder.now name.now ≡ option_map (λ v. v.items) table) }
         ensures small { IfOk result (λ table. IfSome table (λ v. length v.items ≤ 268435456)) }
-        ensures long { IsErrOf result FeedFault.TooLong → IsTooLong (table_in self.now folder.now name.now) }
+        ensures long { IsErrOf result FeedFault.TooLong
+            → IsTooLong (table_in self.now folder.now name.now) }
         ensures never { IsErrOf result FeedFault.Failed → ⊥ }
     {
         let Some(bytes) = find(&self.tables, folder, name) else {
@@ -97,7 +98,8 @@ fn put_first(tables: &mut Vec<Table>, table: Table) -> Result<(), OutOfMemory>
 
 // The bytes of the first table of this folder and name.
 fn find<'a>(tables: &'a [Table], folder: &str, name: &str) -> Option<&'a [u8]>
-    ensures { option_map (λ s. s.now) result ≡ table_in (map shelved tables.now) folder.now name.now }
+    ensures { option_map (λ s. s.now) result ≡ table_in (map shelved tables.now) folder.now
+        name.now }
 {
     for table in tables {
         if table.folder.as_str() == folder && table.name.as_str() == name {

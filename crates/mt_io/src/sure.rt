@@ -58,7 +58,8 @@ impl Source for SureSource {
         ensures bound { ReadsAtMost result buf.new }
         ensures bytes { ReadConsumes (Some self.old.left) (Some self.new.left) result buf.new }
         ensures cause { HasCause 0 0 result }
-        ensures gives { IsOkAnd result (λ n. (n ≡ min (min (length self.old.left) self.old.piece) (length buf.old))
+        ensures gives { IsOkAnd result (λ n.
+            (n ≡ min (min (length self.old.left) self.old.piece) (length buf.old))
             × (self.new ≡ record self.old { left = drop n self.old.left })) }
     {
         let count = give(&self.bytes, self.at, self.piece, buf);
@@ -136,7 +137,8 @@ impl Feed for SureFeed {
         ensures bytes { IfOk result (λ table.
             table_in self.old folder.now name.now ≡ option_map (λ v. v.items) table) }
         ensures small { IfOk result (λ table. IfSome table (λ v. length v.items ≤ 268435456)) }
-        ensures long { IsErrOf result FeedFault.TooLong → IsTooLong (table_in self.old folder.now name.now) }
+        ensures long { IsErrOf result FeedFault.TooLong
+            → IsTooLong (table_in self.old folder.now name.now) }
         ensures never { IsErrOf result FeedFault.Failed → ⊥ }
         ensures same { self.new ≡ self.old }
     {

@@ -17,7 +17,8 @@ pub trait Source {
     /// How often it has failed.
     ghost faults: { Self → ℕ };
 
-    /// Moves the next bytes into the front of `buf`. None come only at the end, or where `buf` is empty.
+    /// Moves the next bytes into the front of `buf`. None come only at the end, or where `buf` is
+    /// empty.
     fn read(&mut self, buf: &mut [u8]) -> Result<usize, Failed>
         ensures bound { ReadsAtMost result buf.new }
         ensures bytes { ReadConsumes (left self.old) (left self.new) result buf.new }
@@ -66,7 +67,8 @@ pub trait Feed {
         ensures small { IfOk result (λ table. IfSome table (λ v. length v.items ≤ 268435456)) }
         ensures long { IsErrOf result FeedFault.TooLong → IfSome (tables self.old) (λ told.
             IsTooLong (told folder.now name.now)) }
-        ensures failed { IsErrOf result FeedFault.Failed → Rose (faults self.old) (faults self.new) }
+        ensures failed { IsErrOf result FeedFault.Failed
+            → Rose (faults self.old) (faults self.new) }
         ensures later { faults self.old ≤ faults self.new }
         ensures same { tables self.new ≡ tables self.old };
 }
@@ -74,7 +76,8 @@ pub trait Feed {
 /// Appends all of `bytes`. After a fault a front of them was appended, and not all.
 pub fn put<K: Sink>(sink: &mut K, bytes: &[u8]) -> Result<(), Failed>
     ensures ok { OnOk result (Appends (K.written sink.old) (K.written sink.new) bytes.now) }
-    ensures failed { OnErr result (AppendsPart (K.written sink.old) (K.written sink.new) bytes.now) }
+    ensures failed { OnErr result (AppendsPart (K.written sink.old)
+        (K.written sink.new) bytes.now) }
     ensures cause { HasCause (K.faults sink.old) (K.faults sink.new) result }
 {
     let mut done = 0;

@@ -20,11 +20,13 @@ day_number date = days_from_civil (pos (year_of date)) (month_of date) (day_of d
 abbrev pub weekday_of : ℕ → ℕ
 weekday_of date = weekday_number (day_number date)
 
--- the date of the day after: the next day of the month, or the first of the next month, or 1 January of the next year
+-- the date of the day after: the next day of the month, or the first of the next month, or 1
+-- January of the next year
 abbrev pub next_date : ℕ → ℕ
 next_date date =
     if nat_lt (day_of date) (days_in_month (pos (year_of date)) (month_of date)) then date + 1
-    else (if nat_lt (month_of date) 12 then year_of date * 10000 + (month_of date + 1) * 100 + 1 else (year_of date + 1) * 10000 + 101)
+    else (if nat_lt (month_of date) 12 then year_of date * 10000 + (month_of date + 1) * 100
+    + 1 else (year_of date + 1) * 10000 + 101)
 
 -- the date so many days after the first
 unfoldable pub date_after : ℕ → ℕ → ℕ

@@ -17,8 +17,8 @@ pub record Place : Type 0 where
   pub id : List ℕ
   pub kind : PlaceKind
 
--- the dates of the loaded days, the places, the routes and the trains, each in the order of their numbers; and for how many extra
--- trains there is still room
+-- the dates of the loaded days, the places, the routes and the trains, each in the order of their
+-- numbers; and for how many extra trains there is still room
 pub record Names : Type 0 where
   pub dates : List ℕ
   pub places : List Place
@@ -35,7 +35,8 @@ number_from at test (x ∷ xs) = if test x then Some at else number_from (at + 1
 
 -- the train of a trip on a service day
 unfoldable pub train_named : Names → List ℕ → ℕ → Option ℕ
-train_named names trip day = number_from 0 (λ (t : TrainName). bytes_eq t.trip trip && nat_eq t.day day) names.trains
+train_named names trip day = number_from 0 (λ (t : TrainName). bytes_eq t.trip trip
+    && nat_eq t.day day) names.trains
 
 -- the loaded day that has a date
 unfoldable pub day_named : Names → ℕ → Option ℕ
@@ -49,7 +50,8 @@ place_named names id = number_from 0 (λ (p : Place). bytes_eq p.id id) names.pl
 unfoldable pub route_named : Names → List ℕ → Option ℕ
 route_named names id = number_from 0 (λ r. bytes_eq r id) names.routes
 
--- ---- from numbers to names. A number that is not there has the empty name, the date 0, day 0 and type 0
+-- ---- from numbers to names. A number that is not there has the empty name, the date 0, day 0 and
+-- type 0
 
 -- the date of a service day, as the number YYYYMMDD
 abbrev pub date_of_day : Names → ℕ → ℕ
@@ -61,7 +63,8 @@ base_of day = 86400 * day
 
 -- the `trip_id` of a train
 abbrev pub trip_of_train : Names → ℕ → List ℕ
-trip_of_train names train = option_map_or (λ (t : TrainName). t.trip) (slice_get names.trains train) []
+trip_of_train names train = option_map_or (λ (t : TrainName). t.trip)
+    (slice_get names.trains train) []
 
 -- the service day of a train
 abbrev pub day_of_train : Names → ℕ → ℕ
@@ -80,7 +83,10 @@ kind_of_place names place = option_map (λ (p : Place). p.kind) (slice_get names
 -- the names with one more train, which gets the next number. One extra train less is spare
 abbrev pub with_extra : List ℕ → ℕ → Names → Names
 with_extra trip day names =
-    record names { trains = names.trains ++ record { trip = trip; day = day } ∷ []; spare_trains = names.spare_trains - 1 }
+    record names {
+      trains = names.trains ++ record { trip = trip; day = day } ∷ [];
+      spare_trains = names.spare_trains - 1;
+    }
 
 -- ---- the names of a feed
 
@@ -95,9 +101,14 @@ place_of_row r = record { id = r.id; kind = r.kind }
 
 -- the name of the train of a run
 abbrev pub name_of_run : List TripRow → Run → TrainName
-name_of_run trips r = record { trip = option_map_or (λ (t : TripRow). t.id) (slice_get trips r.trip) []; day = r.day }
+name_of_run trips r = record {
+  trip = option_map_or (λ (t : TripRow). t.id)
+      (slice_get trips r.trip) [];
+  day = r.day;
+}
 
--- the names of a feed's timetable of so many days from the date `first` on, with room for what the options spare
+-- the names of a feed's timetable of so many days from the date `first` on, with room for what the
+-- options spare
 abbrev pub names_of : Tables → ℕ → ℕ → Opts → Names
 names_of t first days o =
     record {

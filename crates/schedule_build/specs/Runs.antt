@@ -16,16 +16,22 @@ HasService services r = r.service < services
 abbrev pub is_set : List Bool → ℕ → Bool
 is_set marks service = slice_index_or marks service false
 
--- the trips, numbered from `trip` on, whose services are active on a day and which have calls, in the order of `trips.txt`
+-- the trips, numbered from `trip` on, whose services are active on a day and which have calls, in
+-- the order of `trips.txt`
 abbrev pub day_runs : (ℕ → Bool) → List CallRow → ℕ → ℕ → List TripRow → List Run
 day_runs active calls day trip [] = []
 day_runs active calls day trip (row ∷ rows) =
-    if active row.service && has_calls calls trip then record { day = day; trip = trip; route = row.route } ∷ day_runs active calls day (trip + 1) rows
+    if active row.service && has_calls calls trip then record {
+      day = day;
+      trip = trip;
+      route = row.route;
+    } ∷ day_runs active calls day (trip + 1) rows
     else day_runs active calls day (trip + 1) rows
 
 -- the trips that run on a service day, of which day 0 is the date `first`
 abbrev pub runs_on : Tables → ℕ → ℕ → List Run
-runs_on t first day = day_runs (λ service. is_active t service (date_after first day)) t.calls day 0 t.trips
+runs_on t first day = day_runs (λ service. is_active t service (date_after first day)) t.calls day
+    0 t.trips
 
 -- the runs of so many service days from `day` on, in the order of the days
 abbrev pub runs_from : Tables → ℕ → ℕ → ℕ → List Run

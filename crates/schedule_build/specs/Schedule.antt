@@ -43,7 +43,8 @@ schedule t first days o = schedule_of t.calls (all_runs t first days) o
 abbrev pub count_calls : List CallRow → List Run → ℕ
 count_calls calls rs = sum_by (λ r. length (run_calls calls r)) rs
 
--- of what a schedule with these runs has too many: of trains, past 200,000, or else of nodes, past 2,000,000 with two for each call
+-- of what a schedule with these runs has too many: of trains, past 200,000, or else of nodes, past
+-- 2,000,000 with two for each call
 abbrev pub too_many : List CallRow → List Run → Option What
 too_many calls rs =
     if nat_lt 200000 (length rs) then Some Trains

@@ -19,7 +19,8 @@ is_within r date = nat_le r.first date && nat_le date r.last
 abbrev pub runs : ℕ → ℕ → ℕ → CalendarRow → Bool
 runs service date weekday r = nat_eq r.service service && is_within r date && is_marked r weekday
 
--- the row of `calendar_dates.txt` adds the service on the date (added true), or removes it (added false)
+-- the row of `calendar_dates.txt` adds the service on the date (added true), or removes it (added
+-- false)
 abbrev pub changes : Bool → ℕ → ℕ → DateRow → Bool
 changes added service date r = nat_eq r.service service && nat_eq r.date date && beq r.added added
 
@@ -35,7 +36,9 @@ is_removed rows service date = list_any (changes false service date) rows
 abbrev pub is_regular : List CalendarRow → ℕ → ℕ → Bool
 is_regular rows service date = list_any (runs service date (weekday_of date)) rows
 
--- the service is active on the date: it is added there, or it runs there regularly and is not removed there
+-- the service is active on the date: it is added there, or it runs there regularly and is not
+-- removed there
 abbrev pub is_active : Tables → ℕ → ℕ → Bool
 is_active t service date =
-    is_added t.dates service date || is_regular t.calendar service date && not (is_removed t.dates service date)
+    is_added t.dates service date || is_regular t.calendar service date
+    && not (is_removed t.dates service date)

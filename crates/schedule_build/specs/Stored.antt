@@ -16,7 +16,8 @@ number_of_place places id = number_from 0 (λ (p : Place). bytes_eq p.id id) pla
 
 -- the number of the first train of a trip on a service day
 abbrev pub number_of_train : List TrainName → List ℕ → ℕ → Option ℕ
-number_of_train trains trip day = number_from 0 (λ (t : TrainName). bytes_eq t.trip trip && nat_eq t.day day) trains
+number_of_train trains trip day =
+    number_from 0 (λ (t : TrainName). bytes_eq t.trip trip && nat_eq t.day day) trains
 
 -- the number that is stored for a name
 abbrev pub number_in : NameNumbers → List ℕ → Option ℕ

@@ -29,17 +29,20 @@ entry_of names number = (name_at names number, number)
 
 -- at this place in an order stands the number of the name
 abbrev pub IsEntry : List TrainName → List ℕ → TrainName → ℕ → Type 0
-IsEntry names order name place = HoldsAt (λ (e : TrainName × ℕ). name_cmp e.0 name ≡ Equal) (map (entry_of names) order) place
+IsEntry names order name place = HoldsAt (λ (e : TrainName × ℕ). name_cmp e.0 name ≡ Equal)
+    (map (entry_of names) order) place
 
 -- a number of the name would stand at this place in an order
 abbrev pub IsGap : List TrainName → List ℕ → TrainName → ℕ → Type 0
 IsGap names order name place =
-    IsPartitionPoint (λ (e : TrainName × ℕ). name_cmp e.0 name ≡ Less) (λ (e : TrainName × ℕ). name_cmp e.0 name ≡ Greater) (map (entry_of names) order) place
+    IsPartitionPoint (λ (e : TrainName × ℕ). name_cmp e.0 name ≡ Less) (λ (e : TrainName × ℕ).
+    name_cmp e.0 name ≡ Greater) (map (entry_of names) order) place
 
 -- the entries rise by name, and by them each name is found by its number
 pub record AreFound (names : List TrainName) (entries : List (TrainName × ℕ)) : Type 0 where
   pub sorted : IsTrue (is_sorted name_cmp entries)
-  pub found : (name : TrainName) → get (from_sorted {R = name_cmp} entries) name ≡ number_of_train names name.trip name.day
+  pub found : (name : TrainName) → get (from_sorted {R = name_cmp} entries) name
+      ≡ number_of_train names name.trip name.day
 
 -- the names of the extra trains in the order of their numbers, and for how many more there is room
 pub record ExtraNames : Type 0 where

@@ -26,10 +26,12 @@ HasTrip trips train = number_of_name trips (trip_name trips train) ≡ Some trai
 
 -- the numbers are those of these trains
 pub record AreNumbered (trains : List StoredTrain) (numbers : BTreeMap (ℕ × ℕ) ℕ) : Type 0 where
-  pub found : (trip day : ℕ) → get key_cmp numbers (trip, day) ≡ number_from 0 (λ (t : StoredTrain). nat_eq t.trip trip && nat_eq t.day day) trains
+  pub found : (trip day : ℕ) → get key_cmp numbers (trip, day)
+      ≡ number_from 0 (λ (t : StoredTrain). nat_eq t.trip trip && nat_eq t.day day) trains
 
 -- fewer than 2^32 trains on loaded days, with the trips and the numbers that they have
-pub record AreNamed (trips : List (List ℕ)) (trains : List StoredTrain) (numbers : BTreeMap (ℕ × ℕ) ℕ) : Type 0 where
+pub record AreNamed (trips : List (List ℕ)) (trains : List StoredTrain)
+    (numbers : BTreeMap (ℕ × ℕ) ℕ) : Type 0 where
   pub few : length trains < 2 ^ 32
   pub loaded : All (λ (t : StoredTrain). t.day < 31) trains
   pub has_trips : All (HasTrip trips) trains

@@ -13,7 +13,13 @@ scheduled day seconds = 86400 * day + seconds
 -- the call of a row, with these times on a service day
 abbrev pub call_at : ℕ → CallRow → ℕ × ℕ → TableCall
 call_at day r times =
-    record { stop = r.stop; arr = scheduled day times.0; dep = scheduled day times.1; board = r.board; alight = r.alight }
+    record {
+      stop = r.stop;
+      arr = scheduled day times.0;
+      dep = scheduled day times.1;
+      board = r.board;
+      alight = r.alight;
+    }
 
 -- the call of a row on a service day, if the row has a time
 abbrev pub timed_call : ℕ → CallRow → Option TableCall
@@ -23,7 +29,8 @@ timed_call day r = option_map (call_at day r) (both_times r.arr r.dep)
 abbrev pub timed_calls : ℕ → List CallRow → List TableCall
 timed_calls day rows = filter_map (timed_call day) rows
 
--- the calls of a trip on a service day, from its rows in any order: those with a time, by `stop_sequence`
+-- the calls of a trip on a service day, from its rows in any order: those with a time, by
+-- `stop_sequence`
 abbrev pub trip_calls : ℕ → List CallRow → List TableCall
 trip_calls day rows = timed_calls day (in_order sequence rows)
 

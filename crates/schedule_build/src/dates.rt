@@ -10,7 +10,8 @@ use jiff_core::civil::{Date, days_in_month};
 /// The date that a number YYYYMMDD names.
 fn date_of(date: u32) -> Option<Date>
     ensures some { IsCivil date → IsSome result }
-    ensures value { IfSome result (IsYmd (pos (date / 10000)) (pos (date / 100 % 100)) (pos (date % 100))) }
+    ensures value { IfSome result (IsYmd (pos (date / 10000)) (pos (date / 100 % 100))
+        (pos (date % 100))) }
 {
     if date >= 100_000_000 {
         return None;
@@ -48,7 +49,8 @@ pub(crate) fn next(date: u32) -> u32
     (year + 1) * 10_000 + 101
 }
 
-/// The civil date so many days after a civil date, both as numbers YYYYMMDD. The first is of a year up to 2100.
+/// The civil date so many days after a civil date, both as numbers YYYYMMDD. The first is of a year
+/// up to 2100.
 pub fn date_after(first: u32, days: u32) -> u32
     requires civil { IsCivil first }
     requires year { first < 21010000 }

@@ -14,8 +14,8 @@ use mt_base::places::PlaceKind;
 use std::alloc::Global;
 use std::marker::Model;
 
-/// The names of the trains, places, routes and days of a timetable. It is seen as these names in the order of their numbers, with how
-/// many extra trains can still be added.
+/// The names of the trains, places, routes and days of a timetable. It is seen as these names in
+/// the order of their numbers, with how many extra trains can still be added.
 #[derive(Drop)]
 pub struct Directory {
     dates: Vec<u32>,
@@ -38,7 +38,8 @@ impl Model for Directory {
 }
 
 impl Directory {
-    /// The directory with the dates of the loaded days, with these places, routes and trains, and with room for extra trains.
+    /// The directory with the dates of the loaded days, with these places, routes and trains, and
+    /// with room for extra trains.
     pub(crate) fn build(
         dates: Vec<u32>,
         places: Places,

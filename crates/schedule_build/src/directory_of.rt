@@ -70,8 +70,8 @@ fn trains(alloc: Global, trips: &[TripRow], runs: &[Run]) -> Result<TrainNames, 
     Ok(trains)
 }
 
-/// The names of a feed's timetable of so many days from the date `first` on, of which these are the runs, with room for what the
-/// options spare.
+/// The names of a feed's timetable of so many days from the date `first` on, of which these are the
+/// runs, with room for what the options spare.
 pub(crate) fn directory_of(
     alloc: Global,
     t: &Tables,

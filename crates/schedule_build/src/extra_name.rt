@@ -9,7 +9,8 @@ use mt_base::numbers::Day;
 use std::alloc::Global;
 use std::marker::Model;
 
-/// The name of an extra train: its trip and its service day. It owns its text, so that the train can be added without memory.
+/// The name of an extra train: its trip and its service day. It owns its text, so that the train
+/// can be added without memory.
 #[derive(Drop)]
 pub struct ExtraName {
     trip: Name,

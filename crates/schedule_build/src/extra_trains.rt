@@ -13,8 +13,8 @@ use std::alloc::Global;
 use std::cmp::Ordering;
 use std::marker::Model;
 
-/// The names of the extra trains in the order of their numbers, which count from 0 here, and for how many more there is room. The
-/// numbers are also kept in the order of the names.
+/// The names of the extra trains in the order of their numbers, which count from 0 here, and for
+/// how many more there is room. The numbers are also kept in the order of the names.
 #[derive(Drop)]
 pub(crate) struct ExtraTrains {
     names: Vec<ExtraName>,
@@ -113,7 +113,8 @@ fn compare(names: &[ExtraName], number: u32, trip: &str, day: Day) -> Ordering
     }
 }
 
-/// The place of a name among numbers in the order of their names, or the place where it would be inserted.
+/// The place of a name among numbers in the order of their names, or the place where it would be
+/// inserted.
 fn search(names: &[ExtraName], order: &[u32], trip: &str, day: Day) -> Result<usize, usize>
     requires { IsTrue (is_sorted name_cmp (map (entry_of names.now) order.now)) }
     ensures within { IsSearchInRange result (length order.now) }

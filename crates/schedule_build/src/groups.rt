@@ -20,7 +20,8 @@ pub(crate) fn grouped(alloc: Global, rows: &[CallRow]) -> Result<Vec<CallRow>, O
     Ok(all)
 }
 
-/// Where the rows of a trip begin, and where they end, among rows of which those of a trip stand beside each other.
+/// Where the rows of a trip begin, and where they end, among rows of which those of a trip stand
+/// beside each other.
 fn bounds(all: &[CallRow], trip: u32) -> (usize, usize)
     requires { IsNonDecreasingBy trip_of all.now }
     ensures order { result.0 ≤ result.1 }

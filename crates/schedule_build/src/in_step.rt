@@ -11,8 +11,8 @@ ghost use Rattle.delay_model.specs.declared.state.State.{State};
 ghost use Rattle.schedule_build.specs.Directory.{Names};
 ghost use Rattle.schedule_build.specs.InStep.{AreInStep, IsNewTrain, names_after_message};
 
-/// Each message keeps names and trains in step, where the name of a train that it adds is added too. An extra train that is accepted
-/// has the next number, and there is room for its name.
+/// Each message keeps names and trains in step, where the name of a train that it adds is added
+/// too. An extra train that is accepted has the next number, and there is room for its name.
 pub fn messages_keep_names_in_step()
     ensures kept { (names : Names) (st : State) (trip : List ℕ) (m : Message)
         → AreInStep names st → IsNewTrain trip names m

@@ -64,10 +64,12 @@ impl NameList {
         }
     }
 
-    /// The number of a name, which gets the next number where it is not there yet. After an error nothing is changed.
+    /// The number of a name, which gets the next number where it is not there yet. After an error
+    /// nothing is changed.
     pub(crate) fn number(&mut self, alloc: Global, name: &str) -> Result<u32, OutOfMemory>
         ensures number { IfOk result (λ n. number_of_name self.new name.now ≡ Some n) }
-        ensures names { self.new ≡ (if is_ok result then with_name name.now self.old else self.old) }
+        ensures names { self.new ≡ (if is_ok result then with_name name.now self.old
+            else self.old) }
     {
         if let Some(number) = self.find(name) {
             return Ok(number);

@@ -30,16 +30,19 @@ impl NameNumbers {
         self.by_name.get(name).copied()
     }
 
-    /// Gives the next name its number, unless an equal name has one. After an error nothing is changed.
+    /// Gives the next name its number, unless an equal name has one. After an error nothing is
+    /// changed.
     pub(crate) fn add(
         &mut self,
         alloc: Global,
         name: &str,
         number: usize,
     ) -> Result<(), OutOfMemory>
-        ensures added { IfOk result (λ _. (names : List (List ℕ)) → IsNumbered names self.old → number ≡ length names
+        ensures added { IfOk result (λ _. (names : List (List ℕ)) → IsNumbered names self.old
+            → number ≡ length names
             → IsNumbered (names ++ name.now ∷ []) self.new) }
-        ensures kept { OnErr result ((names : List (List ℕ)) → IsNumbered names self.old → IsNumbered names self.new) }
+        ensures kept { OnErr result ((names : List (List ℕ)) → IsNumbered names self.old
+            → IsNumbered names self.new) }
     {
         if self.by_name.contains_key(name) {
             return Ok(());

@@ -12,7 +12,8 @@ use std::alloc::Global;
 
 fn mark(marks: &mut Vec<bool>, service: u32, value: bool)
     ensures len { length marks.new.items ≡ length marks.old.items }
-    ensures marks { (s : ℕ) → s < length marks.old.items → slice_index_or marks.new.items s false ≡ (if nat_eq service s then value else slice_index_or marks.old.items s false) }
+    ensures marks { (s : ℕ) → s < length marks.old.items → slice_index_or marks.new.items s false
+        ≡ (if nat_eq service s then value else slice_index_or marks.old.items s false) }
 {
     if (service as usize) < marks.len() {
         marks[service as usize] = value;
@@ -22,7 +23,8 @@ fn mark(marks: &mut Vec<bool>, service: u32, value: bool)
 fn mark_run(marks: &mut Vec<bool>, row: &CalendarRow, date: u32, weekday: usize)
     requires { weekday < 7 }
     ensures len { length marks.new.items ≡ length marks.old.items }
-    ensures marks { (s : ℕ) → s < length marks.old.items → slice_index_or marks.new.items s false ≡ (if runs s date weekday row.now then true else slice_index_or marks.old.items s false) }
+    ensures marks { (s : ℕ) → s < length marks.old.items → slice_index_or marks.new.items s false
+        ≡ (if runs s date weekday row.now then true else slice_index_or marks.old.items s false) }
 {
     if row.first <= date && date <= row.last && row.days[weekday] {
         mark(marks, row.service, true);
@@ -32,7 +34,9 @@ fn mark_run(marks: &mut Vec<bool>, row: &CalendarRow, date: u32, weekday: usize)
 fn mark_runs(marks: &mut Vec<bool>, rows: &[CalendarRow], date: u32, weekday: usize)
     requires { weekday < 7 }
     ensures len { length marks.new.items ≡ length marks.old.items }
-    ensures marks { (s : ℕ) → s < length marks.old.items → slice_index_or marks.new.items s false ≡ (if list_any (runs s date weekday) rows.now then true else slice_index_or marks.old.items s false) }
+    ensures marks { (s : ℕ) → s < length marks.old.items → slice_index_or marks.new.items s false
+        ≡ (if list_any (runs s date weekday) rows.now then true
+        else slice_index_or marks.old.items s false) }
 {
     for row in rows {
         mark_run(marks, row, date, weekday);
@@ -41,7 +45,8 @@ fn mark_runs(marks: &mut Vec<bool>, rows: &[CalendarRow], date: u32, weekday: us
 
 fn mark_change(marks: &mut Vec<bool>, row: &DateRow, added: bool, date: u32)
     ensures len { length marks.new.items ≡ length marks.old.items }
-    ensures marks { (s : ℕ) → s < length marks.old.items → slice_index_or marks.new.items s false ≡ (if changes added s date row.now then added else slice_index_or marks.old.items s false) }
+    ensures marks { (s : ℕ) → s < length marks.old.items → slice_index_or marks.new.items s false
+        ≡ (if changes added s date row.now then added else slice_index_or marks.old.items s false) }
 {
     if row.date == date && row.added == added {
         mark(marks, row.service, added);
@@ -50,7 +55,9 @@ fn mark_change(marks: &mut Vec<bool>, row: &DateRow, added: bool, date: u32)
 
 fn mark_changes(marks: &mut Vec<bool>, rows: &[DateRow], added: bool, date: u32)
     ensures len { length marks.new.items ≡ length marks.old.items }
-    ensures marks { (s : ℕ) → s < length marks.old.items → slice_index_or marks.new.items s false ≡ (if list_any (changes added s date) rows.now then added else slice_index_or marks.old.items s false) }
+    ensures marks { (s : ℕ) → s < length marks.old.items → slice_index_or marks.new.items s false
+        ≡ (if list_any (changes added s date) rows.now then added
+        else slice_index_or marks.old.items s false) }
 {
     for row in rows {
         mark_change(marks, row, added, date);
@@ -65,7 +72,8 @@ pub(crate) fn active_services(
 ) -> Result<Vec<bool>, OutOfMemory>
     requires { IsCivil date }
     ensures len { IfOk result (λ marks. length marks.items ≡ length t.now.services) }
-    ensures marks { IfOk result (λ marks. (s : ℕ) → s < length t.now.services → slice_index_or marks.items s false ≡ is_active t.now s date) }
+    ensures marks { IfOk result (λ marks. (s : ℕ) → s < length t.now.services
+        → slice_index_or marks.items s false ≡ is_active t.now s date) }
 {
     let mut marks = vec![in alloc; false; t.services.len()]?;
     mark_runs(&mut marks, t.calendar.as_slice(), date, weekday(date));

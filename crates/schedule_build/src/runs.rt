@@ -64,9 +64,12 @@ fn add_day(
     requires grouped { IsNonDecreasingBy trip_of all.now }
     requires few_trips { length trips.now < 2 ^ 32 }
     requires few_runs { length runs.old.items ≤ 200000 }
-    ensures runs { IfOk result (λ _. runs.new.items ≡ runs.old.items ++ day_runs (is_set active.now) all.now day 0 trips.now) }
+    ensures runs { IfOk result (λ _. runs.new.items ≡ runs.old.items
+        ++ day_runs (is_set active.now) all.now day 0 trips.now) }
     ensures few { IfOk result (λ _. length runs.new.items ≤ 200000) }
-    ensures fault { IfErr result (IsTrainsFault (length (runs.old.items ++ day_runs (is_set active.now) all.now day 0 trips.now))) }
+    ensures fault { IfErr result
+        (IsTrainsFault
+        (length (runs.old.items ++ day_runs (is_set active.now) all.now day 0 trips.now))) }
 {
     for trip in 0..trips.len() {
         let row = &trips[trip];
@@ -99,7 +102,8 @@ fn add_date(
     requires few_runs { length runs.old.items ≤ 200000 }
     ensures runs { IfOk result (λ _. runs.new.items ≡ runs.old.items ++ runs_on t.now first day) }
     ensures few { IfOk result (λ _. length runs.new.items ≤ 200000) }
-    ensures fault { IfErr result (IsTrainsFault (length (runs.old.items ++ runs_on t.now first day))) }
+    ensures fault { IfErr result
+        (IsTrainsFault (length (runs.old.items ++ runs_on t.now first day))) }
 {
     let active = active_services(alloc, t, date_after(first, day))?;
     add_day(runs, t.trips.as_slice(), active.as_slice(), all, day)

@@ -45,7 +45,8 @@ fn count_timed(rows: &[CallRow]) -> usize
 fn count_all(all: &[CallRow], runs: &[Run]) -> Option<u32>
     requires grouped { IsNonDecreasingBy trip_of all.now }
     requires few { length all.now < 2 ^ 32 }
-    ensures some { IfSome result (λ count. (count ≡ count_calls all.now runs.now) × (count ≤ 1000000)) }
+    ensures some { IfSome result (λ count. (count ≡ count_calls all.now runs.now)
+        × (count ≤ 1000000)) }
     ensures none { IsNone result → 1000000 < count_calls all.now runs.now }
 {
     let mut count = 0;
@@ -128,10 +129,11 @@ fn load(
     Ok(trains)
 }
 
-/// The trains of so many service days from the date `first` on, a number YYYYMMDD of a year up to 2100, and the names of the feed's
-/// timetable of these days. There is a train for each day and, in the order of `trips.txt`, each trip whose service is active on that
-/// day and which has calls. There is room for what the options spare. Too many are more than 200,000 trains, or else more than
-/// 2,000,000 events, two for each call.
+/// The trains of so many service days from the date `first` on, a number YYYYMMDD of a year up to
+/// 2100, and the names of the feed's timetable of these days. There is a train for each day and, in
+/// the order of `trips.txt`, each trip whose service is active on that day and which has calls.
+/// There is room for what the options spare. Too many are more than 200,000 trains, or else more
+/// than 2,000,000 events, two for each call.
 pub fn expand(
     alloc: Global,
     t: &FeedTables,

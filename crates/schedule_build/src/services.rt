@@ -45,8 +45,9 @@ fn any_changes(rows: &[DateRow], added: bool, service: u32, date: u32) -> bool
     false
 }
 
-/// Whether a service, a row of `Tables::services`, is active on a civil date, a number YYYYMMDD: where `calendar_dates.txt` adds it,
-/// or where `calendar.txt` has it run and `calendar_dates.txt` does not remove it.
+/// Whether a service, a row of `Tables::services`, is active on a civil date, a number YYYYMMDD:
+/// where `calendar_dates.txt` adds it, or where `calendar.txt` has it run and `calendar_dates.txt`
+/// does not remove it.
 pub fn active(t: &FeedTables, service: u32, date: u32) -> bool
     requires { IsCivil date }
     ensures { result ≡ is_active t.now service date }

@@ -44,16 +44,19 @@ impl Model for TrainNames {
     ghost invariant = { λ a. AreNamed a.trips a.trains.items a.numbers };
 }
 
-/// Gives the next train its number, unless an equal train has one. After an error nothing is changed.
+/// Gives the next train its number, unless an equal train has one. After an error nothing is
+/// changed.
 fn add_number(
     numbers: &mut BTreeMap<(u32, u32), u32>,
     trip: u32,
     day: Day,
     number: u32,
 ) -> Result<(), OutOfMemory>
-    ensures added { IfOk result (λ _. (trains : List StoredTrain) → AreNumbered trains numbers.old → number ≡ length trains
+    ensures added { IfOk result (λ _. (trains : List StoredTrain) → AreNumbered trains numbers.old
+        → number ≡ length trains
         → AreNumbered (trains ++ record { trip = trip; day = day } ∷ []) numbers.new) }
-    ensures kept { OnErr result ((trains : List StoredTrain) → AreNumbered trains numbers.old → AreNumbered trains numbers.new) }
+    ensures kept { OnErr result ((trains : List StoredTrain) → AreNumbered trains numbers.old
+        → AreNumbered trains numbers.new) }
 {
     let key = (trip, day.get());
     if numbers.contains_key(&key) {
@@ -93,7 +96,8 @@ impl TrainNames {
 
     /// The `trip_id` of a train, or the empty text where there is no such train.
     pub(crate) fn trip(&self, number: u32) -> &str
-        ensures { result.now ≡ option_map_or (λ (t : TrainName). t.trip) (slice_get self.now number) [] }
+        ensures { result.now ≡ option_map_or (λ (t : TrainName). t.trip)
+            (slice_get self.now number) [] }
     {
         match self.trains.get(number as usize) {
             Some(train) => self.trips.name(train.trip),
@@ -103,7 +107,8 @@ impl TrainNames {
 
     /// The service day of a train, or day 0 where there is no such train.
     pub(crate) fn day(&self, number: u32) -> Day
-        ensures day { result ≡ option_map_or (λ (t : TrainName). t.day) (slice_get self.now number) 0 }
+        ensures day { result ≡ option_map_or (λ (t : TrainName). t.day)
+            (slice_get self.now number) 0 }
         ensures loaded { result < 31 }
     {
         match self.trains.get(number as usize) {
@@ -116,7 +121,8 @@ impl TrainNames {
     pub(crate) fn push(&mut self, alloc: Global, trip: &str, day: Day) -> Result<(), OutOfMemory>
         requires loaded { day < 31 }
         requires few { length self.old + 1 < 2 ^ 32 }
-        ensures { self.new ≡ (if is_ok result then self.old ++ record { trip = trip.now; day = day } ∷ [] else self.old) }
+        ensures { self.new ≡ (if is_ok result then self.old ++ record { trip = trip.now; day = day }
+            ∷ [] else self.old) }
     {
         let trip = self.trips.number(alloc, trip)?;
         let number = self.trains.len() as u32;

@@ -14,9 +14,10 @@ ghost use Rattle.delay_model.specs.Valid.{IsForward, IsValid};
 use delay_model::network::Network;
 use delay_model::state::State;
 
-/// A well-formed message that no earlier cause refuses is against rank exactly where some edge of the state after it does not lead
-/// to a later event by key, or asks for more time than the schedule leaves, whether or not too little is spare for it. The refusal
-/// names the two ends of such an edge.
+/// A well-formed message that no earlier cause refuses is against rank exactly where some edge of
+/// the state after it does not lead to a later event by key, or asks for more time than the
+/// schedule leaves, whether or not too little is spare for it. The refusal names the two ends of
+/// such an edge.
 pub fn a_message_against_rank_makes_such_an_edge(nw: &Network, st: &State)
     requires { IsValid nw.now st.now }
     ensures exactly { (m : AMessage) → IsWellFormed m → ComesToRank nw.now st.now m →

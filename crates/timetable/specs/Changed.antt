@@ -15,13 +15,16 @@ use Rattle.timetable.specs.Sorted.{in_order}
 
 -- an event that is live in the new state was not live in the old one, or has another time
 abbrev pub is_changed : Network → State → State → Key → Bool
-is_changed nw old new k = not (is_live_key (events old) k) || not (nat_eq (event_time nw old k) (event_time nw new k))
+is_changed nw old new k = not (is_live_key (events old) k) || not
+    (nat_eq (event_time nw old k) (event_time nw new k))
 
--- the names of the events that a message changes, from one state to the other: in the order of the trains those that are no longer
--- live, and then, in the order of their keys, those that are live only now or have another time
+-- the names of the events that a message changes, from one state to the other: in the order of the
+-- trains those that are no longer live, and then, in the order of their keys, those that are live
+-- only now or have another time
 unfoldable pub changed_nodes : Network → State → State → List Node
 changed_nodes nw old new =
-    names_of (live_only (events old) (events new)) ++ map node_of (filter (is_changed nw old new) (in_order is_before (live_keys (events new))))
+    names_of (live_only (events old) (events new)) ++ map node_of
+    (filter (is_changed nw old new) (in_order is_before (live_keys (events new))))
 
 -- it is the name of an event that a message changes, from one state to the other
 pub record IsChangedEvent (nw : Network) (old new : State) (n : Node) : Type 0 where
@@ -29,8 +32,8 @@ pub record IsChangedEvent (nw : Network) (old new : State) (n : Node) : Type 0 w
   pub there : Contains (changed nw old new) event
   pub named : node_of event.key ≡ n
 
--- these are the names of the events that are no longer live, in the order of the trains, and then of the live events of keys that rise,
--- which are live only now or have another time
+-- these are the names of the events that are no longer live, in the order of the trains, and then
+-- of the live events of keys that rise, which are live only now or have another time
 pub record AreInOrder (nw : Network) (old new : State) (ns : List Node) : Type 0 where
   pub keys : List Key
   pub whole : ns ≡ names_of (live_only (events old) (events new)) ++ map node_of keys

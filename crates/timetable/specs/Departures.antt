@@ -43,7 +43,8 @@ stored_departure times k = record { time = stored_time times k; key = k }
 abbrev pub is_departure : Key → Bool
 is_departure k = k.dep
 
--- these are the departures among the events of these keys, each at the time that is stored for it, in their order
+-- these are the departures among the events of these keys, each at the time that is stored for it,
+-- in their order
 pub record AreListed (times : StoredTimes) (keys : List Key) (ds : List Departure) : Type 0 where
   pub moved : IsPermutation (map (stored_departure times) (filter is_departure keys)) ds
   pub ascends : AreInOrder ds
@@ -58,7 +59,8 @@ pub record IsRetimed (was is : Departure) (old new : List Departure) : Type 0 wh
 
 -- the live departures of a state, in their order
 unfoldable pub live_departures : Network → State → List Departure
-live_departures nw st = in_order leaves_before (map (departing nw st) (filter is_departure (live_keys (events st))))
+live_departures nw st =
+    in_order leaves_before (map (departing nw st) (filter is_departure (live_keys (events st))))
 
 -- those at a time or later
 abbrev pub departures_from : Network → State → ℕ → List Departure

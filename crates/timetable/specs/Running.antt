@@ -12,7 +12,8 @@ use Rattle.delay_model.specs.Effect.{effect}
 use Rattle.delay_model.specs.Refusals.{refusal}
 use Rattle.timetable.specs.Changed.{changed_nodes}
 
--- what no message changes, the state of the trains, how many messages were accepted, and the events that the last of them changed
+-- what no message changes, the state of the trains, how many messages were accepted, and the events
+-- that the last of them changed
 pub record Running : Type 0 where
   pub network : Network
   pub state : State

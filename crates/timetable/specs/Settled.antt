@@ -32,22 +32,25 @@ has_another nw st times k = not (nat_eq (stored_time times k) (event_time nw st 
 abbrev pub next_labels : State → List ℕ
 next_labels st = map (λ (t : Train). t.next_label) st.trains
 
--- for each label that a train has used times are stored, and there is room for those of as many more trains and calls as are spare
+-- for each label that a train has used times are stored, and there is room for those of as many
+-- more trains and calls as are spare
 pub record HasTimesFor (st : State) (stored : StoredTimes) : Type 0 where
   pub sized : AreSized (next_labels st) stored
   pub spare_trains : stored.spare_trains ≡ st.spare_trains
   pub spare_calls : stored.spare_calls ≡ st.spare_calls
 
--- the state is valid, its live events are known in the order of their keys, for each its time is stored, and for each label that a train
--- has used there are times
-pub record IsSettled (nw : Network) (st : State) (stored : StoredTimes) (keys : List Key) : Type 0 where
+-- the state is valid, its live events are known in the order of their keys, for each its time is
+-- stored, and for each label that a train has used there are times
+pub record IsSettled (nw : Network) (st : State) (stored : StoredTimes)
+    (keys : List Key) : Type 0 where
   pub valid : IsValid nw st
   pub order : IsOrderOf (events st) keys
   pub times : All (HasItsTime nw st stored) keys
   pub has_times : HasTimesFor st stored
 
--- so many live events, and those that the spare calls may add, can be put in an order of this capacity. A list of this capacity can
--- hold twice as many: those that a message takes away, and those that it leaves
+-- so many live events, and those that the spare calls may add, can be put in an order of this
+-- capacity. A list of this capacity can hold twice as many: those that a message takes away, and
+-- those that it leaves
 pub record IsRoomy (live spare order_room changed_room : ℕ) : Type 0 where
   pub order : live + 2 * spare ≤ order_room
   pub changed : 2 * (live + 2 * spare) ≤ changed_room

@@ -14,7 +14,8 @@ use std::marker::Model;
 use std::sync::ledger::Ledger;
 use train_nodes::{NodeTimes, Steps};
 
-/// A live departure with its time. Departures are ordered by their times, and at one time by their keys.
+/// A live departure with its time. Departures are ordered by their times, and at one time by their
+/// keys.
 #[derive(Clone, Copy, Debug, PartialEq, Eq, PartialOrd, Ord)]
 pub struct Departure {
     /// When it takes place.
@@ -25,7 +26,8 @@ pub struct Departure {
 }
 
 impl Departure {
-    /// Whether it leaves before the other: at an earlier time, or at the same time with an earlier key.
+    /// Whether it leaves before the other: at an earlier time, or at the same time with an earlier
+    /// key.
     pub(crate) fn is_before(&self, other: &Departure) -> bool
         ensures { result ≡ leaves_before self.now other.now }
     {
@@ -33,7 +35,8 @@ impl Departure {
     }
 }
 
-/// Departures in their order, one after another. It is seen as the list of those that are still to come.
+/// Departures in their order, one after another. It is seen as the list of those that are still to
+/// come.
 #[derive(Drop)]
 pub struct Departures<'a> {
     left: &'a [Departure],
@@ -82,7 +85,8 @@ fn push_departures<L: Ledger>(
 )
     requires held { All (λ k. IsTrue (has_time times.now (node_of k))) order.now }
     requires room { vec_len departures.old + length order.now ≤ vec_capacity departures.old }
-    ensures departures { departures.new.items ≡ departures.old.items ++ map (stored_departure times.now) (filter is_departure order.now) }
+    ensures departures { departures.new.items ≡ departures.old.items
+        ++ map (stored_departure times.now) (filter is_departure order.now) }
     ensures capacity { vec_capacity departures.new ≡ vec_capacity departures.old }
 {
     for k in order {
@@ -93,7 +97,8 @@ fn push_departures<L: Ledger>(
     }
 }
 
-/// Puts the departures among these events, which are in the order of their keys, in place of those that were listed.
+/// Puts the departures among these events, which are in the order of their keys, in place of those
+/// that were listed.
 pub(crate) fn renew_departures<L: Ledger>(
     departures: &mut Vec<Departure>,
     order: &[Key],

@@ -12,14 +12,17 @@ use mt_base::numbers::TrainNo;
 use std::alloc::Global;
 use train_nodes::Trains;
 
-/// Adds the keys of a train's live events, in the train's order. It fails only where there is no room for them.
+/// Adds the keys of a train's live events, in the train's order. It fails only where there is no
+/// room for them.
 pub(crate) fn push_keys(
     keys: &mut Vec<Key>,
     trains: &Trains,
     train: TrainNo,
 ) -> Result<(), OutOfMemory>
-    ensures keys { OnOk result (keys.new.items ≡ keys.old.items ++ live_keys (train_events trains.now train)) }
-    ensures full { OnErr result (vec_capacity keys.old < vec_len keys.old + length (live_keys (train_events trains.now train))) }
+    ensures keys { OnOk result (keys.new.items ≡ keys.old.items ++ live_keys
+        (train_events trains.now train)) }
+    ensures full { OnErr result (vec_capacity keys.old < vec_len keys.old
+        + length (live_keys (train_events trains.now train))) }
     ensures capacity { vec_capacity keys.old ≤ vec_capacity keys.new }
 {
     for event in trains.events(train) {
@@ -33,7 +36,8 @@ pub(crate) fn push_keys(
 /// Adds the keys of all live events, train by train. It fails only where there is no room for them.
 fn list_keys(keys: &mut Vec<Key>, trains: &Trains) -> Result<(), OutOfMemory>
     ensures keys { OnOk result (keys.new.items ≡ keys.old.items ++ live_keys (events trains.now)) }
-    ensures full { OnErr result (vec_capacity keys.old < vec_len keys.old + length (live_keys (events trains.now))) }
+    ensures full { OnErr result (vec_capacity keys.old < vec_len keys.old
+        + length (live_keys (events trains.now))) }
     ensures capacity { vec_capacity keys.old ≤ vec_capacity keys.new }
 {
     for number in 0..trains.count() {
@@ -42,11 +46,13 @@ fn list_keys(keys: &mut Vec<Key>, trains: &Trains) -> Result<(), OutOfMemory>
     Ok(())
 }
 
-/// The keys of the live events, in the order in which they are settled, with room for those that the spare calls may add.
+/// The keys of the live events, in the order in which they are settled, with room for those that
+/// the spare calls may add.
 pub(crate) fn key_order(alloc: Global, trains: &Trains) -> Result<Vec<Key>, OutOfMemory>
     requires trains { All IsTrain trains.now.trains }
     ensures order { IfOk result (λ order. IsOrderOf (events trains.now) order.items) }
-    ensures room { IfOk result (λ order. length order.items + 2 * trains.now.spare_calls ≤ vec_capacity order) }
+    ensures room { IfOk result (λ order. length order.items + 2 * trains.now.spare_calls
+        ≤ vec_capacity order) }
 {
     let mut order = Vec::new(alloc);
     list_keys(&mut order, trains)?;
@@ -55,7 +61,8 @@ pub(crate) fn key_order(alloc: Global, trains: &Trains) -> Result<Vec<Key>, OutO
     Ok(order)
 }
 
-/// Puts the keys of the live events in place of those that were in an order, which has room for them.
+/// Puts the keys of the live events in place of those that were in an order, which has room for
+/// them.
 pub(crate) fn renew_order(order: &mut Vec<Key>, trains: &Trains)
     requires trains { All IsTrain trains.now.trains }
     requires room { length (live_keys (events trains.now)) ≤ vec_capacity order.old }

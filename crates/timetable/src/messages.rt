@@ -28,7 +28,8 @@ pub(crate) fn check(g: &Graph, m: &Msg) -> Result<(), Refusal>
 /// Changes the graph as a report or forecast says, if it is accepted.
 pub(crate) fn take_value(g: &mut Graph, v: &Value) -> Result<(), Refusal>
     ensures answer { Answers result (refusal g.old.network g.old.state (message_of_value v.now)) }
-    ensures effect { OnOk result (g.new ≡ record g.old { state = effect g.old.state (message_of_value v.now) }) }
+    ensures effect { OnOk result
+        (g.new ≡ record g.old { state = effect g.old.state (message_of_value v.now) }) }
     ensures unchanged { OnErr result (g.new ≡ g.old) }
 {
     check_value(g, v)?;
@@ -40,7 +41,8 @@ pub(crate) fn take_value(g: &mut Graph, v: &Value) -> Result<(), Refusal>
 pub(crate) fn take_choice(g: &mut Graph, c: &Choice) -> Result<(), Refusal>
     requires { IsWellFormed (message_of_choice c.now) }
     ensures answer { Answers result (refusal g.old.network g.old.state (message_of_choice c.now)) }
-    ensures effect { OnOk result (g.new ≡ record g.old { state = effect g.old.state (message_of_choice c.now) }) }
+    ensures effect { OnOk result
+        (g.new ≡ record g.old { state = effect g.old.state (message_of_choice c.now) }) }
     ensures unchanged { OnErr result (g.new ≡ g.old) }
 {
     check_choice(g, c)?;

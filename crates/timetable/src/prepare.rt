@@ -56,7 +56,8 @@ fn leave_dead(changed: &mut Vec<Node>, trains: &Trains)
     changed.retain(|n| !trains.live(*n));
 }
 
-/// Applies an accepted message that changes which calls a train makes, or which of its events take place.
+/// Applies an accepted message that changes which calls a train makes, or which of its events take
+/// place.
 fn prepare_shape(
     graph: &mut Graph,
     times: &mut NodeTimes,
@@ -70,9 +71,14 @@ fn prepare_shape(
     requires settled { IsSettled graph.old.network graph.old.state times.old order.old.items }
     requires roomy { IsRoomy (length order.old.items) graph.old.state.spare_calls
         (vec_capacity order.old) (vec_capacity changed.old) }
-    ensures effect { graph.new ≡ record graph.old { state = effect graph.old.state (message_of_shape s.now) } }
-    ensures prepared { IsPrepared graph.old.network graph.old.state (effect graph.old.state (message_of_shape s.now))
-        times.new order.new.items changed.new.items (vec_capacity order.new) (vec_capacity changed.new) }
+    ensures effect { graph.new ≡ record graph.old {
+      state = effect graph.old.state
+          (message_of_shape s.now);
+    } }
+    ensures prepared { IsPrepared graph.old.network graph.old.state
+        (effect graph.old.state (message_of_shape s.now))
+        times.new order.new.items changed.new.items (vec_capacity order.new)
+        (vec_capacity changed.new) }
 {
     list_live(changed, graph.trains(), s.train());
     add_times(times, s);
@@ -81,9 +87,9 @@ fn prepare_shape(
     renew_order(order, graph.trains());
 }
 
-/// Applies a message, if it is accepted, and makes its events ready for the rule: the live ones are in their order, there is a time
-/// for each, and those that are live no longer are listed. It answers whether the live events are as they were. A message that is
-/// refused changes nothing.
+/// Applies a message, if it is accepted, and makes its events ready for the rule: the live ones are
+/// in their order, there is a time for each, and those that are live no longer are listed. It
+/// answers whether the live events are as they were. A message that is refused changes nothing.
 pub(crate) fn prepare(
     graph: &mut Graph,
     times: &mut NodeTimes,
@@ -96,9 +102,12 @@ pub(crate) fn prepare(
         (vec_capacity order.old) (vec_capacity changed.old) }
     ensures refused { IfErr result (λ r. refusal graph.old.network graph.old.state m.now ≡ Some r) }
     ensures accepted { OnOk result (refusal graph.old.network graph.old.state m.now ≡ None) }
-    ensures effect { OnOk result (graph.new ≡ record graph.old { state = effect graph.old.state m.now }) }
-    ensures prepared { OnOk result (IsPrepared graph.old.network graph.old.state (effect graph.old.state m.now)
-        times.new order.new.items changed.new.items (vec_capacity order.new) (vec_capacity changed.new)) }
+    ensures effect { OnOk result (graph.new
+        ≡ record graph.old { state = effect graph.old.state m.now }) }
+    ensures prepared { OnOk result (IsPrepared graph.old.network graph.old.state
+        (effect graph.old.state m.now)
+        times.new order.new.items changed.new.items (vec_capacity order.new)
+        (vec_capacity changed.new)) }
     ensures same_order { IfOk result (λ same. same ≡ true → order.new ≡ order.old) }
     ensures same_times { IfOk result (λ same. same ≡ true → times.new ≡ times.old) }
     ensures graph_unchanged { OnErr result (graph.new ≡ graph.old) }

@@ -13,12 +13,14 @@ use mt_base::numbers::Time;
 fn count_before(departures: &[Departure], departure: &Departure) -> usize
     requires { AreInOrder departures.now }
     ensures bound { result ≤ length departures.now }
-    ensures place { IsPartitionPoint (λ d. leaves_before d departure.now ≡ true) (λ d. leaves_before d departure.now ≡ false) departures.now result }
+    ensures place { IsPartitionPoint (λ d. leaves_before d departure.now ≡ true)
+        (λ d. leaves_before d departure.now ≡ false) departures.now result }
 {
     departures.partition_point(|d| d.is_before(departure))
 }
 
-/// Puts a departure in place of the one at an index, and moves it to where so many of those that were there stand before it.
+/// Puts a departure in place of the one at an index, and moves it to where so many of those that
+/// were there stand before it.
 fn replace(departures: &mut [Departure], from: usize, to: usize, departure: Departure)
     requires from { from < length departures.old }
     requires to { to ≤ length departures.old }
@@ -35,8 +37,9 @@ fn replace(departures: &mut [Departure], from: usize, to: usize, departure: Depa
     }
 }
 
-/// Gives the departure of a key another time, and moves it past as many others as it then has to pass, if these are fewer than `reach`.
-/// It answers what is left of the reach: 0 where the departures may be no longer in their order. An arrival moves nothing.
+/// Gives the departure of a key another time, and moves it past as many others as it then has to
+/// pass, if these are fewer than `reach`. It answers what is left of the reach: 0 where the
+/// departures may be no longer in their order. An arrival moves nothing.
 pub(crate) fn retime(
     departures: &mut [Departure],
     k: &Key,
@@ -45,10 +48,13 @@ pub(crate) fn retime(
     reach: usize,
 ) -> usize
     requires order { 0 < reach → AreInOrder departures.old }
-    requires there { 0 < reach → k.now.dep ≡ true → Contains departures.old (departing_at was k.now) }
-    requires others { 0 < reach → k.now.dep ≡ true → All (λ d. departing_at is k.now ≢ d) departures.old }
+    requires there { 0 < reach → k.now.dep ≡ true
+        → Contains departures.old (departing_at was k.now) }
+    requires others { 0 < reach → k.now.dep ≡ true
+        → All (λ d. departing_at is k.now ≢ d) departures.old }
     ensures reach { 0 < result → 0 < reach }
-    ensures retimed { 0 < result → k.now.dep ≡ true → IsRetimed (departing_at was k.now) (departing_at is k.now) departures.old departures.new }
+    ensures retimed { 0 < result → k.now.dep ≡ true → IsRetimed (departing_at was k.now)
+        (departing_at is k.now) departures.old departures.new }
     ensures arrival { k.now.dep ≡ false → departures.new ≡ departures.old }
 {
     if !k.dep || reach == 0 {

@@ -28,12 +28,15 @@ fn settle_one<L: Ledger>(
 ) -> (Time, Time)
     requires live { IsTrue (is_live graph.now.state n.now) }
     requires has { IsTrue (has_time times.old n.now) }
-    requires held { All (λ e. IsTrue (has_time times.old (node_of e.from))) (edges_to graph.now n.now) }
-    requires fits { All (λ e. stored_time times.old e.from + e.weight < 2 ^ 25) (edges_to graph.now n.now) }
+    requires held { All (λ e. IsTrue (has_time times.old (node_of e.from)))
+        (edges_to graph.now n.now) }
+    requires fits { All (λ e. stored_time times.old e.from + e.weight < 2 ^ 25)
+        (edges_to graph.now n.now) }
     ensures rule { local_at graph.now times.old n.now ≡ Some result.1 }
     ensures before { time_of times.old n.now ≡ Some result.0 }
     ensures after { time_of times.new n.now ≡ Some result.1 }
-    ensures others { (m : ANode) → is_same_node n.now m ≡ false → time_of times.new m ≡ time_of times.old m }
+    ensures others { (m : ANode) → is_same_node n.now m ≡ false → time_of times.new m
+        ≡ time_of times.old m }
     ensures has_times { (st : AState) → HasTimesFor st times.old → HasTimesFor st times.new }
 {
     let is = graph.local(*n, times, steps);
@@ -45,9 +48,10 @@ fn settle_one<L: Ledger>(
     (was, is)
 }
 
-/// Stores the time of each of these events, which are the live ones in the order of their keys, and lists those for which another was
-/// stored. Departures that get another time are moved to their places, past `reach` others in all. It answers what is left of the reach:
-/// 0 where the departures are to be listed anew.
+/// Stores the time of each of these events, which are the live ones in the order of their keys, and
+/// lists those for which another was stored. Departures that get another time are moved to their
+/// places, past `reach` others in all. It answers what is left of the reach: 0 where the departures
+/// are to be listed anew.
 fn settle_each<L: Ledger>(
     graph: &Graph,
     order: &[Key],
@@ -63,7 +67,8 @@ fn settle_each<L: Ledger>(
     requires room { vec_len changed.old + length order.now ≤ vec_capacity changed.old }
     requires listed { 0 < reach → AreListed times.old order.now departures.old }
     ensures times { All (HasItsTime graph.now.network graph.now.state times.new) order.now }
-    ensures changed { changed.new.items ≡ changed.old.items ++ map node_of (filter (has_another graph.now.network graph.now.state times.old) order.now) }
+    ensures changed { changed.new.items ≡ changed.old.items ++ map node_of
+        (filter (has_another graph.now.network graph.now.state times.old) order.now) }
     ensures capacity { vec_capacity changed.new ≡ vec_capacity changed.old }
     ensures has_times { (st : AState) → HasTimesFor st times.old → HasTimesFor st times.new }
     ensures listed { 0 < result → AreListed times.new order.now departures.new }
@@ -79,9 +84,10 @@ fn settle_each<L: Ledger>(
     left
 }
 
-/// Stores the time of each of these events, which are the live ones in the order of their keys, lists those for which another was stored,
-/// and lists the departures. Where departures of these very events are listed at the stored times, only those that get another
-/// time are moved, as long as that is less work than to sort all.
+/// Stores the time of each of these events, which are the live ones in the order of their keys,
+/// lists those for which another was stored, and lists the departures. Where departures of these
+/// very events are listed at the stored times, only those that get another time are moved, as long
+/// as that is less work than to sort all.
 pub(crate) fn settle<L: Ledger>(
     graph: &Graph,
     order: &[Key],
@@ -99,7 +105,8 @@ pub(crate) fn settle<L: Ledger>(
     requires departures_room { length order.now ≤ vec_capacity departures.old }
     requires listed { are_listed ≡ true → AreListed times.old order.now departures.old.items }
     ensures settled { IsSettled graph.now.network graph.now.state times.new order.now }
-    ensures changed { changed.new.items ≡ changed.old.items ++ map node_of (filter (has_another graph.now.network graph.now.state times.old) order.now) }
+    ensures changed { changed.new.items ≡ changed.old.items ++ map node_of
+        (filter (has_another graph.now.network graph.now.state times.old) order.now) }
     ensures capacity { vec_capacity changed.new ≡ vec_capacity changed.old }
     ensures departures { departures.new.items ≡ live_departures graph.now.network graph.now.state }
     ensures departures_capacity { vec_capacity departures.old ≤ vec_capacity departures.new }

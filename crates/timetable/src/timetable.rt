@@ -31,16 +31,18 @@ use std::sync::ledger::{Blank, Ledger};
 use train_nodes::{Msg, NodeTimes, Steps, Trains};
 use waiting_rules::Waits;
 
-/// The trains with the time of each live event, how many messages were accepted, which events the last of them changed, and the live
-/// departures in their order.
+/// The trains with the time of each live event, how many messages were accepted, which events the
+/// last of them changed, and the live departures in their order.
 #[derive(Drop)]
 pub struct Timetable {
     graph: Graph,
     times: NodeTimes,
-    /// The keys of the live events, in the order in which they are settled. It has room for those that the spare calls may add.
+    /// The keys of the live events, in the order in which they are settled. It has room for those
+    /// that the spare calls may add.
     order: Vec<Key>,
     count: u64,
-    /// The events that the last accepted message changed. It has room for twice as many as the order.
+    /// The events that the last accepted message changed. It has room for twice as many as the
+    /// order.
     changed: Vec<Node>,
     /// The live departures. It has room for as many as the order.
     departures: Vec<Departure>,
@@ -71,7 +73,8 @@ fn copy_with_room<T: Copy>(alloc: Global, items: &[T], room: usize) -> Result<Ve
 }
 
 impl Timetable {
-    /// The timetable of these trains, by these change times, waiting rules and options. No message was accepted.
+    /// The timetable of these trains, by these change times, waiting rules and options. No message
+    /// was accepted.
     pub fn build(
         alloc: Global,
         trains: Trains,
@@ -84,7 +87,12 @@ impl Timetable {
         requires parents { waits.parents ≡ map parent_station changes.stops }
         requires at_stops { AreAtStops (network_of changes waits opts) trains }
         requires nodes { length (events trains) + 2 * trains.spare_calls ≤ 2097152 }
-        ensures { IfOk result (λ t. t ≡ record { network = network_of changes waits opts; state = trains; count = 0; changed = [] }) }
+        ensures { IfOk result (λ t. t ≡ record {
+          network = network_of changes waits opts;
+          state = trains;
+          count = 0;
+          changed = [];
+        }) }
     {
         let mut times = trains.blank_times(alloc)?;
         let order = key_order(alloc, &trains)?;
@@ -132,14 +140,17 @@ impl Timetable {
         check(&self.graph, m)
     }
 
-    /// Takes a message, and answers how many events it changes: those that it takes away or adds, and those whose time is another after
-    /// it. A message that is refused changes nothing. It takes no memory.
+    /// Takes a message, and answers how many events it changes: those that it takes away or adds,
+    /// and those whose time is another after it. A message that is refused changes nothing. It
+    /// takes no memory.
     pub fn step<L: Ledger>(&mut self, m: &Msg, steps: &mut Steps<L>) -> Result<u64, Refusal>
-        ensures refused { IfErr result (λ r. refusal self.old.network self.old.state m.now ≡ Some r) }
+        ensures refused { IfErr result (λ r. refusal self.old.network self.old.state m.now
+            ≡ Some r) }
         ensures unchanged { IfErr result (λ _. self.new ≡ self.old) }
         ensures accepted { IfOk result (λ _. refusal self.old.network self.old.state m.now ≡ None) }
         ensures effect { IfOk result (λ _. self.new ≡ stepped self.old m.now) }
-        ensures changed { IfOk result (λ n. n ≡ changed_count self.old.network self.old.state m.now) }
+        ensures changed { IfOk result (λ n. n ≡ changed_count self.old.network self.old.state
+            m.now) }
     {
         let same_events = prepare(
             &mut self.graph,
@@ -161,16 +172,17 @@ impl Timetable {
         Ok(self.changed.len() as u64)
     }
 
-    /// The events that the last accepted message changed: in the order of the trains those that it took away, and then, in the order
-    /// of their keys, those that it added or that have another time. None before the first such message.
+    /// The events that the last accepted message changed: in the order of the trains those that it
+    /// took away, and then, in the order of their keys, those that it added or that have another
+    /// time. None before the first such message.
     pub fn changed(&self) -> &[Node]
         ensures { result.now ≡ self.now.changed }
     {
         &self.changed
     }
 
-    /// The live departures at a time or later, over the state as the last step left it, each with its time: in the order of the times, and
-    /// at one time in that of the keys.
+    /// The live departures at a time or later, over the state as the last step left it, each with
+    /// its time: in the order of the times, and at one time in that of the keys.
     pub fn departures(&self, from: Time) -> Departures<'_>
         ensures { result ≡ departures_from self.now.network self.now.state from }
     {
@@ -184,8 +196,8 @@ impl Timetable {
         self.count
     }
 
-    /// The time of an event by the definition, in seconds from the base of day 0, over the state as the last step left it. None
-    /// exactly where it is not there or not live.
+    /// The time of an event by the definition, in seconds from the base of day 0, over the state as
+    /// the last step left it. None exactly where it is not there or not live.
     pub fn time<L: Ledger>(&self, n: Node, steps: &mut Steps<L>) -> Option<Time>
         ensures { result ≡ live_time self.now.network self.now.state n }
     {

@@ -13,7 +13,8 @@ use Rattle.mt_io.specs.Lines.{Line}
 use Rattle.schedule_build.specs.Directory.{Names}
 use Rattle.traind.specs.Lines.{said_by, accepted_of, names_after}
 
--- by the names that are known the line asks a query, and these texts show two journeys for it that arrive at the same time
+-- by the names that are known the line asks a query, and these texts show two journeys for it that
+-- arrive at the same time
 pub record ShowTwoJourneys (known : Names) (x : Line) (a b : List ℕ) : Type 0 where
   pub client : List ℕ
   pub day : ℕ
@@ -27,18 +28,23 @@ pub record ShowTwoJourneys (known : Names) (x : Line) (a b : List ℕ) : Type 0 
   pub first : a ≡ text_of_reply known (Journey line count day arrives rides)
   pub second : b ≡ text_of_reply known (Journey line count day arrives others)
 
--- two lists of reply lines to these lines, which stand behind those before, are alike: line by line they are the same, or show two
--- journeys that arrive at the same time
+-- two lists of reply lines to these lines, which stand behind those before, are alike: line by line
+-- they are the same, or show two journeys that arrive at the same time
 abbrev pub AreAlike : Network → Names → State → List Line → List Line → List ℕ → List ℕ → Type 0
 AreAlike nw names st before [] a b = (a ≡ []) × (b ≡ [])
 AreAlike nw names st before (x ∷ xs) a b =
-    (text other rest others : List ℕ) × ((text ≡ other) ⊎ ShowTwoJourneys (names_after nw names st before) x text other)
-    × AreAlike nw names st (before ++ x ∷ []) xs rest others × (a ≡ text ++ rest) × (b ≡ other ++ others)
+    (text other rest others : List ℕ)
+    × ((text ≡ other) ⊎ ShowTwoJourneys (names_after nw names st before) x text other)
+    × AreAlike nw names st (before ++ x ∷ []) xs rest others × (a ≡ text ++ rest)
+    × (b ≡ other ++ others)
 
 -- two outputs of these lines have replies that are alike, and the same table behind them
-pub record DifferInJourneysAlone (nw : Network) (names : Names) (st : State) (lines : List Line) (a b : List ℕ) : Type 0 where
+pub record DifferInJourneysAlone (nw : Network) (names : Names) (st : State) (lines : List Line)
+    (a b : List ℕ) : Type 0 where
   pub shown : List ℕ
   pub other : List ℕ
   pub replies : AreAlike nw names st [] lines shown other
-  pub first : a ≡ shown ++ table nw (names_after nw names st lines) (after st (accepted_of nw names st lines))
-  pub second : b ≡ other ++ table nw (names_after nw names st lines) (after st (accepted_of nw names st lines))
+  pub first : a ≡ shown ++ table nw (names_after nw names st lines)
+      (after st (accepted_of nw names st lines))
+  pub second : b ≡ other ++ table nw (names_after nw names st lines)
+      (after st (accepted_of nw names st lines))

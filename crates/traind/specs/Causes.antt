@@ -6,9 +6,11 @@ use Rattle.gtfs_tables.specs.declared.refusals.FeedRefusal.{FeedRefusal}
 use Rattle.traind.specs.declared.status.Fault.{Fault}
 use Rattle.traind.specs.declared.status.Fault.TheVariants.{Usage, FeedRefused, ReadFault, WriteFault, Memory, TooLong}
 
--- A fault has its cause: one for words that ask for nothing, one for each refusal of a feed, one for a failed read, one for a failed
--- write, one for an input that is too long. Want of memory has none.
-abbrev pub HasFaultCause : Type 0 → (FeedRefusal → Type 0) → Type 0 → Type 0 → Type 0 → Fault → Type 0
+-- A fault has its cause: one for words that ask for nothing, one for each refusal of a feed, one
+-- for a failed read, one for a failed write, one for an input that is too long. Want of memory has
+-- none.
+abbrev pub HasFaultCause : Type 0 → (FeedRefusal → Type 0) → Type 0 → Type 0 → Type 0 → Fault
+    → Type 0
 HasFaultCause usage refused read write long Usage = usage
 HasFaultCause usage refused read write long (FeedRefused why) = refused why
 HasFaultCause usage refused read write long ReadFault = read
@@ -27,4 +29,5 @@ WhereLinesStop holds TooLong = holds
 
 -- as many bytes were taken as may be
 abbrev pub TookAll : ℕ → Option (List ℕ) → Option (List ℕ) → Type 0
-TookAll budget left left_now = (bytes : List ℕ) × Consumes left left_now bytes × (length bytes ≡ budget)
+TookAll budget left left_now = (bytes : List ℕ) × Consumes left left_now bytes
+    × (length bytes ≡ budget)

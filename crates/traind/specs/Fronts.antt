@@ -12,13 +12,15 @@ use Rattle.traind.specs.Output.{AreReplies, IsOutput}
 use Rattle.traind.specs.Standing.{Standing, standing}
 
 -- replies to these lines, which begin an input, were written
-pub record AppendsReplies (nw : Network) (names : Names) (st : State) (lines : List Line) (old new : Option (List ℕ)) : Type 0 where
+pub record AppendsReplies (nw : Network) (names : Names) (st : State) (lines : List Line)
+    (old new : Option (List ℕ)) : Type 0 where
   pub shown : List ℕ
   pub replies : AreReplies nw names st [] lines shown
   pub written : Appends old new shown
 
 -- an output of these lines was written
-pub record AppendsOutput (nw : Network) (names : Names) (st : State) (lines : List Line) (old new : Option (List ℕ)) : Type 0 where
+pub record AppendsOutput (nw : Network) (names : Names) (st : State) (lines : List Line)
+    (old new : Option (List ℕ)) : Type 0 where
   pub all : List ℕ
   pub output : IsOutput nw names st lines all
   pub written : Appends old new all
@@ -30,8 +32,10 @@ pub record AppendsFront (old new : Option (List ℕ)) (bytes : List ℕ) : Type 
   pub written : Appends old new front
   pub all : front ++ rest ≡ bytes
 
--- a front of replies to the first of these lines was written, however the later ones would be answered
-pub record AppendsFirstReplies (nw : Network) (names : Names) (st : State) (lines : List Line) (old new : Option (List ℕ)) : Type 0 where
+-- a front of replies to the first of these lines was written, however the later ones would be
+-- answered
+pub record AppendsFirstReplies (nw : Network) (names : Names) (st : State) (lines : List Line)
+    (old new : Option (List ℕ)) : Type 0 where
   pub first : List Line
   pub later : List Line
   pub shown : List ℕ
@@ -39,14 +43,20 @@ pub record AppendsFirstReplies (nw : Network) (names : Names) (st : State) (line
   pub replies : AreReplies nw names st [] first shown
   pub front : AppendsFront old new shown
 
--- a front of an output of these lines was written: of the replies to the first of them, or of all replies and the table. Every query
--- has an answer, so the first replies too begin an output of all lines
-abbrev pub AppendsOutputFront : Network → Names → State → List Line → Option (List ℕ) → Option (List ℕ) → Type 0
+-- a front of an output of these lines was written: of the replies to the first of them, or of all
+-- replies and the table. Every query has an answer, so the first replies too begin an output of all
+-- lines
+abbrev pub AppendsOutputFront : Network → Names → State → List Line → Option (List ℕ)
+    → Option (List ℕ) → Type 0
 AppendsOutputFront nw names st lines old new =
-    AppendsFirstReplies nw names st lines old new ⊎ ((all : List ℕ) × IsOutput nw names st lines all × AppendsFront old new all)
+    AppendsFirstReplies nw names st lines old new ⊎ ((all : List ℕ) × IsOutput nw names st lines all
+    × AppendsFront old new all)
 
--- these lines were taken from the input and answered: their replies are written, and the timetable stands as they leave it
-pub record Answered (first now : Standing) (r : Reader) (left left_now written written_now : Option (List ℕ)) (bytes : List ℕ) (lines : List Line) : Type 0 where
+-- these lines were taken from the input and answered: their replies are written, and the timetable
+-- stands as they leave it
+pub record Answered (first now : Standing) (r : Reader)
+    (left left_now written written_now : Option (List ℕ)) (bytes : List ℕ)
+    (lines : List Line) : Type 0 where
   pub source : Consumes left left_now bytes
   pub lines_so_far : HasAnswered bytes lines r
   pub end : r.ended ≡ true → IsAtEnd left_now
@@ -54,7 +64,8 @@ pub record Answered (first now : Standing) (r : Reader) (left left_now written w
   pub timetable : now ≡ standing first.network first.names first.state lines
 
 -- these lines were taken from the input, and a front of replies to the first of them is written
-pub record Begun (first : Standing) (r : Reader) (left left_now written written_now : Option (List ℕ)) (bytes : List ℕ) (lines : List Line) : Type 0 where
+pub record Begun (first : Standing) (r : Reader) (left left_now written written_now : Option
+    (List ℕ)) (bytes : List ℕ) (lines : List Line) : Type 0 where
   pub source : Consumes left left_now bytes
   pub lines_so_far : HasAnswered bytes lines r
   pub end : r.ended ≡ true → IsAtEnd left_now

@@ -20,7 +20,8 @@ use Rattle.message_reader.specs.Resolved.{resolved}
 use Rattle.mt_io.specs.Lines.{Line, short, long}
 use Rattle.schedule_build.specs.Directory.{Names, day_named, train_named, with_extra}
 
--- the word for a fault of a line. Reading by definition never wants memory, so the last case is never asked for
+-- the word for a fault of a line. Reading by definition never wants memory, so the last case is
+-- never asked for
 abbrev pub word_of : Bad → BadLine
 word_of faults.Utf8 = words.Utf8
 word_of faults.Json = words.Json
@@ -39,7 +40,8 @@ abbrev pub said_by : Names → Line → Result Spoken BadLine
 said_by names long = Err words.Long
 said_by names (short bytes) = with_word (line_of names bytes)
 
--- the message of a line, if it says one. By which names it is read makes no difference (`messages_need_no_names`)
+-- the message of a line, if it says one. By which names it is read makes no difference
+-- (`messages_need_no_names`)
 abbrev pub message_by : Names → Line → Option Wire
 message_by names long = None
 message_by names (short bytes) = message_in (line_of names bytes)
@@ -48,9 +50,13 @@ message_by names (short bytes) = message_in (line_of names bytes)
 abbrev pub messages_of : Names → List Line → List Wire
 messages_of names lines = filter_map (message_by names) lines
 
--- the name of the train that a message adds: an extra train is known by its trip and its service day, and no other message adds a name
+-- the name of the train that a message adds: an extra train is known by its trip and its service
+-- day, and no other message adds a name
 abbrev pub added_name : Names → Wire → Option TrainName
-added_name names (Extra trip date route calls) = option_map (λ day. record { trip = trip; day = day }) (day_named names date)
+added_name names (Extra trip date route calls) = option_map (λ day. record {
+  trip = trip;
+  day = day;
+}) (day_named names date)
 added_name names _ = None
 
 -- a name is not there, and there is room for it

@@ -13,7 +13,8 @@ use Rattle.traind.specs.Feeds.{network, Told, tables_in, asked_in}
 use Rattle.traind.specs.Fronts.{AppendsReplies, AppendsOutput, AppendsOutputFront}
 
 -- the words ask for a feed that tells its tables and holds this timetable
-pub record Loads (words : List (List ℕ)) (tables : Option Told) (nw : Network) (st : State) (names : Names) : Type 0 where
+pub record Loads (words : List (List ℕ)) (tables : Option Told) (nw : Network) (st : State)
+    (names : Names) : Type 0 where
   pub asked : Asked
   pub told : Told
   pub asked_is : asked_of words ≡ Some asked
@@ -24,7 +25,8 @@ pub record Loads (words : List (List ℕ)) (tables : Option Told) (nw : Network)
   pub holds : asked_in told asked ≡ Ok (st, names)
 
 -- the words ask for a feed that tells its tables and is to be refused for this
-pub record IsRefused (words : List (List ℕ)) (tables : Option Told) (why : FeedRefusal) : Type 0 where
+pub record IsRefused (words : List (List ℕ)) (tables : Option Told)
+    (why : FeedRefusal) : Type 0 where
   pub asked : Asked
   pub told : Told
   pub asked_is : asked_of words ≡ Some asked
@@ -32,25 +34,32 @@ pub record IsRefused (words : List (List ℕ)) (tables : Option Told) (why : Fee
   pub refused : asked_in told asked ≡ Err why
 
 -- what was written is an output of all lines of the input
-abbrev pub WritesAll : List (List ℕ) → Option Told → Option (List ℕ) → Option (List ℕ) → Option (List ℕ) → Type 0
+abbrev pub WritesAll : List (List ℕ) → Option Told → Option (List ℕ) → Option (List ℕ)
+    → Option (List ℕ) → Type 0
 WritesAll words tables left written written_now =
-    (nw : Network) (st : State) (names : Names) (bytes : List ℕ) → Loads words tables nw st names → left ≡ Some bytes
+    (nw : Network) (st : State) (names : Names) (bytes : List ℕ) → Loads words tables nw st names
+    → left ≡ Some bytes
     → AppendsOutput nw names st (lines_of true bytes) written written_now
 
 -- what was written are the replies to the lines that are whole among the bytes taken
-abbrev pub WritesReplies : List (List ℕ) → Option Told → Option (List ℕ) → Option (List ℕ) → Option (List ℕ) → Option (List ℕ) → Type 0
+abbrev pub WritesReplies : List (List ℕ) → Option Told → Option (List ℕ) → Option (List ℕ)
+    → Option (List ℕ) → Option (List ℕ) → Type 0
 WritesReplies words tables left left_now written written_now =
     (nw : Network) (st : State) (names : Names) → Loads words tables nw st names
-    → (bytes : List ℕ) × Consumes left left_now bytes × AppendsReplies nw names st (lines_of false bytes) written written_now
+    → (bytes : List ℕ) × Consumes left left_now bytes × AppendsReplies nw names st
+    (lines_of false bytes) written written_now
 
 -- what was written is a front of an output of all lines of the input, however the run ended
-abbrev pub WritesFront : List (List ℕ) → Option Told → Option (List ℕ) → Option (List ℕ) → Option (List ℕ) → Type 0
+abbrev pub WritesFront : List (List ℕ) → Option Told → Option (List ℕ) → Option (List ℕ)
+    → Option (List ℕ) → Type 0
 WritesFront words tables left written written_now =
-    (nw : Network) (st : State) (names : Names) (bytes : List ℕ) → Loads words tables nw st names → left ≡ Some bytes
+    (nw : Network) (st : State) (names : Names) (bytes : List ℕ) → Loads words tables nw st names
+    → left ≡ Some bytes
     → AppendsOutputFront nw names st (lines_of true bytes) written written_now
 
 -- the feed holds a timetable, and the input has fewer bytes than may be taken
-pub record CanEnd (words : List (List ℕ)) (tables : Option Told) (left : Option (List ℕ)) (budget : ℕ) : Type 0 where
+pub record CanEnd (words : List (List ℕ)) (tables : Option Told) (left : Option (List ℕ))
+    (budget : ℕ) : Type 0 where
   pub network : Network
   pub state : State
   pub names : Names

@@ -4,9 +4,15 @@ use Rattle.schedule_build.specs.InStep.{AreInStep}
 use Rattle.traind.specs.Standing.{Standing}
 use Rattle.traind.specs.declared.service.InformationService.TheInside.{Inside}
 
--- where its timetable stands, whatever events the last message changed and whatever was answered last
+-- where its timetable stands, whatever events the last message changed and whatever was answered
+-- last
 abbrev pub seen : Inside → Standing
-seen s = record { network = s.timetable.network; state = s.timetable.state; count = s.timetable.count; names = s.directory }
+seen s = record {
+  network = s.timetable.network;
+  state = s.timetable.state;
+  count = s.timetable.count;
+  names = s.directory;
+}
 
 -- there is room for answers over all its stops, and its names and its trains are in step
 pub record IsReady (s : Inside) : Type 0 where

@@ -21,7 +21,8 @@ use Rattle.schedule_build.specs.contracts.directory.Directory.{the_row as direct
 use Rattle.schedule_build.specs.Directory.{Names}
 use Rattle.traind.specs.Lines.{accepted_of, names_with, names_after}
 
--- what no message changes, the state of the trains, how many messages were accepted, and the names that are known
+-- what no message changes, the state of the trains, how many messages were accepted, and the names
+-- that are known
 pub record Standing : Type 0 where
   pub network : Network
   pub state : State
@@ -35,7 +36,11 @@ standing_code =
 
 -- after a message with this answer
 abbrev pub next_by_refusal : Standing → Wire → Message → Option Refusal → Standing
-next_by_refusal t w m None = record t { state = effect t.state m; count = t.count + 1; names = names_with t.names w }
+next_by_refusal t w m None = record t {
+  state = effect t.state m;
+  count = t.count + 1;
+  names = names_with t.names w;
+}
 next_by_refusal t w m (Some r) = t
 
 -- after a message, or after names that decide its refusal
@@ -54,4 +59,9 @@ next_by t (Err b) = t
 abbrev pub standing : Network → Names → State → List Line → Standing
 standing nw names st lines =
     let ms = accepted_of nw names st lines in
-    record { network = nw; state = after st ms; count = length ms; names = names_after nw names st lines }
+    record {
+      network = nw;
+      state = after st ms;
+      count = length ms;
+      names = names_after nw names st lines;
+    }

@@ -60,12 +60,17 @@ what_word what.Pairs = codes "pairs"
 
 -- the line of a refused feed
 abbrev pub refusal_line : FeedRefusal → List ℕ
-refusal_line (Missing table) = codes "traind: feed refused: missing " ++ (file_name table ++ codes "\n")
+refusal_line (Missing table) = codes "traind: feed refused: missing "
+    ++ (file_name table ++ codes "\n")
 refusal_line (Bad table row cause) =
-    codes "traind: feed refused: " ++ (file_name table ++ (codes " row " ++ (decimal row ++ (codes ": " ++ (cause_words cause ++ codes "\n")))))
+    codes "traind: feed refused: "
+    ++ (file_name table
+    ++ (codes " row "
+    ++ (decimal row ++ (codes ": " ++ (cause_words cause ++ codes "\n")))))
 refusal_line Frequencies = codes "traind: feed refused: frequencies.txt has rows\n"
 refusal_line (TooMany w) = codes "traind: feed refused: too many " ++ (what_word w ++ codes "\n")
-refusal_line (TableTooLong table) = codes "traind: feed refused: " ++ (file_name table ++ codes " is too long\n")
+refusal_line (TableTooLong table) = codes "traind: feed refused: "
+    ++ (file_name table ++ codes " is too long\n")
 
 -- the status of a run that ended, or that stopped for a fault
 abbrev pub status_of : Result (Unit {0}) Fault → Status

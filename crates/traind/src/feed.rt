@@ -28,11 +28,14 @@ pub(crate) fn load<F: Feed>(
     requires year { asked.now.first < 21010000 }
     requires days { (1 ≤ asked.now.days) × (asked.now.days ≤ 31) }
     requires options { IsInRange asked.now.opts }
-    ensures exact { (told : Told) → F.tables feed.old ≡ Some told → Yields (λ s. (s.state, s.names)) result (asked_in told (asked_view asked.now)) }
-    ensures network { IfOk result (λ s. (told : Told) (rows : ATables) → F.tables feed.old ≡ Some told → tables_in told (asked_view asked.now) ≡ Ok rows
+    ensures exact { (told : Told) → F.tables feed.old ≡ Some told
+        → Yields (λ s. (s.state, s.names)) result (asked_in told (asked_view asked.now)) }
+    ensures network { IfOk result (λ s. (told : Told) (rows : ATables) → F.tables feed.old
+        ≡ Some told → tables_in told (asked_view asked.now) ≡ Ok rows
         → IsSame (network rows asked.now.opts) s.network) }
     ensures new { IfOk result (λ s. s.count ≡ 0) }
-    ensures failed { IsErrOf result FeedError.ReadFault → Rose (F.faults feed.old) (F.faults feed.new) }
+    ensures failed { IsErrOf result FeedError.ReadFault
+        → Rose (F.faults feed.old) (F.faults feed.new) }
     ensures later { F.faults feed.old ≤ F.faults feed.new }
 {
     let opts = asked.opts;

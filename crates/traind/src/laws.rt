@@ -11,11 +11,12 @@ ghost use Rattle.traind.specs.Alike.{DifferInJourneysAlone};
 ghost use Rattle.traind.specs.Lines.{accepted_of, names_after};
 ghost use Rattle.traind.specs.Output.{IsOutput};
 
-/// Two outputs of the same lines have the same table, and the same reply to each line, but that for a query the one may show another
-/// journey than the other, which arrives at the same time.
+/// Two outputs of the same lines have the same table, and the same reply to each line, but that for
+/// a query the one may show another journey than the other, which arrives at the same time.
 pub fn outputs_differ_in_journeys_alone()
     ensures { (nw : Network) (names : Names) (st : State) (lines : List Line) (a b : List ℕ) →
-        IsOutput nw names st lines a → IsOutput nw names st lines b → DifferInJourneysAlone nw names st lines a b }
+        IsOutput nw names st lines a → IsOutput nw names st lines b
+        → DifferInJourneysAlone nw names st lines a b }
 {}
 
 /// Names and trains that are in step are in step after any lines.

@@ -25,9 +25,12 @@ fn write_reply<K: Sink>(
     out: &mut K,
     reply: &Reply,
 ) -> Result<(), Fault>
-    ensures ok { OnOk result (Appends (K.written out.old) (K.written out.new) (text_of_reply directory.now reply.now)) }
-    ensures front { IfErr result (λ f. AppendsFront (K.written out.old) (K.written out.new) (text_of_reply directory.now reply.now)) }
-    ensures fault { IfErr result (HasFaultCause ⊥ (λ why. ⊥) ⊥ (Rose (K.faults out.old) (K.faults out.new)) ⊥) }
+    ensures ok { OnOk result (Appends (K.written out.old) (K.written out.new)
+        (text_of_reply directory.now reply.now)) }
+    ensures front { IfErr result (λ f. AppendsFront (K.written out.old) (K.written out.new)
+        (text_of_reply directory.now reply.now)) }
+    ensures fault { IfErr result (HasFaultCause ⊥ (λ why. ⊥) ⊥
+        (Rose (K.faults out.old) (K.faults out.new)) ⊥) }
     ensures later { K.faults out.old ≤ K.faults out.new }
 {
     let text = reply_text(alloc, reply, directory)?;
@@ -46,14 +49,21 @@ pub(crate) fn answer_lines<S: Source, K: Sink>(
     requires reader { reader.old ≡ fresh reader.old.budget }
     requires count { service.old.count ≡ 0 }
     ensures all { OnOk result ((bytes : List ℕ) × (lines : List Line) × IsDone reader.new
-        × Answered service.old service.new reader.new (S.left input.old) (S.left input.new) (K.written out.old) (K.written out.new) bytes lines) }
-    ensures stopped { IfErr result (WhereLinesStop ((bytes : List ℕ) × (lines : List Line) × (lines_of false bytes ≡ lines)
-        × Answered service.old service.new reader.new (S.left input.old) (S.left input.new) (K.written out.old) (K.written out.new) bytes lines)) }
+        × Answered service.old service.new reader.new (S.left input.old) (S.left input.new)
+        (K.written out.old) (K.written out.new) bytes lines) }
+    ensures stopped { IfErr result (WhereLinesStop ((bytes : List ℕ) × (lines : List Line)
+        × (lines_of false bytes ≡ lines)
+        × Answered service.old service.new reader.new (S.left input.old) (S.left input.new)
+        (K.written out.old) (K.written out.new) bytes lines)) }
     ensures begun { IfErr result (λ f. (bytes : List ℕ) × (lines : List Line)
-        × Begun service.old reader.new (S.left input.old) (S.left input.new) (K.written out.old) (K.written out.new) bytes lines) }
-    ensures fault { IfErr result (HasFaultCause ⊥ (λ why. ⊥) (Rose (S.faults input.old) (S.faults input.new)) (Rose (K.faults out.old) (K.faults out.new))
+        × Begun service.old reader.new (S.left input.old) (S.left input.new) (K.written out.old)
+        (K.written out.new) bytes lines) }
+    ensures fault { IfErr result (HasFaultCause ⊥ (λ why. ⊥)
+        (Rose (S.faults input.old) (S.faults input.new))
+        (Rose (K.faults out.old) (K.faults out.new))
         (TookAll reader.old.budget (S.left input.old) (S.left input.new))) }
-    ensures later { (S.faults input.old ≤ S.faults input.new) × (K.faults out.old ≤ K.faults out.new) }
+    ensures later { (S.faults input.old ≤ S.faults input.new)
+        × (K.faults out.old ≤ K.faults out.new) }
 {
     for number in 1..u64::MAX {
         let reply = match reader.next(input) {

@@ -60,7 +60,8 @@ fn reply_to_refused(
     wire: &Wire,
     refusal: &Refusal,
 ) -> Result<Reply, Fault>
-    ensures reply { IfOk result (λ r. r ≡ reply_to_refused directory.now number wire.now refusal.now) }
+    ensures reply { IfOk result (λ r. r ≡ reply_to_refused directory.now number wire.now
+        refusal.now) }
     ensures memory { IfErr result (λ f. f ≡ Memory) }
 {
     if let Wire::Extra { trip, date, .. } = wire
@@ -95,8 +96,10 @@ fn reply_to_message<L: Ledger>(
     requires name { blank.name ≡ L.name }
     requires parts { blank.parts ≡ L.parts }
     requires some { 0 < blank.parts }
-    ensures reply { IfOk result (λ r. r ≡ reply_to_message service.old.network service.old.names service.old.state service.old.count number wire.now (Ok message.now)) }
-    ensures next { OnOk result (service.new ≡ next_by_message service.old wire.now (Ok message.now)) }
+    ensures reply { IfOk result (λ r. r ≡ reply_to_message service.old.network service.old.names
+        service.old.state service.old.count number wire.now (Ok message.now)) }
+    ensures next { OnOk result (service.new ≡ next_by_message service.old wire.now
+        (Ok message.now)) }
     ensures memory { IfErr result (λ f. f ≡ Memory) }
 {
     let name = added_name(alloc, &service.directory, wire)?;
@@ -123,7 +126,8 @@ fn reply_to_wire(
 ) -> Result<Reply, Fault>
     requires kept { IsWire wire.now }
     requires count { service.old.count < 2 ^ 64 - 1 }
-    ensures reply { IfOk result (λ r. r ≡ reply_to_message service.old.network service.old.names service.old.state service.old.count number wire.now (resolved service.old.names wire.now)) }
+    ensures reply { IfOk result (λ r. r ≡ reply_to_message service.old.network service.old.names
+        service.old.state service.old.count number wire.now (resolved service.old.names wire.now)) }
     ensures next { OnOk result (service.new ≡ next_by service.old (Ok (Says wire.now))) }
     ensures memory { IfErr result (λ f. f ≡ Memory) }
 {
@@ -169,7 +173,8 @@ fn reply_to_query<L: Ledger>(
     requires name { blank.name ≡ L.name }
     requires parts { blank.parts ≡ L.parts }
     requires some { 0 < blank.parts }
-    ensures reply { IfOk result (IsReplyToQuery service.old.network service.old.state service.old.count number day query.now) }
+    ensures reply { IfOk result (IsReplyToQuery service.old.network service.old.state
+        service.old.count number day query.now) }
     ensures kept { service.new ≡ service.old }
     ensures memory { IfErr result (λ f. f ≡ Memory) }
 {
@@ -197,7 +202,8 @@ fn reply_to_bad(number: u64, bad: BadLine) -> Reply
     Reply::Bad { line: number, bad }
 }
 
-/// The reply to what a line says, which may change the timetable and add a name. Who asks a query has no use here.
+/// The reply to what a line says, which may change the timetable and add a name. Who asks a query
+/// has no use here.
 fn reply_to_said(
     alloc: Global,
     service: &mut InformationService,
@@ -206,7 +212,8 @@ fn reply_to_said(
 ) -> Result<Reply, Fault>
     requires kept { IsLine said.now }
     requires count { service.old.count < 2 ^ 64 - 1 }
-    ensures reply { IfOk result (IsReply service.old.network service.old.names service.old.state service.old.count number (Ok said.now)) }
+    ensures reply { IfOk result (IsReply service.old.network service.old.names service.old.state
+        service.old.count number (Ok said.now)) }
     ensures next { OnOk result (service.new ≡ next_by service.old (Ok said.now)) }
     ensures memory { IfErr result (λ f. f ≡ Memory) }
 {
@@ -232,8 +239,10 @@ pub(crate) fn reply_to_line(
     line: &[u8],
 ) -> Result<Reply, Fault>
     requires count { service.old.count < 2 ^ 64 - 1 }
-    ensures reply { IfOk result (IsReply service.old.network service.old.names service.old.state service.old.count number (with_word (line_of service.old.names line.now))) }
-    ensures next { OnOk result (service.new ≡ next_by service.old (with_word (line_of service.old.names line.now))) }
+    ensures reply { IfOk result (IsReply service.old.network service.old.names service.old.state
+        service.old.count number (with_word (line_of service.old.names line.now))) }
+    ensures next { OnOk result (service.new ≡ next_by service.old
+        (with_word (line_of service.old.names line.now))) }
     ensures memory { IfErr result (λ f. f ≡ Memory) }
 {
     match read_line(alloc, line, &service.directory) {

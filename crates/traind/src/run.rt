@@ -36,13 +36,19 @@ fn run_lines<S: Source, K: Sink>(
 ) -> Result<(), Fault>
     requires count { service.old.count ≡ 0 }
     ensures ok { OnOk result ((bytes : List ℕ) → S.left input.old ≡ Some bytes
-        → AppendsOutput service.old.network service.old.names service.old.state (lines_of true bytes) (K.written out.old) (K.written out.new)) }
+        → AppendsOutput service.old.network service.old.names service.old.state
+        (lines_of true bytes) (K.written out.old) (K.written out.new)) }
     ensures ended { OnOk result (IsAtEnd (S.left input.new)) }
-    ensures stopped { IfErr result (WhereLinesStop ((bytes : List ℕ) × Consumes (S.left input.old) (S.left input.new) bytes
-        × AppendsReplies service.old.network service.old.names service.old.state (lines_of false bytes) (K.written out.old) (K.written out.new))) }
+    ensures stopped { IfErr result (WhereLinesStop ((bytes : List ℕ)
+        × Consumes (S.left input.old) (S.left input.new) bytes
+        × AppendsReplies service.old.network service.old.names service.old.state
+        (lines_of false bytes) (K.written out.old) (K.written out.new))) }
     ensures front { IfErr result (λ f. (bytes : List ℕ) → S.left input.old ≡ Some bytes
-        → AppendsOutputFront service.old.network service.old.names service.old.state (lines_of true bytes) (K.written out.old) (K.written out.new)) }
-    ensures fault { IfErr result (HasFaultCause ⊥ (λ why. ⊥) (Rose (S.faults input.old) (S.faults input.new)) (Rose (K.faults out.old) (K.faults out.new))
+        → AppendsOutputFront service.old.network service.old.names service.old.state
+        (lines_of true bytes) (K.written out.old) (K.written out.new)) }
+    ensures fault { IfErr result (HasFaultCause ⊥ (λ why. ⊥)
+        (Rose (S.faults input.old) (S.faults input.new))
+        (Rose (K.faults out.old) (K.faults out.new))
         (TookAll budget (S.left input.old) (S.left input.new))) }
 {
     let mut reader = LineReader::build(alloc, budget)?;
@@ -59,21 +65,36 @@ fn run_words<F: Feed, S: Source, K: Sink>(
     out: &mut K,
     budget: u64,
 ) -> Result<(), Fault>
-    ensures ok { OnOk result (WritesAll (map string_bytes words.now) (F.tables feed.old) (S.left input.old) (K.written out.old) (K.written out.new)) }
+    ensures ok { OnOk result (WritesAll (map string_bytes words.now) (F.tables feed.old)
+        (S.left input.old) (K.written out.old) (K.written out.new)) }
     ensures ended { OnOk result (IsAtEnd (S.left input.new)) }
-    ensures no_words { asked_of (map string_bytes words.now) ≡ None → (result ≡ Err faults.Usage) ⊎ (result ≡ Err faults.Memory) }
-    ensures usage_untouched { asked_of (map string_bytes words.now) ≡ None → (feed.new ≡ feed.old) × (input.new ≡ input.old) × (out.new ≡ out.old) }
-    ensures refused { (why : FeedRefusal) → IsRefused (map string_bytes words.now) (F.tables feed.old) why
-        → (result ≡ Err (faults.FeedRefused why)) ⊎ (result ≡ Err faults.Memory) ⊎ ((result ≡ Err faults.ReadFault) × Rose (F.faults feed.old) (F.faults feed.new)) }
-    ensures refused_untouched { (why : FeedRefusal) → IsRefused (map string_bytes words.now) (F.tables feed.old) why → (input.new ≡ input.old) × (out.new ≡ out.old) }
+    ensures no_words { asked_of (map string_bytes words.now) ≡ None
+        → (result ≡ Err faults.Usage) ⊎ (result ≡ Err faults.Memory) }
+    ensures usage_untouched { asked_of (map string_bytes words.now) ≡ None → (feed.new ≡ feed.old)
+        × (input.new ≡ input.old) × (out.new ≡ out.old) }
+    ensures refused { (why : FeedRefusal) → IsRefused (map string_bytes words.now)
+        (F.tables feed.old) why
+        → (result ≡ Err (faults.FeedRefused why)) ⊎ (result ≡ Err faults.Memory) ⊎
+        ((result ≡ Err faults.ReadFault) × Rose (F.faults feed.old) (F.faults feed.new)) }
+    ensures refused_untouched { (why : FeedRefusal) → IsRefused (map string_bytes words.now)
+        (F.tables feed.old) why → (input.new ≡ input.old) × (out.new ≡ out.old) }
     ensures fault { IfErr result (HasFaultCause
-        ((asked_of (map string_bytes words.now) ≡ None) × (feed.new ≡ feed.old) × (input.new ≡ input.old) × (out.new ≡ out.old))
-        (λ why. ((told : Told) → F.tables feed.old ≡ Some told → IsRefused (map string_bytes words.now) (F.tables feed.old) why) × (input.new ≡ input.old) × (out.new ≡ out.old))
-        (((input.new ≡ input.old) × (out.new ≡ out.old) × Rose (F.faults feed.old) (F.faults feed.new)) ⊎ Rose (S.faults input.old) (S.faults input.new))
-        (Rose (K.faults out.old) (K.faults out.new)) (TookAll budget (S.left input.old) (S.left input.new))) }
-    ensures stopped { IfErr result (WhereLinesStop (WritesReplies (map string_bytes words.now) (F.tables feed.old) (S.left input.old) (S.left input.new)
+        ((asked_of (map string_bytes words.now) ≡ None) × (feed.new ≡ feed.old)
+        × (input.new ≡ input.old) × (out.new ≡ out.old))
+        (λ why. ((told : Told) → F.tables feed.old ≡ Some told
+        → IsRefused (map string_bytes words.now) (F.tables feed.old) why)
+        × (input.new ≡ input.old) × (out.new ≡ out.old))
+        (((input.new ≡ input.old) × (out.new ≡ out.old)
+        × Rose (F.faults feed.old) (F.faults feed.new)) ⊎ Rose (S.faults input.old)
+        (S.faults input.new))
+        (Rose (K.faults out.old) (K.faults out.new))
+        (TookAll budget (S.left input.old) (S.left input.new))) }
+    ensures stopped { IfErr result
+        (WhereLinesStop (WritesReplies (map string_bytes words.now) (F.tables feed.old)
+        (S.left input.old) (S.left input.new)
         (K.written out.old) (K.written out.new))) }
-    ensures front { WritesFront (map string_bytes words.now) (F.tables feed.old) (S.left input.old) (K.written out.old) (K.written out.new) }
+    ensures front { WritesFront (map string_bytes words.now) (F.tables feed.old) (S.left input.old)
+        (K.written out.old) (K.written out.new) }
 {
     let asked = read_words(alloc, words)?;
     let mut service = load(alloc, &asked, feed)?;
@@ -83,9 +104,11 @@ fn run_words<F: Feed, S: Source, K: Sink>(
 /// Writes why a feed is refused.
 fn tell_refusal<E: Sink>(alloc: Global, why: &FeedRefusal, err: &mut E) -> Status
     ensures status { (result ≡ Status.FeedRefused) ⊎ (result ≡ Status.Memory) }
-    ensures refused_line { result ≡ Status.FeedRefused → ¬ (Rose (E.faults err.old) (E.faults err.new))
+    ensures refused_line { result ≡ Status.FeedRefused
+        → ¬ (Rose (E.faults err.old) (E.faults err.new))
         → Appends (E.written err.old) (E.written err.new) (refusal_line why.now) }
-    ensures error_line { result ≢ Status.FeedRefused → ¬ (Rose (E.faults err.old) (E.faults err.new))
+    ensures error_line { result ≢ Status.FeedRefused
+        → ¬ (Rose (E.faults err.old) (E.faults err.new))
         → Appends (E.written err.old) (E.written err.new) (error_line result) }
 {
     match refusal_line(alloc, why) {
@@ -103,9 +126,12 @@ fn tell_refusal<E: Sink>(alloc: Global, why: &FeedRefusal, err: &mut E) -> Statu
 /// Writes how a run ended. A failed write changes nothing.
 fn tell<E: Sink>(alloc: Global, run: Result<(), Fault>, err: &mut E) -> Status
     ensures status { (result ≡ status_of run) ⊎ (result ≡ Status.Memory) }
-    ensures refused_line { result ≡ Status.FeedRefused → (why : FeedRefusal) × (run ≡ Err (faults.FeedRefused why))
-        × (¬ (Rose (E.faults err.old) (E.faults err.new)) → Appends (E.written err.old) (E.written err.new) (refusal_line why)) }
-    ensures error_line { result ≢ Status.FeedRefused → ¬ (Rose (E.faults err.old) (E.faults err.new))
+    ensures refused_line { result ≡ Status.FeedRefused → (why : FeedRefusal)
+        × (run ≡ Err (faults.FeedRefused why))
+        × (¬ (Rose (E.faults err.old) (E.faults err.new))
+        → Appends (E.written err.old) (E.written err.new) (refusal_line why)) }
+    ensures error_line { result ≢ Status.FeedRefused
+        → ¬ (Rose (E.faults err.old) (E.faults err.new))
         → Appends (E.written err.old) (E.written err.new) (error_line result) }
 {
     if let Err(Fault::FeedRefused(why)) = run {
@@ -116,9 +142,10 @@ fn tell<E: Sink>(alloc: Global, run: Result<(), Fault>, err: &mut E) -> Status
     status
 }
 
-/// All that the program does for `times`. It reads the tables of the feed, answers each line of the input at once, and at the end of
-/// the input writes the table of all times. A query is answered by the times after the messages of the lines before it. It stops
-/// where `budget` bytes of the input were taken and no end was read. It waits for nobody and returns.
+/// All that the program does for `times`. It reads the tables of the feed, answers each line of the
+/// input at once, and at the end of the input writes the table of all times. A query is answered by
+/// the times after the messages of the lines before it. It stops where `budget` bytes of the input
+/// were taken and no end was read. It waits for nobody and returns.
 pub fn run_times<F: Feed, S: Source, K: Sink, E: Sink>(
     alloc: Global,
     words: &[String],
@@ -130,35 +157,54 @@ pub fn run_times<F: Feed, S: Source, K: Sink, E: Sink>(
 ) -> Status
     requires budget { 1 ≤ budget }
     ensures usage { result ≡ Status.Usage → asked_of (map string_bytes words.now) ≡ None }
-    ensures usage_exactly { asked_of (map string_bytes words.now) ≡ None → (result ≡ Status.Usage) ⊎ (result ≡ Status.Memory) }
-    ensures usage_untouched { asked_of (map string_bytes words.now) ≡ None → (feed.new ≡ feed.old) × (input.new ≡ input.old) × (out.new ≡ out.old) }
-    ensures ok { result ≡ Status.Ok → WritesAll (map string_bytes words.now) (F.tables feed.old) (S.left input.old) (K.written out.old) (K.written out.new) }
+    ensures usage_exactly { asked_of (map string_bytes words.now) ≡ None
+        → (result ≡ Status.Usage) ⊎ (result ≡ Status.Memory) }
+    ensures usage_untouched { asked_of (map string_bytes words.now) ≡ None → (feed.new ≡ feed.old)
+        × (input.new ≡ input.old) × (out.new ≡ out.old) }
+    ensures ok { result ≡ Status.Ok → WritesAll (map string_bytes words.now) (F.tables feed.old)
+        (S.left input.old) (K.written out.old) (K.written out.new) }
     ensures ended { result ≡ Status.Ok → IsAtEnd (S.left input.new) }
     ensures refused { result ≡ Status.FeedRefused → (why : FeedRefusal)
-        × ((told : Told) → F.tables feed.old ≡ Some told → IsRefused (map string_bytes words.now) (F.tables feed.old) why)
-        × (¬ (Rose (E.faults err.old) (E.faults err.new)) → Appends (E.written err.old) (E.written err.new) (refusal_line why)) }
-    ensures refused_exactly { (why : FeedRefusal) → IsRefused (map string_bytes words.now) (F.tables feed.old) why
-        → (result ≡ Status.FeedRefused) ⊎ (result ≡ Status.Memory) ⊎ ((result ≡ Status.ReadFault) × Rose (F.faults feed.old) (F.faults feed.new)) }
-    ensures untouched { result ≡ Status.FeedRefused → (input.new ≡ input.old) × (out.new ≡ out.old) }
-    ensures refused_untouched { (why : FeedRefusal) → IsRefused (map string_bytes words.now) (F.tables feed.old) why → (input.new ≡ input.old) × (out.new ≡ out.old) }
-    ensures read_fault { result ≡ Status.ReadFault → ((input.new ≡ input.old) × (out.new ≡ out.old) × Rose (F.faults feed.old) (F.faults feed.new))
+        × ((told : Told) → F.tables feed.old ≡ Some told
+        → IsRefused (map string_bytes words.now) (F.tables feed.old) why)
+        × (¬ (Rose (E.faults err.old) (E.faults err.new))
+        → Appends (E.written err.old) (E.written err.new) (refusal_line why)) }
+    ensures refused_exactly { (why : FeedRefusal) → IsRefused (map string_bytes words.now)
+        (F.tables feed.old) why
+        → (result ≡ Status.FeedRefused) ⊎ (result ≡ Status.Memory) ⊎ ((result ≡ Status.ReadFault)
+        × Rose (F.faults feed.old) (F.faults feed.new)) }
+    ensures untouched { result ≡ Status.FeedRefused → (input.new ≡ input.old)
+        × (out.new ≡ out.old) }
+    ensures refused_untouched { (why : FeedRefusal) → IsRefused (map string_bytes words.now)
+        (F.tables feed.old) why → (input.new ≡ input.old) × (out.new ≡ out.old) }
+    ensures read_fault { result ≡ Status.ReadFault
+        → ((input.new ≡ input.old) × (out.new ≡ out.old)
+        × Rose (F.faults feed.old) (F.faults feed.new))
         ⊎ Rose (S.faults input.old) (S.faults input.new) }
     ensures write_fault { result ≡ Status.WriteFault → Rose (K.faults out.old) (K.faults out.new) }
-    ensures too_long { result ≡ Status.TooLong → TookAll budget (S.left input.old) (S.left input.new) }
+    ensures too_long { result ≡ Status.TooLong → TookAll budget (S.left input.old)
+        (S.left input.new) }
     ensures stopped { (result ≡ Status.ReadFault) ⊎ (result ≡ Status.TooLong)
-        → WritesReplies (map string_bytes words.now) (F.tables feed.old) (S.left input.old) (S.left input.new) (K.written out.old) (K.written out.new) }
-    ensures front { WritesFront (map string_bytes words.now) (F.tables feed.old) (S.left input.old) (K.written out.old) (K.written out.new) }
-    ensures complete { CanEnd (map string_bytes words.now) (F.tables feed.old) (S.left input.old) budget
-        → ¬ (Rose (F.faults feed.old) (F.faults feed.new)) → ¬ (Rose (S.faults input.old) (S.faults input.new)) → ¬ (Rose (K.faults out.old) (K.faults out.new))
+        → WritesReplies (map string_bytes words.now) (F.tables feed.old) (S.left input.old)
+        (S.left input.new) (K.written out.old) (K.written out.new) }
+    ensures front { WritesFront (map string_bytes words.now) (F.tables feed.old) (S.left input.old)
+        (K.written out.old) (K.written out.new) }
+    ensures complete { CanEnd (map string_bytes words.now) (F.tables feed.old)
+        (S.left input.old) budget
+        → ¬ (Rose (F.faults feed.old) (F.faults feed.new))
+        → ¬ (Rose (S.faults input.old) (S.faults input.new))
+        → ¬ (Rose (K.faults out.old) (K.faults out.new))
         → (result ≡ Status.Ok) ⊎ (result ≡ Status.Memory) }
-    ensures error_line { result ≢ Status.FeedRefused → ¬ (Rose (E.faults err.old) (E.faults err.new))
+    ensures error_line { result ≢ Status.FeedRefused
+        → ¬ (Rose (E.faults err.old) (E.faults err.new))
         → Appends (E.written err.old) (E.written err.new) (error_line result) }
 {
     let run = run_words(alloc, words, feed, input, out, budget);
     tell(alloc, run, err)
 }
 
-/// The program. It stops where `budget` bytes of the input were taken and no end was read. Its only command is `times`.
+/// The program. It stops where `budget` bytes of the input were taken and no end was read. Its only
+/// command is `times`.
 pub fn traind_within<
     R: Threads + Wait + Sync,
     F: Feed,
@@ -179,28 +225,46 @@ pub fn traind_within<
 ) -> Status
     requires budget { 1 ≤ budget }
     ensures usage { result ≡ Status.Usage → asked_of (map string_bytes words.now) ≡ None }
-    ensures usage_exactly { asked_of (map string_bytes words.now) ≡ None → (result ≡ Status.Usage) ⊎ (result ≡ Status.Memory) }
-    ensures usage_untouched { asked_of (map string_bytes words.now) ≡ None → (feed.new ≡ feed.old) × (input.new ≡ input.old) × (out.new ≡ out.old) }
-    ensures ok { result ≡ Status.Ok → WritesAll (map string_bytes words.now) (F.tables feed.old) (S.left input.old) (K.written out.old) (K.written out.new) }
+    ensures usage_exactly { asked_of (map string_bytes words.now) ≡ None
+        → (result ≡ Status.Usage) ⊎ (result ≡ Status.Memory) }
+    ensures usage_untouched { asked_of (map string_bytes words.now) ≡ None → (feed.new ≡ feed.old)
+        × (input.new ≡ input.old) × (out.new ≡ out.old) }
+    ensures ok { result ≡ Status.Ok → WritesAll (map string_bytes words.now) (F.tables feed.old)
+        (S.left input.old) (K.written out.old) (K.written out.new) }
     ensures ended { result ≡ Status.Ok → IsAtEnd (S.left input.new) }
     ensures refused { result ≡ Status.FeedRefused → (why : FeedRefusal)
-        × ((told : Told) → F.tables feed.old ≡ Some told → IsRefused (map string_bytes words.now) (F.tables feed.old) why)
-        × (¬ (Rose (E.faults err.old) (E.faults err.new)) → Appends (E.written err.old) (E.written err.new) (refusal_line why)) }
-    ensures refused_exactly { (why : FeedRefusal) → IsRefused (map string_bytes words.now) (F.tables feed.old) why
-        → (result ≡ Status.FeedRefused) ⊎ (result ≡ Status.Memory) ⊎ ((result ≡ Status.ReadFault) × Rose (F.faults feed.old) (F.faults feed.new)) }
-    ensures untouched { result ≡ Status.FeedRefused → (input.new ≡ input.old) × (out.new ≡ out.old) }
-    ensures refused_untouched { (why : FeedRefusal) → IsRefused (map string_bytes words.now) (F.tables feed.old) why → (input.new ≡ input.old) × (out.new ≡ out.old) }
-    ensures read_fault { result ≡ Status.ReadFault → ((input.new ≡ input.old) × (out.new ≡ out.old) × Rose (F.faults feed.old) (F.faults feed.new))
+        × ((told : Told) → F.tables feed.old ≡ Some told
+        → IsRefused (map string_bytes words.now) (F.tables feed.old) why)
+        × (¬ (Rose (E.faults err.old) (E.faults err.new))
+        → Appends (E.written err.old) (E.written err.new) (refusal_line why)) }
+    ensures refused_exactly { (why : FeedRefusal) → IsRefused (map string_bytes words.now)
+        (F.tables feed.old) why
+        → (result ≡ Status.FeedRefused) ⊎ (result ≡ Status.Memory) ⊎ ((result ≡ Status.ReadFault)
+        × Rose (F.faults feed.old) (F.faults feed.new)) }
+    ensures untouched { result ≡ Status.FeedRefused → (input.new ≡ input.old)
+        × (out.new ≡ out.old) }
+    ensures refused_untouched { (why : FeedRefusal) → IsRefused (map string_bytes words.now)
+        (F.tables feed.old) why → (input.new ≡ input.old) × (out.new ≡ out.old) }
+    ensures read_fault { result ≡ Status.ReadFault
+        → ((input.new ≡ input.old) × (out.new ≡ out.old)
+        × Rose (F.faults feed.old) (F.faults feed.new))
         ⊎ Rose (S.faults input.old) (S.faults input.new) }
     ensures write_fault { result ≡ Status.WriteFault → Rose (K.faults out.old) (K.faults out.new) }
-    ensures too_long { result ≡ Status.TooLong → TookAll budget (S.left input.old) (S.left input.new) }
+    ensures too_long { result ≡ Status.TooLong → TookAll budget (S.left input.old)
+        (S.left input.new) }
     ensures stopped { (result ≡ Status.ReadFault) ⊎ (result ≡ Status.TooLong)
-        → WritesReplies (map string_bytes words.now) (F.tables feed.old) (S.left input.old) (S.left input.new) (K.written out.old) (K.written out.new) }
-    ensures front { WritesFront (map string_bytes words.now) (F.tables feed.old) (S.left input.old) (K.written out.old) (K.written out.new) }
-    ensures complete { CanEnd (map string_bytes words.now) (F.tables feed.old) (S.left input.old) budget
-        → ¬ (Rose (F.faults feed.old) (F.faults feed.new)) → ¬ (Rose (S.faults input.old) (S.faults input.new)) → ¬ (Rose (K.faults out.old) (K.faults out.new))
+        → WritesReplies (map string_bytes words.now) (F.tables feed.old) (S.left input.old)
+        (S.left input.new) (K.written out.old) (K.written out.new) }
+    ensures front { WritesFront (map string_bytes words.now) (F.tables feed.old) (S.left input.old)
+        (K.written out.old) (K.written out.new) }
+    ensures complete { CanEnd (map string_bytes words.now) (F.tables feed.old)
+        (S.left input.old) budget
+        → ¬ (Rose (F.faults feed.old) (F.faults feed.new))
+        → ¬ (Rose (S.faults input.old) (S.faults input.new))
+        → ¬ (Rose (K.faults out.old) (K.faults out.new))
         → (result ≡ Status.Ok) ⊎ (result ≡ Status.Memory) }
-    ensures error_line { result ≢ Status.FeedRefused → ¬ (Rose (E.faults err.old) (E.faults err.new))
+    ensures error_line { result ≢ Status.FeedRefused
+        → ¬ (Rose (E.faults err.old) (E.faults err.new))
         → Appends (E.written err.old) (E.written err.new) (error_line result) }
 {
     run_times(alloc, words, feed, input, out, err, budget)
@@ -218,28 +282,46 @@ pub fn traind<R: Threads + Wait + Sync, F: Feed, S: Source, K: Sink, E: Sink, G:
     gate: &G,
 ) -> Status
     ensures usage { result ≡ Status.Usage → asked_of (map string_bytes words.now) ≡ None }
-    ensures usage_exactly { asked_of (map string_bytes words.now) ≡ None → (result ≡ Status.Usage) ⊎ (result ≡ Status.Memory) }
-    ensures usage_untouched { asked_of (map string_bytes words.now) ≡ None → (feed.new ≡ feed.old) × (input.new ≡ input.old) × (out.new ≡ out.old) }
-    ensures ok { result ≡ Status.Ok → WritesAll (map string_bytes words.now) (F.tables feed.old) (S.left input.old) (K.written out.old) (K.written out.new) }
+    ensures usage_exactly { asked_of (map string_bytes words.now) ≡ None
+        → (result ≡ Status.Usage) ⊎ (result ≡ Status.Memory) }
+    ensures usage_untouched { asked_of (map string_bytes words.now) ≡ None → (feed.new ≡ feed.old)
+        × (input.new ≡ input.old) × (out.new ≡ out.old) }
+    ensures ok { result ≡ Status.Ok → WritesAll (map string_bytes words.now) (F.tables feed.old)
+        (S.left input.old) (K.written out.old) (K.written out.new) }
     ensures ended { result ≡ Status.Ok → IsAtEnd (S.left input.new) }
     ensures refused { result ≡ Status.FeedRefused → (why : FeedRefusal)
-        × ((told : Told) → F.tables feed.old ≡ Some told → IsRefused (map string_bytes words.now) (F.tables feed.old) why)
-        × (¬ (Rose (E.faults err.old) (E.faults err.new)) → Appends (E.written err.old) (E.written err.new) (refusal_line why)) }
-    ensures refused_exactly { (why : FeedRefusal) → IsRefused (map string_bytes words.now) (F.tables feed.old) why
-        → (result ≡ Status.FeedRefused) ⊎ (result ≡ Status.Memory) ⊎ ((result ≡ Status.ReadFault) × Rose (F.faults feed.old) (F.faults feed.new)) }
-    ensures untouched { result ≡ Status.FeedRefused → (input.new ≡ input.old) × (out.new ≡ out.old) }
-    ensures refused_untouched { (why : FeedRefusal) → IsRefused (map string_bytes words.now) (F.tables feed.old) why → (input.new ≡ input.old) × (out.new ≡ out.old) }
-    ensures read_fault { result ≡ Status.ReadFault → ((input.new ≡ input.old) × (out.new ≡ out.old) × Rose (F.faults feed.old) (F.faults feed.new))
+        × ((told : Told) → F.tables feed.old ≡ Some told
+        → IsRefused (map string_bytes words.now) (F.tables feed.old) why)
+        × (¬ (Rose (E.faults err.old) (E.faults err.new))
+        → Appends (E.written err.old) (E.written err.new) (refusal_line why)) }
+    ensures refused_exactly { (why : FeedRefusal) → IsRefused (map string_bytes words.now)
+        (F.tables feed.old) why
+        → (result ≡ Status.FeedRefused) ⊎ (result ≡ Status.Memory) ⊎ ((result ≡ Status.ReadFault)
+        × Rose (F.faults feed.old) (F.faults feed.new)) }
+    ensures untouched { result ≡ Status.FeedRefused → (input.new ≡ input.old)
+        × (out.new ≡ out.old) }
+    ensures refused_untouched { (why : FeedRefusal) → IsRefused (map string_bytes words.now)
+        (F.tables feed.old) why → (input.new ≡ input.old) × (out.new ≡ out.old) }
+    ensures read_fault { result ≡ Status.ReadFault
+        → ((input.new ≡ input.old) × (out.new ≡ out.old)
+        × Rose (F.faults feed.old) (F.faults feed.new))
         ⊎ Rose (S.faults input.old) (S.faults input.new) }
     ensures write_fault { result ≡ Status.WriteFault → Rose (K.faults out.old) (K.faults out.new) }
-    ensures too_long { result ≡ Status.TooLong → TookAll 1099511627776 (S.left input.old) (S.left input.new) }
+    ensures too_long { result ≡ Status.TooLong → TookAll 1099511627776 (S.left input.old)
+        (S.left input.new) }
     ensures stopped { (result ≡ Status.ReadFault) ⊎ (result ≡ Status.TooLong)
-        → WritesReplies (map string_bytes words.now) (F.tables feed.old) (S.left input.old) (S.left input.new) (K.written out.old) (K.written out.new) }
-    ensures front { WritesFront (map string_bytes words.now) (F.tables feed.old) (S.left input.old) (K.written out.old) (K.written out.new) }
-    ensures complete { CanEnd (map string_bytes words.now) (F.tables feed.old) (S.left input.old) 1099511627776
-        → ¬ (Rose (F.faults feed.old) (F.faults feed.new)) → ¬ (Rose (S.faults input.old) (S.faults input.new)) → ¬ (Rose (K.faults out.old) (K.faults out.new))
+        → WritesReplies (map string_bytes words.now) (F.tables feed.old) (S.left input.old)
+        (S.left input.new) (K.written out.old) (K.written out.new) }
+    ensures front { WritesFront (map string_bytes words.now) (F.tables feed.old) (S.left input.old)
+        (K.written out.old) (K.written out.new) }
+    ensures complete { CanEnd (map string_bytes words.now) (F.tables feed.old)
+        (S.left input.old) 1099511627776
+        → ¬ (Rose (F.faults feed.old) (F.faults feed.new))
+        → ¬ (Rose (S.faults input.old) (S.faults input.new))
+        → ¬ (Rose (K.faults out.old) (K.faults out.new))
         → (result ≡ Status.Ok) ⊎ (result ≡ Status.Memory) }
-    ensures error_line { result ≢ Status.FeedRefused → ¬ (Rose (E.faults err.old) (E.faults err.new))
+    ensures error_line { result ≢ Status.FeedRefused
+        → ¬ (Rose (E.faults err.old) (E.faults err.new))
         → Appends (E.written err.old) (E.written err.new) (error_line result) }
 {
     traind_within(

@@ -10,8 +10,8 @@ use std::alloc::Global;
 use std::marker::Model;
 use timetable::Timetable;
 
-/// A timetable with its names, and room for the answers to queries. It is seen as where the timetable stands. Each of its trains has a
-/// name of its own.
+/// A timetable with its names, and room for the answers to queries. It is seen as where the
+/// timetable stands. Each of its trains has a name of its own.
 #[derive(Drop)]
 pub(crate) struct InformationService {
     pub(crate) timetable: Timetable,
@@ -34,8 +34,8 @@ impl Model for InformationService {
 }
 
 impl InformationService {
-    /// A timetable with its names. The search for journeys remembers where it has been of trains below this number; for others it only
-    /// takes longer.
+    /// A timetable with its names. The search for journeys remembers where it has been of trains
+    /// below this number; for others it only takes longer.
     pub(crate) fn build(
         alloc: Global,
         timetable: Timetable,
@@ -43,7 +43,12 @@ impl InformationService {
         trains: u32,
     ) -> Result<InformationService, OutOfMemory>
         requires in_step { AreInStep directory timetable.state }
-        ensures { IfOk result (λ s. s ≡ record { network = timetable.network; state = timetable.state; count = timetable.count; names = directory }) }
+        ensures { IfOk result (λ s. s ≡ record {
+          network = timetable.network;
+          state = timetable.state;
+          count = timetable.count;
+          names = directory;
+        }) }
     {
         let stops = timetable.graph().changes().stops();
         let scratch = Scratch::build(alloc, stops, trains)?;

@@ -43,7 +43,8 @@ impl Status {
         }
     }
 
-    /// The line on the error stream: none where all went well. Where a feed is refused, its refusal gives the line.
+    /// The line on the error stream: none where all went well. Where a feed is refused, its refusal
+    /// gives the line.
     pub fn error_line(self) -> &'static [u8]
         ensures { result.now ≡ error_line self }
     {

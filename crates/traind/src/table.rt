@@ -20,9 +20,12 @@ pub(crate) fn write_table<K: Sink>(
     service: &InformationService,
     out: &mut K,
 ) -> Result<(), Fault>
-    ensures ok { OnOk result (Appends (K.written out.old) (K.written out.new) (table service.now.network service.now.names service.now.state)) }
-    ensures front { IfErr result (λ f. AppendsFront (K.written out.old) (K.written out.new) (table service.now.network service.now.names service.now.state)) }
-    ensures fault { IfErr result (HasFaultCause ⊥ (λ why. ⊥) ⊥ (Rose (K.faults out.old) (K.faults out.new)) ⊥) }
+    ensures ok { OnOk result (Appends (K.written out.old) (K.written out.new)
+        (table service.now.network service.now.names service.now.state)) }
+    ensures front { IfErr result (λ f. AppendsFront (K.written out.old) (K.written out.new)
+        (table service.now.network service.now.names service.now.state)) }
+    ensures fault { IfErr result (HasFaultCause ⊥ (λ why. ⊥) ⊥
+        (Rose (K.faults out.old) (K.faults out.new)) ⊥) }
     ensures later { K.faults out.old ≤ K.faults out.new }
 {
     put(out, times_header())?;

@@ -162,7 +162,8 @@ T2,20260105,0,B2,dep,08:36:00,08:36:00
 T2,20260105,1,D,arr,09:10:00,09:10:00
 ";
 
-/// Queries from a station to its platform, from a place that is not there, and on a day that is not loaded.
+/// Queries from a station to its platform, from a place that is not there, and on a day that is not
+/// loaded.
 const SHORT_QUERIES: &str =
     r#"{"v":1,"type":"query","client":"c1","from":"B","to":"B1","date":"20260105","time":"08:00:00"}
 {"v":1,"type":"query","client":"c1","from":"Z","to":"D","date":"20260105","time":"08:00:00"}

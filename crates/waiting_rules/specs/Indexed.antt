@@ -10,11 +10,13 @@ use Rattle.waiting_rules.specs.Scopes.{scope_cmp, has_scope, fields_of, same_fie
 
 -- the place of the first rule of each scope is kept
 abbrev pub HasPlaces : List RuleRow → BTreeMap Scope ℕ → Type 0
-HasPlaces rules places = (scope : Scope) → get scope_cmp places scope ≡ position (has_scope scope) rules
+HasPlaces rules places = (scope : Scope) → get scope_cmp places scope
+    ≡ position (has_scope scope) rules
 
 -- which fields a rule gives is kept for each rule
 abbrev pub HasFields : List RuleRow → List Fields → Type 0
-HasFields rules known = All (λ rule. list_any (λ fields. same_fields fields (fields_of rule)) known ≡ true) rules
+HasFields rules known = All (λ rule. list_any (λ fields. same_fields fields (fields_of rule)) known
+    ≡ true) rules
 
 -- the index is that of these rules
 pub record IsIndexed (rules : List RuleRow) (f : FirstRules) : Type 0 where

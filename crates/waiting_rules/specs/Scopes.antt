@@ -17,7 +17,11 @@ scope_of rule = record { feeder = rule.feeder; connecting = rule.connecting; sto
 
 -- which fields a rule gives
 abbrev pub fields_of : RuleRow → Fields
-fields_of rule = record { feeder = is_some rule.feeder; connecting = is_some rule.connecting; stop = is_some rule.stop }
+fields_of rule = record {
+  feeder = is_some rule.feeder;
+  connecting = is_some rule.connecting;
+  stop = is_some rule.stop;
+}
 
 -- the same fields are given
 abbrev pub same_fields : Fields → Fields → Bool
@@ -27,15 +31,22 @@ same_fields a b = beq a.feeder b.feeder && (beq a.connecting b.connecting && beq
 abbrev pub given : Bool → ℕ → Option ℕ
 given there n = if there then Some n else None
 
--- the scope of the rules that give these fields and are for the routes asked for and for this stop or station
+-- the scope of the rules that give these fields and are for the routes asked for and for this stop
+-- or station
 abbrev pub scope_at : Fields → Asked → ℕ → Scope
 scope_at fields asked stop =
-    record { feeder = given fields.feeder asked.feeder; connecting = given fields.connecting asked.connecting; stop = given fields.stop stop }
+    record {
+      feeder = given fields.feeder asked.feeder;
+      connecting = given fields.connecting asked.connecting;
+      stop = given fields.stop stop;
+    }
 
 -- scopes in the order of their fields, an empty field before any other
 abbrev pub scope_cmp : Scope → Scope → Ordering
 scope_cmp a b =
-    ordering_then (option_cmp nat_cmp a.feeder b.feeder) (ordering_then (option_cmp nat_cmp a.connecting b.connecting) (option_cmp nat_cmp a.stop b.stop))
+    ordering_then (option_cmp nat_cmp a.feeder b.feeder)
+    (ordering_then (option_cmp nat_cmp a.connecting b.connecting)
+    (option_cmp nat_cmp a.stop b.stop))
 
 -- the rule has this scope
 abbrev pub has_scope : Scope → RuleRow → Bool
@@ -45,8 +56,10 @@ has_scope scope rule = is_at (scope_cmp scope) (scope_of rule)
 abbrev pub is_for : Asked → RuleRow → Bool
 is_for asked rule =
     is_empty_or rule.feeder asked.feeder
-    && (is_empty_or rule.connecting asked.connecting && (is_empty_or rule.stop asked.stop || is_empty_or rule.stop asked.station))
+    && (is_empty_or rule.connecting asked.connecting
+    && (is_empty_or rule.stop asked.stop || is_empty_or rule.stop asked.station))
 
 -- the rule gives these fields and is for what is asked for
 abbrev pub is_asked : Asked → Fields → RuleRow → Bool
-is_asked asked fields rule = has_scope (scope_at fields asked asked.stop) rule || has_scope (scope_at fields asked asked.station) rule
+is_asked asked fields rule = has_scope (scope_at fields asked asked.stop) rule || has_scope
+    (scope_at fields asked asked.station) rule

@@ -12,7 +12,8 @@ parent_station row = if is_platform row.kind then row.parent else None
 abbrev pub station_in : List (Option ℕ) → ℕ → ℕ
 station_in parents stop = unwrap_or (unwrap_or (slice_get parents stop) None) stop
 
--- the parent station of each location, where it has one, and the waiting rules in the order of their file
+-- the parent station of each location, where it has one, and the waiting rules in the order of
+-- their file
 pub record WaitTable : Type 0 where
   pub parents : List (Option ℕ)
   pub rules : List RuleRow

@@ -39,7 +39,8 @@ impl FirstRules {
 
     /// The same once more.
     pub(crate) fn copy(&self) -> Result<FirstRules, OutOfMemory>
-        ensures { IfOk result (λ copy. (rules : List ARule) → IsIndexed rules self.now → IsIndexed rules copy) }
+        ensures { IfOk result (λ copy. (rules : List ARule) → IsIndexed rules self.now
+            → IsIndexed rules copy) }
     {
         Ok(FirstRules {
             places: self.places.clone()?,
@@ -47,7 +48,8 @@ impl FirstRules {
         })
     }
 
-    /// The place of the first rule that is for what is asked for, or the number of rules where none is.
+    /// The place of the first rule that is for what is asked for, or the number of rules where none
+    /// is.
     pub(crate) fn first(&self, rules: &[RuleRow], asked: &Asked) -> usize
         requires { IsIndexed rules.now self.now }
         ensures { result ≡ position_or_len (is_for asked.now) rules.now }
@@ -66,7 +68,8 @@ fn add_place(
     rule: &RuleRow,
     place: u32,
 ) -> Result<(), OutOfMemory>
-    ensures { OnOk result ((rules : List ARule) → place ≡ length rules → HasPlaces rules places.old → HasPlaces (rules ++ rule.now ∷ []) places.new) }
+    ensures { OnOk result ((rules : List ARule) → place ≡ length rules → HasPlaces rules places.old
+        → HasPlaces (rules ++ rule.now ∷ []) places.new) }
 {
     let scope = Scope {
         feeder: rule.feeder,
@@ -81,7 +84,8 @@ fn add_place(
 
 /// Takes in which fields one more rule gives.
 fn add_fields(known: &mut Vec<Fields>, rule: &RuleRow) -> Result<(), OutOfMemory>
-    ensures { OnOk result ((rules : List ARule) → HasFields rules known.old.items → HasFields (rules ++ rule.now ∷ []) known.new.items) }
+    ensures { OnOk result ((rules : List ARule) → HasFields rules known.old.items
+        → HasFields (rules ++ rule.now ∷ []) known.new.items) }
 {
     let fields = Fields {
         feeder: rule.feeder.is_some(),
@@ -104,14 +108,16 @@ fn earlier(places: &BTreeMap<Scope, u32>, scope: &Scope, place: usize) -> usize
     }
 }
 
-/// The earlier of a place and that of the first rule that gives these fields and is for what is asked for, if there is one.
+/// The earlier of a place and that of the first rule that gives these fields and is for what is
+/// asked for, if there is one.
 fn earlier_asked(
     places: &BTreeMap<Scope, u32>,
     fields: &Fields,
     asked: &Asked,
     place: usize,
 ) -> usize
-    ensures { (rules : List ARule) → HasPlaces rules places.now → place ≤ length rules → result ≡ min place (position_or_len (is_asked asked.now fields.now) rules) }
+    ensures { (rules : List ARule) → HasPlaces rules places.now → place ≤ length rules
+        → result ≡ min place (position_or_len (is_asked asked.now fields.now) rules) }
 {
     let at_stop = scope_at(fields, asked, asked.stop);
     let at_station = scope_at(fields, asked, asked.station);

@@ -5,7 +5,8 @@ ghost use Rattle.waiting_rules.specs.Scopes.{scope_at};
 
 use mt_base::numbers::{RouteNo, StopNo};
 
-/// What a waiting rule is for: a feeder's route, a connecting route and a stop. A field that the rule leaves empty is None.
+/// What a waiting rule is for: a feeder's route, a connecting route and a stop. A field that the
+/// rule leaves empty is None.
 #[derive(Clone, Copy, Debug, PartialEq, Eq, PartialOrd, Ord)]
 pub(crate) struct Scope {
     pub(crate) feeder: Option<RouteNo>,
@@ -21,7 +22,8 @@ pub(crate) struct Fields {
     pub(crate) stop: bool,
 }
 
-/// What a wait is asked for: the routes of the feeder and of the connecting train, and the stop where it waits, with its station.
+/// What a wait is asked for: the routes of the feeder and of the connecting train, and the stop
+/// where it waits, with its station.
 #[derive(Clone, Copy, Debug)]
 pub(crate) struct Asked {
     pub(crate) feeder: RouteNo,
@@ -30,7 +32,8 @@ pub(crate) struct Asked {
     pub(crate) station: StopNo,
 }
 
-/// The scope of the rules that give these fields and are for the routes asked for and for this stop or station.
+/// The scope of the rules that give these fields and are for the routes asked for and for this stop
+/// or station.
 pub(crate) fn scope_at(fields: &Fields, asked: &Asked, stop: StopNo) -> Scope
     ensures { result ≡ scope_at fields.now asked.now stop }
 {

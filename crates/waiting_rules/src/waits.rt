@@ -16,7 +16,8 @@ use mt_base::tables::{RuleRow, StopRow};
 use std::alloc::Global;
 use std::marker::Model;
 
-/// How long trains wait for late feeders. It is seen as the parent stations of the locations and the rows of `waiting_rules.txt`.
+/// How long trains wait for late feeders. It is seen as the parent stations of the locations and
+/// the rows of `waiting_rules.txt`.
 #[derive(Drop)]
 pub struct Waits {
     parents: Vec<Option<StopNo>>,
@@ -69,10 +70,12 @@ impl Waits {
         self.rules.is_empty()
     }
 
-    /// How many seconds a train of the route `connecting` waits at `stop` for a late train of the route `feeder`: at most `max_wait` of
-    /// the first rule for these routes and for the stop or its station, or 0 where there is none. An empty field of a rule is for all.
+    /// How many seconds a train of the route `connecting` waits at `stop` for a late train of the
+    /// route `feeder`: at most `max_wait` of the first rule for these routes and for the stop or
+    /// its station, or 0 where there is none. An empty field of a rule is for all.
     pub fn wait(&self, feeder: RouteNo, connecting: RouteNo, stop: StopNo) -> u32
-        ensures wait { (stops : List AStopRow) → map parent_station stops ≡ self.now.parents → result ≡ wait stops self.now.rules feeder connecting stop }
+        ensures wait { (stops : List AStopRow) → map parent_station stops ≡ self.now.parents
+            → result ≡ wait stops self.now.rules feeder connecting stop }
         ensures longest { result ≤ 86400 }
     {
         let asked = Asked {
@@ -88,7 +91,8 @@ impl Waits {
 
 /// The longest wait of the rule at a place, or 0 where there is none.
 fn longest_wait(rules: &[RuleRow], place: usize) -> u32
-    ensures { result ≡ option_map_or (λ (rule : ARule). rule.max_wait) (slice_get rules.now place) 0 }
+    ensures { result ≡ option_map_or (λ (rule : ARule). rule.max_wait)
+        (slice_get rules.now place) 0 }
 {
     rules.get(place).map_or(0, |rule| rule.max_wait)
 }
