@@ -3,8 +3,8 @@
 
 Usage: bench/rerouted.py [CALLS ..]     (250 500 1000 where none are given)
 
-It runs `times` on the feed rows/feeds/a without its waiting rules (with them each
-departure is tested with the events of all trains today). The first line reroutes the train T1 by
+It runs `times` on the feed rows/feeds/a without its waiting rules, so that the
+train alone is measured. The first line reroutes the train T1 by
 way of so many new calls, one after the other; then come forecasts of its last
 arrival and reports of its new calls, each with another time, and all accepted.
 It prints the microseconds that a message takes, without those of loading, and

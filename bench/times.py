@@ -10,9 +10,9 @@ prints the bytes of the tables, the seconds and the peak memory. 1,000,000 rows
 are 100,000 trains and 2,000,000 events, the most that a feed may make on its
 loaded days. Then it runs 100,000 forecasts on the smallest feed, and prints
 the seconds without those of loading, and the messages per second. It does the
-same for feeds with waiting rules of 1,000 and 10,000 rows, and 500 forecasts:
-there each departure is tested with each arrival today. It proves nothing and
-tests nothing; build the program first (README.md).
+same for feeds with waiting rules, one for each pair of routes that follow one
+another, of 1,000 to 1,000,000 rows, and for 500 forecasts on the smallest of
+them. It proves nothing and tests nothing; build the program first (README.md).
 """
 
 import os
@@ -29,7 +29,7 @@ ROUTES = 100
 STATIONS = 1_000
 PLATFORMS = 4
 MESSAGES = 100_000
-WAITING_ROWS = [1_000, 10_000]
+WAITING_ROWS = [1_000, 10_000, 100_000, 1_000_000]
 WAITING_MESSAGES = 500
 DATE = "20260105"
 WEEK = "monday,tuesday,wednesday,thursday,friday,saturday,sunday"

@@ -5,33 +5,47 @@ use Rattle.std.proofs.lemmas.List.{map-id, get_or_past}
 use Rattle.std.proofs.lemmas.List.Elements.{filter-append}
 use Rattle.std.proofs.lemmas.List.FromFn.{map-range_with_len_more, get_or-map-range_with_len, length-map-range_with_len}
 use Rattle.std.proofs.lemmas.List.Sums.{sum_by-append}
+use Rattle.std.specs.Prelude.{if◌then◌else◌}
 use Rattle.std.specs.List.{filter, range_with_len, sum_by}
-use Rattle.delay_model.specs.Changes.{is_stop_or_station}
+use Rattle.delay_model.specs.Changes.{is_stop, is_stop_or_station}
 use Rattle.change_times.specs.declared.change.Change.{Change}
-use Rattle.change_times.specs.declared.near.Direction.{Direction}
 use Rattle.change_times.specs.declared.near.Direction.TheVariants.{Onward, Back}
 use Rattle.change_times.specs.ChangeTables.{ChangeTables}
 use Rattle.change_times.specs.Listed.{listed}
 use Rattle.change_times.specs.Reach.{reached, reached_back, pairs}
 use Rattle.change_times.specs.Stored.{IsKept}
-use Rattle.change_times.proofs.ListedLemmas.{listed-past}
+use Rattle.change_times.proofs.ListedLemmas.{listed-past, no-stop}
 
--- the lists of the first locations
-abbrev pub lists_of : ChangeTables → Direction → ℕ → List (List Change)
-lists_of t direction n = map (listed t direction) (range_with_len 0 n)
+-- the stops from which one can change to a stop
+pub back-at-stop : (t : ChangeTables) (b : ℕ) → is_stop t.stops b ≡ true → listed t Back b ≡ reached_back t b
+unfolding listed reached_back
+back-at-stop t b e = sym (ap (λ c. if c then listed t Back b else []) e)
 
-pub lists-more : (t : ChangeTables) (direction : Direction) (n : ℕ) → lists_of t direction (n + 1) ≡ lists_of t direction n ++ listed t direction n ∷ []
-lists-more t direction n = map-range_with_len_more (listed t direction) 0 n n (omega arith)
+-- no stops are listed for what is no stop
+pub back-elsewhere : (t : ChangeTables) (b : ℕ) → is_stop t.stops b ≡ false → reached_back t b ≡ []
+unfolding listed reached_back
+back-elsewhere t b e = ap (λ c. if c then listed t Back b else []) e
+
+-- the lists of the first locations, by a function that gives the list of each
+abbrev pub lists_of : (ℕ → List Change) → ℕ → List (List Change)
+lists_of list n = map list (range_with_len 0 n)
+
+pub lists-more : (list : ℕ → List Change) (n : ℕ) → lists_of list (n + 1) ≡ lists_of list n ++ list n ∷ []
+lists-more list n = map-range_with_len_more list 0 n n (omega arith)
+
+lists-all : (list : ℕ → List Change) (n a : ℕ) → ((b : ℕ) → n ≤ b → list b ≡ []) → get_or (lists_of list n) a [] ≡ list a
+lists-all list n a past =
+    elim (cases_lt a n) [
+      | inl l ↦ get_or-map-range_with_len list 0 n a a [] l (omega arith)
+      | inr l ↦ get_or_past (lists_of list n) a [] (omega (arith, length-map-range_with_len list 0 n, l)) ∙ sym (past a l)
+    ]
 
 -- the lists of all locations are those of all numbers
-pub lists-all : (t : ChangeTables) (direction : Direction) (n a : ℕ) → IsKept t → n ≡ length t.stops → get_or (lists_of t direction n) a [] ≡ listed t direction a
-lists-all t direction n a h e =
-    elim (cases_lt a n) [
-      | inl l ↦ get_or-map-range_with_len (listed t direction) 0 n a a [] l (omega arith)
-      | inr l ↦
-          get_or_past (lists_of t direction n) a [] (omega (arith, length-map-range_with_len (listed t direction) 0 n, l))
-          ∙ sym (listed-past t direction a h (omega (arith, l, e)))
-    ]
+pub onward-all : (t : ChangeTables) (n a : ℕ) → IsKept t → n ≡ length t.stops → get_or (lists_of (listed t Onward) n) a [] ≡ listed t Onward a
+onward-all t n a h e = lists-all (listed t Onward) n a (λ b l. listed-past t Onward b h (omega (arith, l, e)))
+
+pub back-all : (t : ChangeTables) (n b : ℕ) → n ≡ length t.stops → get_or (lists_of (reached_back t) n) b [] ≡ reached_back t b
+back-all t n b e = lists-all (reached_back t) n b (λ a l. back-elsewhere t a (no-stop t a (omega (arith, l, e))))
 
 -- how many pairs the first locations have
 abbrev pub counted : ChangeTables → ℕ → ℕ
@@ -75,7 +89,3 @@ counted-all t = refl
 pub onward-is : (t : ChangeTables) (a : ℕ) → listed t Onward a ≡ reached t a
 unfolding listed reached
 onward-is t a = refl
-
-pub back-is : (t : ChangeTables) (b : ℕ) → listed t Back b ≡ reached_back t b
-unfolding listed reached_back
-back-is t b = refl

@@ -3,6 +3,7 @@ pub mod RowLemmas
 pub mod NearLemmas
 pub mod CutLemmas
 pub mod TableLemmas
+pub mod PairLemmas
 pub mod WalkLemmas
 pub mod JoinLemmas
 pub mod ListedLemmas

@@ -25,7 +25,7 @@ use Rattle.change_times.proofs.TableLemmas.{past-none, row-within}
 use Rattle.change_times.proofs.WalkLemmas.{walk-same, nothing, cases-option}
 
 -- past the locations there is no stop
-no-stop : (t : ChangeTables) (a : ℕ) → length t.stops ≤ a → is_stop t.stops a ≡ false
+pub no-stop : (t : ChangeTables) (a : ℕ) → length t.stops ≤ a → is_stop t.stops a ≡ false
 no-stop t a l = past-none t.stops (λ o. option_map_or is_platform (option_map (λ (row : StopRow). row.kind) o) false) a l
 
 -- a stop is one of the locations

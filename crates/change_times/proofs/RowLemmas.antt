@@ -3,14 +3,16 @@ use Rattle.std.proofs.Common.{◌≡◌, ℕ, ◌+◌, ◌<◌, List, [], ◌∷
 use Rattle.std.proofs.lemmas.Bool.{cases_Bool, cases_lt, lt-ltb, le-ltb, le-leb, lt-leb}
 use Rattle.std.proofs.lemmas.List.Kept.{IsNonDecreasingBy-filter}
 use Rattle.std.proofs.Math.Dec.{ltb, leb}
-use Rattle.std.specs.Prelude.{slice_index}
-use Rattle.std.specs.List.{filter}
+use Rattle.std.specs.Prelude.{slice_index, slice_get}
+use Rattle.std.specs.List.{filter, dedup}
 use Rattle.std.specs.List.Sorted.{IsNonDecreasingBy}
 use Rattle.mt_base.specs.declared.tables.TransferRow.{TransferRow}
 use Rattle.feed_tables.proofs.OrderLemmas.{tie}
 use Rattle.feed_tables.proofs.TripRowLemmas.{part-is}
 use Rattle.change_times.proofs.CutLemmas.{IsPart}
-use Rattle.change_times.specs.Stored.{from_of, to_of, is_from, is_to, row_bounds, IsByPair, IsIndexed, HaveSamePairs}
+use Rattle.change_times.specs.Stored.{from_of, to_of, is_from, is_to, is_same_pair, row_bounds, IsByPair, IsIndexed, HaveSameFirsts}
+use Rattle.change_times.proofs.PairLemmas.{first-stays}
+use Rattle.change_times.proofs.TableLemmas.{find-head}
 use Rattle.change_times.proofs.SortLemmas.{Between, between-order, between-part, stays}
 
 -- a row from a location to another
@@ -49,13 +51,19 @@ by-pair rows once twice h = record {
   to = λ a. subst (IsNonDecreasingBy to_of) (sym (same-from rows once twice a h)) (IsNonDecreasingBy-filter to_of (is_from a) once h.first);
 }
 
-pub same-pairs : (rows once twice : List TransferRow) → AreSorted rows once twice → HaveSamePairs rows twice
-unfolding HaveSamePairs
+same-pairs : (rows once twice : List TransferRow) → AreSorted rows once twice → (a b : ℕ) → filter (is_to b) (filter (is_from a) twice) ≡ filter (is_to b) (filter (is_from a) rows)
 same-pairs rows once twice h a b =
     ap (filter (is_to b)) (same-from rows once twice a h)
     ∙ filter-swap (is_to b) (is_from a) once
     ∙ ap (filter (is_from a)) (stays to_of rows once (row_between 0 b) (h.first_stable (row_between 0 b)))
     ∙ filter-swap (is_from a) (is_to b) rows
+
+-- with one row for each pair, the first of each pair is that of the file
+pub same-firsts : (rows once twice : List TransferRow) → AreSorted rows once twice → HaveSameFirsts rows (dedup is_same_pair twice)
+unfolding HaveSameFirsts
+same-firsts rows once twice h a b =
+    first-stays twice a b ∙ find-head (is_to b) (filter (is_from a) twice)
+    ∙ ap (λ xs. slice_get xs 0) (same-pairs rows once twice h a b) ∙ sym (find-head (is_to b) (filter (is_from a) rows))
 
 leb-suc : (x k : ℕ) → leb x k ≡ ltb x (k + 1)
 leb-suc x k =

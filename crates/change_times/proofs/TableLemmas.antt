@@ -2,12 +2,10 @@
 use Rattle.std.proofs.Common.{◌≡◌, ℕ, zero, suc, ◌<◌, ◌≤◌, List, [], ◌∷◌, Bool, true, false, ◌&&◌, nat_eq, cond, find, map, length, All, IsTrue, IfSome, Option, None, Some, refl, sym, subst, ◌∙◌, ap, arith, inl, inr}
 use Rattle.std.proofs.lemmas.Bool.{cases_Bool, cases_lt, and_parts}
 use Rattle.std.proofs.lemmas.List.{length-map}
-use Rattle.std.proofs.lemmas.List.Elements.{All-head, All-tail, All-map, All-weaker, filter_passes}
-use Rattle.std.proofs.lemmas.List.Sorted.{All-permutation}
+use Rattle.std.proofs.lemmas.List.Elements.{All-contains, All-head, All-tail, All-map, All-weaker, filter_passes}
 use Rattle.std.proofs.lemmas.Option.{slice_get-map, slice_get_past}
 use Rattle.std.specs.Prelude.{slice_get, if◌then◌else◌, nat_le}
-use Rattle.std.specs.List.{filter}
-use Rattle.std.specs.List.Sorted.{IsPermutation}
+use Rattle.std.specs.List.{filter, Contains}
 use Rattle.std.specs.Option.{option_map, option_map_or, option_or}
 use Rattle.mt_base.specs.declared.places.PlaceKind.{PlaceKind}
 use Rattle.mt_base.specs.declared.places.PlaceKind.TheVariants.{Platform, Station}
@@ -18,7 +16,7 @@ use Rattle.mt_base.specs.Places.{is_platform_or_station}
 use Rattle.delay_model.specs.Changes.{kind_of, station, station_by, is_looked_at, is_row_of, is_stop_or_station, first_row, deciding_row, change_by, change}
 use Rattle.feed_tables.specs.Lawful.{IsLawful, IsLocation, HasKind}
 use Rattle.change_times.specs.ChangeTables.{ChangeTables, tables_of, without_id, HaveSameChanges}
-use Rattle.change_times.specs.Stored.{from_of, is_from, is_to, HaveSamePairs, IsKept}
+use Rattle.change_times.specs.Stored.{from_of, is_from, is_to, HaveSameFirsts, IsKept}
 
 -- what is asked of a location has one answer with and without ids
 by-place : {Y : Type 0} (f : Option StopRow → Y) → ((row : StopRow) → f (Some (without_id row)) ≡ f (Some row)) → (o : Option StopRow) → f (option_map without_id o) ≡ f o
@@ -64,7 +62,7 @@ looked-within stops rows =
 find-agree : {X : Type 0} (p q : X → Bool) → ((x : X) → p x ≡ q x) → (xs : List X) → find p xs ≡ find q xs
 find-agree p q same xs = let e : p ≡ q = λ i x. same x i in ap (λ r. find r xs) e
 
-find-filter : {X : Type 0} (p q : X → Bool) (xs : List X) → find p (filter q xs) ≡ find (λ x. q x && p x) xs
+pub find-filter : {X : Type 0} (p q : X → Bool) (xs : List X) → find p (filter q xs) ≡ find (λ x. q x && p x) xs
 find-filter p q [] = refl
 find-filter p q (x ∷ xs) =
     elim (cases_Bool (q x)) [
@@ -72,7 +70,7 @@ find-filter p q (x ∷ xs) =
       | inr e ↦ simp e (find-filter p q xs)
     ]
 
-find-head : {X : Type 0} (p : X → Bool) (xs : List X) → find p xs ≡ slice_get (filter p xs) 0
+pub find-head : {X : Type 0} (p : X → Bool) (xs : List X) → find p xs ≡ slice_get (filter p xs) 0
 find-head p [] = refl
 find-head p (x ∷ xs) =
     elim (cases_Bool (p x)) [
@@ -116,17 +114,17 @@ change-is : (stops : List StopRow) (rows : List TransferRow) (default a b : ℕ)
 unfolding change
 change-is stops rows default a b = refl
 
-first-same : (stops : List StopRow) (rows kept all : List TransferRow) (a b : ℕ) → kept ≡ filter (is_looked_at (map without_id stops)) rows → HaveSamePairs kept all → IsKept (record { stops = map without_id stops; transfers = all; default = 0 }) → first_row (map without_id stops) all a b ≡ first_row stops rows a b
-unfolding HaveSamePairs
+first-same : (stops : List StopRow) (rows kept all : List TransferRow) (a b : ℕ) → kept ≡ filter (is_looked_at (map without_id stops)) rows → HaveSameFirsts kept all → IsKept (record { stops = map without_id stops; transfers = all; default = 0 }) → first_row (map without_id stops) all a b ≡ first_row stops rows a b
+unfolding HaveSameFirsts
 first-same stops rows kept all a b e same h =
     let blank = map without_id stops in
     sym (first-from (record { stops = blank; transfers = all; default = 0 }) a b h)
-    ∙ find-head (is_to b) (filter (is_from a) all) ∙ ap (λ xs. slice_get xs 0) (same a b) ∙ sym (find-head (is_to b) (filter (is_from a) kept))
+    ∙ same a b
     ∙ ap (λ xs. find (is_to b) (filter (is_from a) xs)) e ∙ first-looked blank rows a b
     ∙ find-agree (is_row_of blank a b) (is_row_of stops a b) (λ row. ap (λ looked. (is_from a row && is_to b row) && looked) (looked-same stops row)) rows
 
 -- the locations without ids, and the rows that are looked at by pair, have the same change times
-same-changes : (stops : List StopRow) (rows kept all : List TransferRow) (default : ℕ) → kept ≡ filter (is_looked_at (map without_id stops)) rows → HaveSamePairs kept all → IsKept (record { stops = map without_id stops; transfers = all; default = default }) → HaveSameChanges (record { stops = stops; transfers = rows; default = default }) (record { stops = map without_id stops; transfers = all; default = default })
+same-changes : (stops : List StopRow) (rows kept all : List TransferRow) (default : ℕ) → kept ≡ filter (is_looked_at (map without_id stops)) rows → HaveSameFirsts kept all → IsKept (record { stops = map without_id stops; transfers = all; default = default }) → HaveSameChanges (record { stops = stops; transfers = rows; default = default }) (record { stops = map without_id stops; transfers = all; default = default })
 same-changes stops rows kept all default e same h =
     let blank = map without_id stops in
     let first : first_row blank all ≡ first_row stops rows = λ i a b. first-same stops rows kept all a b e same (record { few = h.few; rows = h.rows; parents = h.parents }) i in
@@ -150,13 +148,13 @@ parent-within : (stops : List StopRow) (o : Option ℕ) (P : ℕ → Type 0) →
 parent-within stops None P h = tt
 parent-within stops (Some n) P h = subst (λ k. n < k) (sym (length-map stops without_id)) (within stops Station n h.1)
 
-is-kept : (stops : List StopRow) (rows kept all : List TransferRow) (default : ℕ) → length stops ≤ 100000 → All (IsLocation stops) stops → kept ≡ filter (is_looked_at (map without_id stops)) rows → IsPermutation kept all → IsKept (record { stops = map without_id stops; transfers = all; default = default })
-is-kept stops rows kept all default few lawful e moved =
+is-kept : (stops : List StopRow) (rows kept all : List TransferRow) (default : ℕ) → length stops ≤ 100000 → All (IsLocation stops) stops → kept ≡ filter (is_looked_at (map without_id stops)) rows → All (Contains kept) all → IsKept (record { stops = map without_id stops; transfers = all; default = default })
+is-kept stops rows kept all default few lawful e given =
     let blank = map without_id stops in
     let Looked : TransferRow → Type 0 = λ row. IsTrue (is_looked_at blank row) in
     record {
       few = omega (arith, few, length-map stops without_id);
-      rows = All-permutation Looked kept all moved (subst (All Looked) (sym e) (filter_passes (is_looked_at blank) rows));
+      rows = All-weaker (Contains kept) Looked (λ row h. All-contains Looked kept row (subst (All Looked) (sym e) (filter_passes (is_looked_at blank) rows)) h) all given;
       parents = All-map (λ (row : StopRow). IfSome row.parent (λ n. n < length blank)) without_id stops (All-weaker (IsLocation stops) (λ (row : StopRow). IfSome row.parent (λ n. n < length blank)) (λ row l. parent-within stops row.parent (λ n. row.kind ≡ Platform) l.parent) stops lawful);
     }
 
@@ -165,18 +163,18 @@ pub record IsMade (t : Tables) (stops : List StopRow) (looked all : List Transfe
   pub lawful : IsLawful t
   pub places : stops ≡ map without_id t.stops
   pub kept : looked ≡ filter (is_looked_at stops) t.transfers
-  pub pairs : HaveSamePairs looked all
-  pub moved : IsPermutation looked all
+  pub first : HaveSameFirsts looked all
+  pub given : All (Contains looked) all
 
 pub made-kept : (t : Tables) (places : List StopRow) (kept all : List TransferRow) (default : ℕ) → IsMade t places kept all → IsKept (record { stops = places; transfers = all; default = default })
 made-kept t places kept all default h =
     let looked = h.kept ∙ ap (λ (stops : List StopRow). filter (is_looked_at stops) t.transfers) h.places in
-    subst (λ stops. IsKept (record { stops = stops; transfers = all; default = default })) (sym h.places) (is-kept t.stops t.transfers kept all default h.lawful.limits.stops h.lawful.stops looked h.moved)
+    subst (λ stops. IsKept (record { stops = stops; transfers = all; default = default })) (sym h.places) (is-kept t.stops t.transfers kept all default h.lawful.limits.stops h.lawful.stops looked h.given)
 
 pub made-same : (t : Tables) (places : List StopRow) (kept all : List TransferRow) (default : ℕ) → IsMade t places kept all → HaveSameChanges (tables_of t default) (record { stops = places; transfers = all; default = default })
 made-same t places kept all default h =
     let looked = h.kept ∙ ap (λ (stops : List StopRow). filter (is_looked_at stops) t.transfers) h.places in
-    subst (λ stops. HaveSameChanges (tables_of t default) (record { stops = stops; transfers = all; default = default })) (sym h.places) (same-changes t.stops t.transfers kept all default looked h.pairs (is-kept t.stops t.transfers kept all default h.lawful.limits.stops h.lawful.stops looked h.moved))
+    subst (λ stops. HaveSameChanges (tables_of t default) (record { stops = stops; transfers = all; default = default })) (sym h.places) (same-changes t.stops t.transfers kept all default looked h.first (is-kept t.stops t.transfers kept all default h.lawful.limits.stops h.lawful.stops looked h.given))
 
 option_or_assoc : {X : Type 0} (a b c d : Option X) → option_or (option_or (option_or a b) c) d ≡ option_or a (option_or b (option_or c d))
 option_or_assoc None None c d = refl

@@ -42,13 +42,13 @@ abbrev pub links_in : Direction → Nearby → List Link
 links_in Onward nearby = nearby.onward
 links_in Back nearby = nearby.back
 
+-- a location after its station
+abbrev pub member : List StopRow → ℕ → Link
+member stops b = record { place = station stops b; other = b }
+
 -- each location stands after its station
 abbrev pub HaveMembers : List StopRow → List Link → Type 0
-HaveMembers stops members = (b : ℕ) → b < length stops → Contains members (record {
-  place = station
-      stops b;
-  other = b;
-})
+HaveMembers stops members = (b : ℕ) → b < length stops → Contains members (member stops b)
 
 -- each row is there as a pair
 abbrev pub HaveRows : Direction → List TransferRow → List Link → Type 0

@@ -1,5 +1,5 @@
 -- Which stops a change leads to, and from which it comes.
-use Rattle.std.specs.Prelude.{ℕ, List, Option, None, if◌then◌else◌, length}
+use Rattle.std.specs.Prelude.{ℕ, List, [], Option, None, if◌then◌else◌, length}
 use Rattle.std.specs.List.{filter, filter_map, range_with_len, sum_by}
 use Rattle.std.specs.Option.{option_map}
 use Rattle.delay_model.specs.Changes.{is_stop, is_stop_or_station, change}
@@ -26,9 +26,10 @@ change_from t b a =
 unfoldable pub reached : ChangeTables → ℕ → List Change
 reached t a = filter_map (change_to t a) (places t)
 
--- the stops from which one can change to b, by number
+-- the stops from which one can change to b, by number, if b is a stop or platform; of any other
+-- location none
 unfoldable pub reached_back : ChangeTables → ℕ → List Change
-reached_back t b = filter_map (change_from t b) (places t)
+reached_back t b = if is_stop t.stops b then filter_map (change_from t b) (places t) else []
 
 -- how many pairs of a stop or station and a stop to which one can change from it
 unfoldable pub pairs : ChangeTables → ℕ

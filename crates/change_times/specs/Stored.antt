@@ -1,6 +1,6 @@
 -- What the types of this crate keep.
-use Rattle.std.specs.Prelude.{ℕ, ◌≡◌, ◌+◌, ◌<◌, ◌≤◌, ◌^◌, List, [], All, Bool, false, IsTrue, Option, None, Some, IfSome, if◌then◌else◌, nat_eq, nat_lt, length, slice_index}
-use Rattle.std.specs.List.{filter}
+use Rattle.std.specs.Prelude.{ℕ, ◌≡◌, ◌+◌, ◌<◌, ◌≤◌, ◌^◌, List, [], All, Bool, false, ◌&&◌, IsTrue, Option, None, Some, IfSome, if◌then◌else◌, nat_eq, nat_lt, length, slice_index, find}
+use Rattle.std.specs.List.{filter, AllPairs}
 use Rattle.std.specs.List.Sorted.{IsNonDecreasingBy, IsPartitionPoint}
 use Rattle.mt_base.specs.declared.tables.StopRow.{StopRow}
 use Rattle.mt_base.specs.declared.tables.TransferRow.{TransferRow}
@@ -29,6 +29,10 @@ is_from a row = nat_eq (from_of row) a
 abbrev pub is_to : ℕ → TransferRow → Bool
 is_to b row = nat_eq (to_of row) b
 
+-- the rows lead from one location to one location
+abbrev pub is_same_pair : TransferRow → TransferRow → Bool
+is_same_pair row other = nat_eq (from_of row) (from_of other) && nat_eq (to_of row) (to_of other)
+
 -- the element, if it has the number
 abbrev pub of_number : {X : Type 0} → (X → ℕ) → ℕ → Option X → Option X
 of_number key k None = None
@@ -56,16 +60,21 @@ row_bounds starts a =
     if nat_lt (a + 1) (length starts) then (slice_index starts a, slice_index starts (a + 1))
     else (0, 0)
 
--- rows by pair, with the places where those of each location begin
+-- no two rows have the same pair
+abbrev pub HaveOwnPairs : List TransferRow → Type 0
+HaveOwnPairs rows = AllPairs (λ row later. is_same_pair later row ≡ false) rows
+
+-- rows by pair, one for each pair, with the places where those of each location begin
 pub record IsIndexed (rows : List TransferRow) (begins : List ℕ) : Type 0 where
   pub by_pair : IsByPair rows
+  pub once : HaveOwnPairs rows
   pub starts : HaveStarts rows begins
   pub from : All (λ row. from_of row + 1 < length begins) rows
 
--- the rows of each pair are the same, in the same order
-unfoldable pub HaveSamePairs : List TransferRow → List TransferRow → Type 0
-HaveSamePairs rows all = (a b : ℕ) → filter (is_to b) (filter (is_from a) all)
-    ≡ filter (is_to b) (filter (is_from a) rows)
+-- the first row of each pair is the same
+unfoldable pub HaveSameFirsts : List TransferRow → List TransferRow → Type 0
+HaveSameFirsts rows kept = (a b : ℕ) → find (is_to b) (filter (is_from a) kept)
+    ≡ find (is_to b) (filter (is_from a) rows)
 
 -- the first location of a pair
 abbrev pub place_of : Link → ℕ

@@ -90,7 +90,8 @@ impl Changes {
     }
 
     /// The stops and platforms from which one can change to `b`, by number, with the seconds of
-    /// each change.
+    /// each change, if `b` is a stop or platform. For any other location the list is empty, so that
+    /// all these lists together have no more changes than there are pairs.
     pub fn reach_back(&self, b: StopNo) -> &[Change]
         ensures { result.now ≡ reached_back self.now b }
     {

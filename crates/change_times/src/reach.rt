@@ -5,7 +5,7 @@ ghost use Rattle.std.specs.List.{filter_map};
 ghost use Rattle.delay_model.specs.Changes.{is_stop_or_station};
 ghost use Rattle.change_times.specs.Listed.{change_at, listed};
 ghost use Rattle.change_times.specs.Near.{AreOf};
-ghost use Rattle.change_times.specs.Reach.{pairs};
+ghost use Rattle.change_times.specs.Reach.{pairs, reached_back};
 
 use crate::change::Change;
 use crate::faults::BuildFault;
@@ -113,24 +113,37 @@ pub(crate) fn onward(alloc: Global, table: &Table, nearby: &Nearby) -> Result<Li
     Ok(lists)
 }
 
-/// The changes to each location.
+/// Fills `list` with the changes to a stop or platform, and leaves it empty for any other location.
+fn fill_back(
+    list: &mut Vec<Change>,
+    near: &mut Vec<StopNo>,
+    table: &Table,
+    nearby: &Nearby,
+    place: StopNo,
+) -> Result<(), OutOfMemory>
+    requires { AreOf table.now nearby.now }
+    ensures { OnOk result (list.new.items ≡ reached_back table.now place) }
+{
+    if table.places().is_stop(place) {
+        fill(list, near, table, nearby, Direction::Back, place)
+    } else {
+        list.clear();
+        Ok(())
+    }
+}
+
+/// The changes to each stop and platform, and no changes to any other location.
 pub(crate) fn back(alloc: Global, table: &Table, nearby: &Nearby) -> Result<Lists, OutOfMemory>
     requires { AreOf table.now nearby.now }
     ensures { IfOk result (λ lists. (b : ℕ) → slice_index_or lists b []
-        ≡ listed table.now Direction.Back b) }
+        ≡ reached_back table.now b) }
 {
     let mut lists = Lists::new(alloc);
     let mut list = Vec::new(alloc);
     let mut near = Vec::new(alloc);
     for number in 0..table.places().len() {
-        fill(
-            &mut list,
-            &mut near,
-            table,
-            nearby,
-            Direction::Back,
-            StopNo::new(number as u32),
-        )?;
+        let place = StopNo::new(number as u32);
+        fill_back(&mut list, &mut near, table, nearby, place)?;
         lists.push(list.as_slice())?;
     }
     Ok(lists)

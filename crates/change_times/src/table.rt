@@ -15,8 +15,8 @@ use mt_base::tables::TransferRow;
 use std::alloc::Global;
 use std::marker::Model;
 
-/// What change times follow from: the locations, the rows of `transfers.txt` that are looked at,
-/// and the default in seconds.
+/// What change times follow from: the locations, the first row of each pair among the rows of
+/// `transfers.txt` that are looked at, and the default in seconds.
 #[derive(Drop)]
 pub(crate) struct Table {
     places: Places,
@@ -75,7 +75,7 @@ impl Table {
         &self.places
     }
 
-    /// The rows of `transfers.txt` that are looked at.
+    /// The first row of each pair among the rows of `transfers.txt` that are looked at.
     pub(crate) fn rows(&self) -> &[TransferRow]
         ensures { result.now ≡ self.now.transfers }
     {

@@ -1,9 +1,9 @@
 //! The rows of `transfers.txt` by the pair of locations that they join.
 
 ghost use Rattle.std.specs.Prelude.{◌≡◌, ◌+◌, ◌<◌, ◌^◌, All, IfOk, find, length, slice_get};
-ghost use Rattle.std.specs.List.{filter};
-ghost use Rattle.std.specs.List.Sorted.{IsNonDecreasingBy, IsPermutation};
-ghost use Rattle.change_times.specs.Stored.{from_of, to_of, is_from, is_to, of_number, row_bounds, HaveSamePairs, HaveStarts, IsStart};
+ghost use Rattle.std.specs.List.{filter, dedup, Contains};
+ghost use Rattle.std.specs.List.Sorted.{IsNonDecreasingBy};
+ghost use Rattle.change_times.specs.Stored.{from_of, to_of, is_from, is_to, of_number, row_bounds, is_same_pair, HaveOwnPairs, HaveSameFirsts, HaveStarts, IsByPair, IsStart};
 
 use mt_base::memory::OutOfMemory;
 use mt_base::numbers::StopNo;
@@ -11,9 +11,8 @@ use mt_base::tables::TransferRow;
 use std::alloc::Global;
 use std::marker::Model;
 
-/// Rows of `transfers.txt` by the location that they lead from, those from one location by the
-/// location that they lead to, and those of one pair in the order of the file. They are seen as
-/// their list.
+/// Rows of `transfers.txt`, one for each pair of locations, by the location that they lead from,
+/// and those from one location by the location that they lead to. They are seen as their list.
 #[derive(Drop)]
 pub(crate) struct Transfers {
     rows: Vec<TransferRow>,
@@ -36,7 +35,8 @@ impl Model for Transfers {
 }
 
 impl Transfers {
-    /// These rows by pair. They lead from locations of which there are so many.
+    /// These rows by pair, of each pair the first. They lead from locations of which there are so
+    /// many.
     pub(crate) fn build(
         alloc: Global,
         rows: Vec<TransferRow>,
@@ -44,14 +44,12 @@ impl Transfers {
     ) -> Result<Transfers, OutOfMemory>
         requires few { places < 2 ^ 32 }
         requires from { All (λ row. from_of row < places) rows.items }
-        ensures pairs { IfOk result (HaveSamePairs rows.items) }
-        ensures moved { IfOk result (IsPermutation rows.items) }
+        ensures first { IfOk result (HaveSameFirsts rows.items) }
+        ensures given { IfOk result (All (Contains rows.items)) }
     {
-        let mut rows = rows;
-        rows.sort_by_key(|row| row.to_stop.get())?;
-        rows.sort_by_key(|row| row.from_stop.get())?;
-        let starts = starts(alloc, rows.as_slice(), places)?;
-        Ok(Transfers { rows, starts })
+        let kept = firsts_by_pair(rows)?;
+        let starts = starts(alloc, kept.as_slice(), places)?;
+        Ok(Transfers { rows: kept, starts })
     }
 
     /// The same rows once more.
@@ -79,6 +77,34 @@ impl Transfers {
         let (start, end) = bounds(self.starts.as_slice(), a);
         &self.rows[start..end]
     }
+}
+
+/// Whether both rows lead from one location to one location.
+fn is_same_pair(row: &TransferRow, other: &TransferRow) -> bool
+    ensures { result ≡ is_same_pair row.now other.now }
+{
+    row.from_stop == other.from_stop && row.to_stop == other.to_stop
+}
+
+/// Drops each row that has the pair of the row before it.
+fn keep_first_of_each_pair(rows: &mut Vec<TransferRow>)
+    ensures { rows.new.items ≡ dedup is_same_pair rows.old.items }
+{
+    rows.dedup_by(|row, kept| is_same_pair(row, kept));
+}
+
+/// These rows by pair, of each pair the first.
+fn firsts_by_pair(rows: Vec<TransferRow>) -> Result<Vec<TransferRow>, OutOfMemory>
+    ensures order { IfOk result (λ kept. IsByPair kept.items) }
+    ensures once { IfOk result (λ kept. HaveOwnPairs kept.items) }
+    ensures first { IfOk result (λ kept. HaveSameFirsts rows.items kept.items) }
+    ensures given { IfOk result (λ kept. All (Contains rows.items) kept.items) }
+{
+    let mut rows = rows;
+    rows.sort_by_key(|row| row.to_stop.get())?;
+    rows.sort_by_key(|row| row.from_stop.get())?;
+    keep_first_of_each_pair(&mut rows);
+    Ok(rows)
 }
 
 /// How many rows lead from locations with smaller numbers.

@@ -11,7 +11,7 @@ use Rattle.delay_model.specs.declared.network.Network.{Network}
 use Rattle.delay_model.specs.declared.state.State.{State}
 use Rattle.delay_model.specs.Journeys.{is_one_station, IsInTime, MayBegin, GoesOn, IsJourney, IsRide, IsEarliest, HasNoJourney}
 use Rattle.delay_model.specs.Valid.{IsValid}
-use Rattle.timetable.specs.AtStops.{AreAtStops}
+use Rattle.edge_rules.specs.AtStops.{AreAtStops}
 use Rattle.conn_scan.specs.Reached.{Access, CanBoard, IsFromOrigin, IsBehind, IsPossible, AreExplained, ride_before}
 use Rattle.conn_scan.specs.Scan.{IsThereBy, IsTaken, IsAtEnd, IsWayBack}
 use Rattle.conn_scan.proofs.Forward.{in_time-later, ride-forward, ride-at_stop}

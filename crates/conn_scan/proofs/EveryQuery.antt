@@ -8,7 +8,7 @@ use Rattle.delay_model.specs.declared.network.Network.{Network}
 use Rattle.delay_model.specs.declared.state.State.{State}
 use Rattle.delay_model.specs.Journeys.{is_one_station, IsEarliest, HasNoJourney}
 use Rattle.delay_model.specs.Valid.{IsValid}
-use Rattle.timetable.specs.AtStops.{AreAtStops}
+use Rattle.edge_rules.specs.AtStops.{AreAtStops}
 use Rattle.conn_scan.specs.Reached.{Access, CanBoard, AreExplained, ride_before}
 use Rattle.conn_scan.specs.Scan.{IsAtEnd, IsWayBack}
 use Rattle.conn_scan.proofs.Answer.{at-once, boards-earlier, found, none}

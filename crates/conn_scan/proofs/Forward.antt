@@ -23,7 +23,7 @@ use Rattle.delay_model.specs.Journeys.{IsInTime, IsRide, StopsAndGoesOn}
 use Rattle.delay_model.specs.Timing.{event_time}
 use Rattle.delay_model.specs.Valid.{IsValid}
 use Rattle.delay_model.proofs.AlongTrains.{times-rise}
-use Rattle.timetable.specs.AtStops.{AreAtStops}
+use Rattle.edge_rules.specs.AtStops.{AreAtStops}
 
 seconds-least : (default : ℕ) (o : Option ℕ) → 1 ≤ default → 1 ≤ option_map_or (λ s. max 1 s) o default
 seconds-least default None h = h

@@ -7,7 +7,7 @@ ghost use Rattle.mt_base.specs.declared.plans.Query.{Query as AQuery};
 ghost use Rattle.delay_model.specs.Journeys.{is_one_station, IsRide, IsEarliest, HasNoJourney};
 ghost use Rattle.delay_model.specs.Valid.{IsValid};
 ghost use Rattle.conn_scan.specs.Reached.{Access, AreExplained, CanBoard, ride_before};
-ghost use Rattle.timetable.specs.AtStops.{AreAtStops};
+ghost use Rattle.edge_rules.specs.AtStops.{AreAtStops};
 ghost use Rattle.conn_scan.specs.Rides.{BeginsWith, departure_of_ride, rides_from};
 ghost use Rattle.conn_scan.specs.Scan.{IsAtEnd, IsWayBack};
 

@@ -1,5 +1,5 @@
 -- Of the edges at an event no two lead from one event to one event.
-use Rattle.std.proofs.Common.{List, [], Option, Some, None}
+use Rattle.std.proofs.Common.{List, [], Option, Some, None, sym}
 use Rattle.std.specs.Option.{option_map_or}
 use Rattle.std.specs.List.{All, AllPairs}
 use Rattle.std.proofs.lemmas.List.Kept.{AllPairs-filter}
@@ -31,3 +31,6 @@ unfolding outgoing
 once-from g n labels =
     let gs = edges g.network g.state in
     if-there (event_named g.state n) _ (λ v. AllPairs-filter DifferInEnds (λ e. is_same e.from v.key) gs (one-edge g.network g.state labels))
+
+pub differ-turned : (d e : Edge) → DifferInEnds d e → DifferInEnds e d
+differ-turned d e h = λ from to. h (sym from) (sym to)

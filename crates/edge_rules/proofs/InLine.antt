@@ -1,5 +1,5 @@
 -- The edges along a list of events that differ by name: one before each event, and one after.
-use Rattle.std.proofs.Common.{◌≡◌, Bool, true, false, ◌&&◌, List, [], ◌∷◌, ◌++◌, refl, sym, ◌∙◌, ap, arith, Some, find}
+use Rattle.std.proofs.Common.{◌≡◌, Bool, true, false, ◌&&◌, List, [], ◌∷◌, ◌++◌, refl, sym, ◌∙◌, ap, arith, Some, find, get_or}
 use Rattle.std.specs.List.{All, AllPairs, filter}
 use Rattle.std.proofs.lemmas.Bool.{cond_both, cond-true, cond-false}
 use Rattle.std.proofs.lemmas.List.Elements.{All-append, All-cons, All-nil, All-tail, All-head, All-weaker, All-contains, Contains-append_right, filter-append}
@@ -146,3 +146,11 @@ find-own xs u ys apart =
     find-past (is_event (node_of u.key)) xs u ys
     (All-weaker (λ w. AreApart w u) (λ w. is_event (node_of u.key) w ≡ false) (λ w h. name-left w u h) xs (AllPairs-before AreApart xs u ys apart))
     (same_node-itself (node_of u.key))
+
+-- events that differ by name are found by their names
+pub self-found : (es : List Event) → AllPairs AreApart es → All (λ v. find (is_event (node_of v.key)) es ≡ Some v) es
+self-found [] h = All-nil (λ (v : Event). find (is_event (node_of v.key)) [] ≡ Some v)
+self-found (e ∷ es) h =
+    let rest = self-found es (AllPairs-tail AreApart e es h) in
+    All-cons (λ v. find (is_event (node_of v.key)) (e ∷ es) ≡ Some v) e es (find-own [] e es h)
+    (λ k d l. let v = get_or es k d in cond-false (is_event (node_of v.key) e) (Some e) (find (is_event (node_of v.key)) es) (name-left e v (AllPairs-after AreApart [] e es h k d l)) ∙ rest k d l)

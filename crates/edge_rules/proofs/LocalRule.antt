@@ -1,9 +1,12 @@
 -- The local rule at an event.
 use Rattle.std.proofs.Common.{◌≡◌, ℕ, ◌+◌, ◌<◌, ◌^◌, true, List, [], ◌∷◌, length, max, sym, ◌∙◌, ap, subst, arith, Some, unwrap_or}
-use Rattle.std.specs.List.{All, fold}
+use Rattle.std.specs.List.{All, Contains, fold}
+use Rattle.std.specs.List.Sorted.{IsPermutation}
 use Rattle.std.specs.Option.{option_map, option_map_or}
 use Rattle.std.proofs.lemmas.Bool.{cond_both}
-use Rattle.std.proofs.lemmas.List.Elements.{All-tail, All-head}
+use Rattle.std.proofs.lemmas.List.Elements.{All-tail, All-head, All-contains_itself}
+use Rattle.std.proofs.lemmas.List.Sorted.{All-permutation, IsPermutation-sym, length_permutation}
+use Rattle.delay_model.proofs.Bounds.{fold-same}
 use Rattle.mt_base.specs.declared.keys.Node.{Node}
 use Rattle.mt_base.specs.Order.{node_of}
 use Rattle.delay_model.specs.declared.state.Event.{Event}
@@ -35,6 +38,19 @@ pub record IsAhead (k : StoredTimes) (all : List ModelEdge) (floor steps : ℕ) 
   pub held : All (λ (e : ModelEdge). has_time k (node_of e.from) ≡ true) left
   pub fits : All (λ (e : ModelEdge). stored_time k e.from + e.weight < 2 ^ 25) left
   pub small : time < 2 ^ 25
+
+-- before the first edge, in any order
+pub ahead-first : (k : StoredTimes) (all found : List ModelEdge) (floor steps : ℕ) → IsPermutation found all → All (λ (e : ModelEdge). has_time k (node_of e.from) ≡ true) all → All (λ (e : ModelEdge). stored_time k e.from + e.weight < 2 ^ 25) all → floor < 2 ^ 25 → IsAhead k all floor steps found floor steps
+ahead-first k all found floor steps p held fits small =
+    let back = IsPermutation-sym found all p in
+    let long = length_permutation found all p in
+    record {
+      rule = fold-same (stored_time k) floor found all (All-permutation (Contains all) all found back (All-contains_itself all)) (All-permutation (Contains found) found all p (All-contains_itself found));
+      cost = omega arith;
+      held = All-permutation (λ (e : ModelEdge). has_time k (node_of e.from) ≡ true) all found back held;
+      fits = All-permutation (λ (e : ModelEdge). stored_time k e.from + e.weight < 2 ^ 25) all found back fits;
+      small = small;
+    }
 
 -- one edge more
 pub ahead-more : (k : StoredTimes) (all : List ModelEdge) (floor steps : ℕ) (left : List ModelEdge) (time spent : ℕ) (e : ModelEdge) (rest : List ModelEdge) (n : Node) (x new more : ℕ) → IsAhead k all floor steps left time spent → left ≡ e ∷ rest → n ≡ node_of e.from → time_of k n ≡ Some x → new ≡ later_of e time (x + e.weight) → more ≡ spent + 1 → IsAhead k all floor steps rest new more

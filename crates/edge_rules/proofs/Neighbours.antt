@@ -1,5 +1,5 @@
 -- The edges along its train at an event of a state, by the names of the events beside it.
-use Rattle.std.proofs.Common.{◌≡◌, ℕ, Bool, true, false, List, [], ◌∷◌, ◌++◌, append_assoc, refl, sym, ◌∙◌, ap, subst, arith, Option, Some, None, find, is_some, slice_get}
+use Rattle.std.proofs.Common.{◌≡◌, ℕ, Bool, true, false, List, [], ◌∷◌, ◌++◌, append_assoc, refl, sym, ◌∙◌, ap, subst, arith, Option, Some, None, find, is_some, slice_get, get_or}
 use Rattle.std.specs.List.{All, AllPairs, filter}
 use Rattle.std.specs.Option.{option_map, option_map_or}
 use Rattle.std.proofs.lemmas.List.Elements.{All-get_or}
@@ -16,17 +16,18 @@ use Rattle.delay_model.specs.declared.state.Event.{Event}
 use Rattle.delay_model.specs.declared.state.Edge.{Edge}
 use Rattle.delay_model.specs.Cuts.{before, after}
 use Rattle.delay_model.specs.Effect.{is_call, node_at}
-use Rattle.delay_model.specs.Events.{events_of, events_at, event_named, is_event, is_live, calls_of, train_events, arrival_of, departure_of}
+use Rattle.delay_model.specs.Events.{events, events_of, events_at, event_named, is_event, is_live, calls_of, train_events, arrival_of, departure_of}
 use Rattle.delay_model.specs.Edges.{train_edges, edges_along, edge_on}
 use Rattle.delay_model.specs.Timing.{incoming}
 use Rattle.delay_model.specs.Valid.{HasDistinctLabels}
-use Rattle.delay_model.proofs.Apart.{AreApart, events_at-apart}
+use Rattle.delay_model.proofs.Apart.{AreApart, events_at-apart, events_at-train}
+use Rattle.state_laws.proofs.Parts.{events-from_each}
 use Rattle.train_nodes.specs.Calls.{has_event, first_label, last_label}
 use Rattle.train_nodes.proofs.EventLemmas.{event_of_call, found_event}
 use Rattle.edge_rules.specs.AtEvent.{outgoing, along_to, along_from}
 use Rattle.edge_rules.specs.Held.{HasOwnLabels}
 use Rattle.edge_rules.specs.Neighbours.{previous_of, previous_by, next_of, next_by}
-use Rattle.edge_rules.proofs.InLine.{find-own, along-into, along-out, edge_before, edge_before-last}
+use Rattle.edge_rules.proofs.InLine.{find-own, self-found, along-into, along-out, edge_before, edge_before-last}
 use Rattle.edge_rules.proofs.Own.{own-train}
 use Rattle.edge_rules.proofs.Beside.{cut-at, events-append, label-of-found, last-is, last-none, first-is, first-none, found-of-live}
 
@@ -245,3 +246,17 @@ module _ (o : Opts) (st : State) (labels : All HasOwnLabels st.trains) where
         (subst (λ (w : Event). IsJoined st (next_of st n) (λ u. edge_on o w (u ∷ [])) (along_from o st n)) (sym at.event)
         (subst (λ l. IsJoined st (next_by st n.train l n.dep) (λ u. edge_on o (event_of_call n.train at.train.route n.dep at.call) (u ∷ [])) (along_from o st (node_at n.train l n.dep))) label-is
         (out-call n.train at.train at.there at.call own-found n.dep)))
+
+-- each event of a state is found by its name
+pub each-named : (st : State) → All HasOwnLabels st.trains → All (λ v. event_named st (node_of v.key) ≡ Some v) (events st)
+unfolding events
+each-named st labels =
+    events-from_each (λ v. event_named st (node_of v.key) ≡ Some v) 0 st.trains (λ k i t e got.
+    let es = events_of i t in
+    let same : k ≡ i = omega arith in
+    let own = self-found es (events_at-apart i t.route t.calls (own-labels st.trains i t labels (rw same at got))) in
+    λ j d l.
+    let v = get_or es j d in
+    ap (λ n. find (is_event (node_of v.key)) (train_events st n)) (events_at-train i t.route t.calls j d l)
+    ∙ ap (λ (r : Option Train). find (is_event (node_of v.key)) (option_map_or (events_of i) r [])) (rw same at got)
+    ∙ own j d l)

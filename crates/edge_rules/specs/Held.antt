@@ -7,6 +7,8 @@ use Rattle.delay_model.specs.declared.state.Train.{Train}
 use Rattle.delay_model.specs.Valid.{HasDistinctLabels}
 use Rattle.change_times.specs.ChangeTables.{ChangeTables}
 use Rattle.waiting_rules.specs.WaitTable.{WaitTable, parent_station}
+use Rattle.edge_rules.specs.AtStops.{AreAtStops}
+use Rattle.edge_rules.specs.Indexing.{IsIndexOf}
 use Rattle.edge_rules.specs.Timetabled.{Timetabled}
 use Rattle.edge_rules.specs.declared.graph.Graph.TheInside.{Inside}
 
@@ -27,10 +29,13 @@ seen a = record { network = network_of a.changes a.waits a.opts; state = a.train
 abbrev pub HasOwnLabels : Train → Type 0
 HasOwnLabels t = HasDistinctLabels t.calls
 
--- no two calls of a train have one label; the change times and the waits are of the same stops, and
--- the change time where no row says one is the options'
+-- no two calls of a train have one label, and all are at stops; the index is that of the trains;
+-- the change times and the waits are of the same stops, and the change time where no row says one
+-- is the options'
 pub record IsHeld (a : Inside) : Type 0 where
   pub options : IsInRange a.opts
   pub default : a.changes.default ≡ a.opts.change
   pub parents : a.waits.parents ≡ map parent_station a.changes.stops
   pub labels : All HasOwnLabels a.trains.trains
+  pub at_stops : AreAtStops (network_of a.changes a.waits a.opts) a.trains
+  pub index : IsIndexOf a.trains a.index

@@ -1,5 +1,9 @@
+pub mod AtStops
+pub mod Indexing
 pub mod Timetabled
 pub mod AtEvent
 pub mod Held
 pub mod Neighbours
 pub mod Transfers
+pub mod Found
+pub mod HeldPlanned

@@ -1,34 +1,29 @@
 //! The edges at an event, found one after another.
 
-ghost use Rattle.std.specs.Prelude.{◌≡◌, flat_map};
-ghost use Rattle.std.specs.Option.{option_to_list};
 ghost use Rattle.std.specs.Iterator.{YieldsFirst, item_count};
-ghost use Rattle.edge_rules.specs.Transfers.{transfer_with};
 
-use crate::all_events::AllEvents;
-use crate::graph::Graph;
-use delay_model::state::{Edge, Event};
+use crate::transfers::{KeptEdges, PlannedEdges};
+use delay_model::state::Edge;
 use std::marker::Model;
 
-/// The edges at an event: the one along its train, and those between trains, which are found by
-/// testing the other events. It is seen as the list of the edges that are still to come.
+/// The edges at an event: the one along its train, and those between trains, which are found in the
+/// index of events and among the connections that are kept. It is seen as the list of the edges
+/// that are still to come.
 #[derive(Drop)]
 pub struct Edges<'a> {
-    pub(crate) graph: &'a Graph,
-    pub(crate) at: Event,
     pub(crate) along: Option<Edge>,
-    pub(crate) others: AllEvents<'a>,
+    pub(crate) planned: Option<PlannedEdges<'a>>,
+    pub(crate) kept: Option<KeptEdges<'a>>,
 }
 
 impl<'a> Model for Edges<'a> {
-    ghost use Rattle.std.specs.Prelude.{List, ◌++◌, flat_map};
+    ghost use Rattle.std.specs.Prelude.{List, [], ◌++◌, unwrap_or};
     ghost use Rattle.std.specs.Option.{option_to_list};
     ghost use Rattle.delay_model.specs.declared.state.Edge.{Edge};
-    ghost use Rattle.edge_rules.specs.Transfers.{transfer_with};
 
     ghost Value = { List Edge };
 
-    ghost view = { λ a. option_to_list a.along ++ flat_map (transfer_with a.graph.now a.at) a.others };
+    ghost view = { λ a. option_to_list a.along ++ (unwrap_or a.planned [] ++ unwrap_or a.kept []) };
 }
 
 impl<'a> Iterator for Edges<'a> {
@@ -39,32 +34,17 @@ impl<'a> Iterator for Edges<'a> {
     ghost remaining = { item_count (λ s. s) };
 
     fn next(&mut self) -> Option<Edge> {
-        match self.along.take() {
-            Some(edge) => Some(edge),
-            None => next_transfer(self.graph, &self.at, &mut self.others),
-        }
-    }
-}
-
-/// The first edge between an event and one of the others, which takes the others up to that one.
-fn next_transfer(graph: &Graph, at: &Event, others: &mut AllEvents<'_>) -> Option<Edge>
-    ensures { YieldsFirst (flat_map (transfer_with graph.now at.now)) others.old result others.new }
-{
-    while let Some(other) = others.next() {
-        if let Some(edge) = transfer(graph, at, &other) {
+        if let Some(edge) = self.along.take() {
             return Some(edge);
         }
-    }
-    None
-}
-
-/// The edge between two trains that joins an event and another, if there is one.
-fn transfer(graph: &Graph, at: &Event, other: &Event) -> Option<Edge>
-    ensures { option_to_list result ≡ transfer_with graph.now at.now other.now }
-{
-    if at.key.dep {
-        graph.transfer(other, at)
-    } else {
-        graph.transfer(at, other)
+        if let Some(planned) = &mut self.planned {
+            if let Some(edge) = planned.next() {
+                return Some(edge);
+            }
+        }
+        match &mut self.kept {
+            Some(kept) => kept.next(),
+            None => None,
+        }
     }
 }

@@ -1,29 +1,34 @@
 //! The graph over the trains.
 
-ghost use Rattle.std.specs.Prelude.{◌≡◌, ◌+◌, ◌++◌, [], ◌∷◌, ◌&&◌, nat_eq, ◌<◌, ◌≤◌, ◌^◌, true, false, IsTrue, Some, All, IfOk, map, flat_map, length, not, if◌then◌else◌};
+ghost use Rattle.std.specs.Prelude.{◌≡◌, ◌+◌, ◌++◌, [], ◌∷◌, ◌&&◌, nat_eq, ◌<◌, ◌≤◌, ◌^◌, true, false, IsTrue, Some, None, All, IfOk, map, length, is_some};
 ghost use Rattle.std.specs.Option.{option_to_list};
 ghost use Rattle.std.specs.FinMap as finmap;
 ghost use Rattle.std.specs.List.{AllPairs};
 ghost use Rattle.std.specs.List.Sorted.{IsPermutation};
 ghost use Rattle.mt_base.specs.Options.{IsInRange};
 ghost use Rattle.mt_base.specs.Order.{node_of};
-ghost use Rattle.delay_model.specs.Edges.{DifferInEnds, change_between, edge_by_change, edge_on, is_planned, override_of, transfer_kind, wait_between};
+ghost use Rattle.mt_base.specs.declared.keys.Node.{Node as ANode};
+ghost use Rattle.delay_model.specs.declared.state.Event.{Event as AnEvent};
+ghost use Rattle.delay_model.specs.Edges.{DifferInEnds, edge_on, override_of, transfer, wait_between};
+ghost use Rattle.delay_model.specs.declared.overrides.Override.TheVariants as overrides;
 ghost use Rattle.delay_model.specs.Effect.{effect, with_event, forecasted, reported, has_override, with_override, without_override};
 ghost use Rattle.delay_model.specs.Events.{calls_of, events, event_named, is_live};
 ghost use Rattle.delay_model.specs.Overrides.{connection};
-ghost use Rattle.delay_model.specs.Refusals.{stands_before};
+ghost use Rattle.delay_model.specs.Refusals.{are_at_stops, stands_before};
 ghost use Rattle.delay_model.specs.declared.messages.Message.TheVariants as messages;
 ghost use Rattle.train_nodes.specs.Times.{has_time};
 ghost use Rattle.waiting_rules.specs.WaitTable.{parent_station};
 ghost use Rattle.edge_rules.specs.AtEvent.{edges_to, edges_from, stored_time, local_at};
+ghost use Rattle.edge_rules.specs.AtStops.{AreAtStops};
 ghost use Rattle.edge_rules.specs.Held.{network_of, HasOwnLabels};
-ghost use Rattle.edge_rules.specs.Transfers.{transfer_between, transfer_with};
+ghost use Rattle.edge_rules.specs.Found.{AreWaitsAt, planned_between, wait_of};
 
-use crate::all_events::AllEvents;
 use crate::along::{edge_between, edge_into, edge_out};
 use crate::connections::{is_planned, may_connect};
 use crate::edges::Edges;
+use crate::indexing::{index_of, insert_calls, insert_train, remove_between, remove_stretch};
 use crate::rule::{by_reports, floor, later};
+use crate::transfers::{kept_edges, planned_from, planned_to};
 use change_times::Changes;
 use delay_model::overrides::Override;
 use delay_model::state::{Edge, EdgeKind, Event};
@@ -32,17 +37,19 @@ use mt_base::memory::OutOfMemory;
 use mt_base::numbers::{Day, Label, RouteNo, Time, TrainNo};
 use mt_base::options::Opts;
 use mt_base::plans::NewCall;
+use station_index::StationIndex;
 use std::alloc::Global;
 use std::marker::Model;
 use std::sync::ledger::Ledger;
 use train_nodes::{NodeTimes, Steps, Trains};
-use waiting_rules::Waits;
+use waiting_rules::{WaitClass, Waits};
 
-/// The trains, the change times, the waiting rules and the options, from which the edges at an
-/// event are found.
+/// The trains, with the index of their live events, the change times, the waiting rules and the
+/// options, from which the edges at an event are found.
 #[derive(Drop)]
 pub struct Graph {
     trains: Trains,
+    index: StationIndex,
     changes: Changes,
     waits: Waits,
     opts: Opts,
@@ -55,6 +62,7 @@ impl Model for Graph {
 
     ghost coded = { timetabled_code };
 
+    ghost use Rattle.edge_rules.specs.AtStops.{AreAtStops};
     ghost use Rattle.edge_rules.specs.Held.{seen, IsHeld};
 
     ghost view = { seen };
@@ -63,20 +71,31 @@ impl Model for Graph {
 }
 
 impl Graph {
-    /// The graph over these trains, by these change times, waiting rules and options.
-    pub fn build(trains: Trains, changes: Changes, waits: Waits, opts: Opts) -> Graph
+    /// The graph over these trains, by these change times, waiting rules and options. The index of
+    /// live events takes its memory here.
+    pub fn build(
+        alloc: Global,
+        trains: Trains,
+        changes: Changes,
+        waits: Waits,
+        opts: Opts,
+    ) -> Result<Graph, OutOfMemory>
         requires options { IsInRange opts }
         requires default { changes.default ≡ opts.change }
         requires parents { waits.parents ≡ map parent_station changes.stops }
         requires labels { All HasOwnLabels trains.trains }
-        ensures { result ≡ record { network = network_of changes waits opts; state = trains } }
+        requires at_stops { AreAtStops (network_of changes waits opts) trains }
+        ensures { IfOk result (λ graph.
+            graph ≡ record { network = network_of changes waits opts; state = trains }) }
     {
-        Graph {
+        let index = index_of(alloc, &trains)?;
+        Ok(Graph {
             trains,
+            index,
             changes,
             waits,
             opts,
-        }
+        })
     }
 
     /// The same graph once more.
@@ -85,6 +104,7 @@ impl Graph {
     {
         Ok(Graph {
             trains: self.trains.copy(alloc)?,
+            index: self.index.copy(alloc)?,
             changes: self.changes.copy()?,
             waits: self.waits.copy()?,
             opts: self.opts,
@@ -97,6 +117,21 @@ impl Graph {
         ensures labels { All HasOwnLabels self.now.state.trains }
     {
         &self.trains
+    }
+
+    /// A law: every call of every train is at a stop or platform.
+    pub fn calls_are_at_stops(&self)
+        ensures { AreAtStops self.now.network self.now.state }
+    {
+        let _ = &self.trains;
+    }
+
+    /// A law: no edge waits longer than 86,400 seconds.
+    pub fn waits_are_short(&self)
+        ensures incoming { (n : ANode) → All (λ e. wait_of e.kind ≤ 86400) (edges_to self.now n) }
+        ensures outgoing { (n : ANode) → All (λ e. wait_of e.kind ≤ 86400) (edges_from self.now n) }
+    {
+        self.waits.waits_are_short();
     }
 
     /// The change times.
@@ -201,6 +236,7 @@ impl Graph {
               (messages.Cancel t from to);
         } }
     {
+        remove_stretch(&mut self.index, &self.trains, t, from, to);
         self.trains.cancel(t, from, to);
         self.trains.labels_are_distinct();
     }
@@ -210,13 +246,17 @@ impl Graph {
     pub fn reroute(&mut self, t: TrainNo, from: Label, to: Label, via: &[NewCall])
         requires stand { stands_before from to (calls_of self.old.state t) ≡ true }
         requires spare { length via.now ≤ self.old.state.spare_calls }
+        requires stops { are_at_stops self.old.network via.now ≡ true }
         ensures { self.new ≡ record self.old {
           state = effect self.old.state
               (messages.Reroute t from to via.now);
         } }
     {
+        remove_between(&mut self.index, &self.trains, t, from, to);
         self.trains.reroute(t, from, to, via);
         self.trains.labels_are_distinct();
+        let first = self.trains.next_label(t).get() - via.len() as u32;
+        insert_calls(&mut self.index, t, first, via);
     }
 
     /// One more train runs. It gets the next number, which is given back. It takes no memory.
@@ -224,6 +264,7 @@ impl Graph {
         requires train_spare { 0 < self.old.state.spare_trains }
         requires calls_spare { length calls.now ≤ self.old.state.spare_calls }
         requires two_calls { 2 ≤ length calls.now }
+        requires stops { are_at_stops self.old.network calls.now ≡ true }
         ensures number { result ≡ length self.old.state.trains }
         ensures train { self.new ≡ record self.old {
           state = effect self.old.state
@@ -232,6 +273,7 @@ impl Graph {
     {
         let number = self.trains.add_train(day, route, calls);
         self.trains.labels_are_distinct();
+        insert_train(&mut self.index, &self.trains, number);
         number
     }
 
@@ -240,15 +282,6 @@ impl Graph {
         ensures { option_to_list result ≡ edge_on self.now.network.opts from.now (to.now ∷ []) }
     {
         edge_between(&self.opts, from, to)
-    }
-
-    /// Whether edges between trains can be at an event of this kind: where there is no waiting rule
-    /// and nothing is kept or dropped, nowhere.
-    fn has_transfers(&self, kind: bool) -> bool
-        ensures { result ≡ (kind && not (nat_eq (length self.now.network.rules) 0
-            && nat_eq (finmap.len self.now.state.overrides) 0)) }
-    {
-        kind && !(self.waits.is_empty() && self.trains.has_no_overrides())
     }
 
     /// A live event by its name.
@@ -260,89 +293,128 @@ impl Graph {
         self.trains.event(*n)
     }
 
-    /// The edges that lead to an event. Edges between trains lead to departures.
+    /// The edges that lead to an event.
     fn edges_to(&self, at: &Event) -> Edges<'_>
         requires there { event_named self.now.state (node_of at.now.key) ≡ Some at.now }
-        ensures { result ≡ edges_to self.now (node_of at.now.key) }
+        ensures { IsPermutation result (edges_to self.now (node_of at.now.key)) }
     {
-        let along = edge_into(&self.trains, &self.opts, at);
-        self.edges_at(at, along, self.has_transfers(at.key.dep))
-    }
-
-    /// The edges that leave an event. Edges between trains leave arrivals.
-    fn edges_from(&self, at: &Event) -> Edges<'_>
-        requires there { event_named self.now.state (node_of at.now.key) ≡ Some at.now }
-        ensures { result ≡ edges_from self.now (node_of at.now.key) }
-    {
-        let along = edge_out(&self.trains, &self.opts, at);
-        self.edges_at(at, along, self.has_transfers(!at.key.dep))
-    }
-
-    /// The given edge along a train at an event, and the edges between trains there if they are
-    /// wanted.
-    fn edges_at(&self, at: &Event, along: Option<Edge>, transfers: bool) -> Edges<'_>
-        ensures { result ≡ option_to_list along
-            ++ (if transfers then flat_map (transfer_with self.now at.now) (events self.now.state)
-            else []) }
-    {
-        let first = if transfers { 0 } else { self.trains.count() };
         Edges {
-            graph: self,
-            at: *at,
-            along,
-            others: AllEvents::starting_at(&self.trains, first),
+            along: edge_into(&self.trains, &self.opts, at),
+            planned: planned_to(self, &self.index, at),
+            kept: kept_edges(self, true, at),
         }
     }
 
-    /// The edge between two trains from one event to another, if there is one.
-    pub(crate) fn transfer(&self, from: &Event, to: &Event) -> Option<Edge>
-        ensures { option_to_list result ≡ transfer_between self.now from.now to.now }
+    /// The edges that leave an event.
+    fn edges_from(&self, at: &Event) -> Edges<'_>
+        requires there { event_named self.now.state (node_of at.now.key) ≡ Some at.now }
+        ensures { IsPermutation result (edges_from self.now (node_of at.now.key)) }
+    {
+        Edges {
+            along: edge_out(&self.trains, &self.opts, at),
+            planned: planned_from(self, &self.index, at),
+            kept: kept_edges(self, false, at),
+        }
+    }
+
+    /// Whether there is no waiting rule.
+    pub(crate) fn has_no_rules(&self) -> bool
+        ensures { result ≡ nat_eq (length self.now.network.rules) 0 }
+    {
+        self.waits.is_empty()
+    }
+
+    /// How long after a change a departure may lie that is planned to be reached, in seconds.
+    pub(crate) fn window(&self) -> u32
+        ensures { result ≡ self.now.network.opts.window }
+    {
+        self.opts.window
+    }
+
+    /// The event of this name, live or not, if it is there.
+    pub(crate) fn find_event(&self, n: Node) -> Option<Event>
+        ensures { result ≡ event_named self.now.state n }
+    {
+        if !self.trains.has(n.train, n.label) {
+            return None;
+        }
+        Some(self.trains.event(n))
+    }
+
+    /// How long the train of a departure waits, by the routes of late feeders. None only if it
+    /// waits for none.
+    pub(crate) fn class(&self, at: &Event) -> Option<WaitClass<'_>>
+        ensures class { AreWaitsAt self.now at.now result }
+        ensures none { result ≡ None → (u : AnEvent) → wait_between self.now.network u at.now ≡ 0 }
+    {
+        self.waits.class(at.route, at.stop)
+    }
+
+    /// How many seconds the train of `to` waits for that of `from`: by these waits of it, if they
+    /// were looked up.
+    pub(crate) fn wait_by(&self, class: &Option<WaitClass<'_>>, from: &Event, to: &Event) -> u32
+        requires { AreWaitsAt self.now to.now class.now }
+        ensures { result ≡ wait_between self.now.network from.now to.now }
+    {
+        match class {
+            Some(class) => class.wait(from.route),
+            None => self.wait(from, to),
+        }
+    }
+
+    /// How many seconds the train of `to` waits for that of `from`.
+    pub(crate) fn wait(&self, from: &Event, to: &Event) -> u32
+        ensures { result ≡ wait_between self.now.network from.now to.now }
+    {
+        self.waits.wait(from.route, to.route, to.stop)
+    }
+
+    /// The edge that is planned from one event to another by a change of so many seconds and a wait
+    /// of so many, if nothing was chosen for the connection.
+    pub(crate) fn planned(&self, seconds: u32, wait: u32, from: &Event, to: &Event) -> Option<Edge>
+        requires { wait ≡ wait_between self.now.network from.now to.now }
+        ensures { option_to_list result ≡ planned_between self.now seconds from.now to.now }
+    {
+        if !may_connect(from, to) || !is_planned(&self.opts, seconds, wait, from, to) {
+            return None;
+        }
+        if self.is_chosen(from, to) {
+            return None;
+        }
+        Some(Edge {
+            from: from.key,
+            to: to.key,
+            weight: seconds,
+            kind: EdgeKind::Planned { wait },
+        })
+    }
+
+    /// Whether a dispatcher keeps or drops the connection between two events.
+    fn is_chosen(&self, from: &Event, to: &Event) -> bool
+        ensures { result ≡ is_some (override_of self.now.state from.now to.now) }
+    {
+        !self.trains.has_no_overrides()
+            && self
+                .trains
+                .override_of(from.key.node(), to.key.node())
+                .is_some()
+    }
+
+    /// The edge from one event to another whose connection is kept, if a change is possible.
+    #[tactic(auto, unfolding(delay_model::specs::Edges::transfer))]
+    pub(crate) fn kept(&self, from: &Event, to: &Event) -> Option<Edge>
+        ensures { option_to_list result ≡ transfer self.now.network (Some overrides.Keep)
+            from.now to.now }
     {
         if !may_connect(from, to) {
             return None;
         }
-        // Only a connection that is kept may be scheduled backwards.
-        if from.key.time > to.key.time && self.trains.has_no_overrides() {
-            return None;
-        }
-        self.edge_by_change(from, to)
-    }
-
-    /// The edge between two trains from an arrival to a departure, where a change is possible.
-    fn edge_by_change(&self, from: &Event, to: &Event) -> Option<Edge>
-        ensures { option_to_list result ≡ edge_by_change self.now.network
-            (override_of self.now.state from.now to.now) from.now to.now
-            (change_between self.now.network from.now to.now) }
-    {
         let weight = self.changes.change(from.stop, to.stop)?;
-        let kind = self.transfer_kind(from, to, weight)?;
         Some(Edge {
             from: from.key,
             to: to.key,
             weight,
-            kind,
+            kind: EdgeKind::Kept,
         })
-    }
-
-    /// The kind of the edge from an arrival to a departure with a change of so many seconds, if
-    /// there is one: what a dispatcher chose for it, or else whether it is planned.
-    fn transfer_kind(&self, from: &Event, to: &Event, change: u32) -> Option<EdgeKind>
-        ensures { result ≡ transfer_kind (override_of self.now.state from.now to.now)
-            (is_planned self.now.network.opts change (wait_between self.now.network from.now to.now)
-            from.now to.now)
-            (wait_between self.now.network from.now to.now) }
-    {
-        match self.trains.override_of(from.key.node(), to.key.node()) {
-            Some(Override::Keep) => Some(EdgeKind::Kept),
-            Some(Override::Drop) => None,
-            None => {
-                let wait = self.waits.wait(from.route, to.route, to.stop);
-                if is_planned(&self.opts, change, wait, from, to) {
-                    Some(EdgeKind::Planned { wait })
-                } else {
-                    None
-                }
-            }
-        }
     }
 }

@@ -4,12 +4,13 @@
 //! The edges run along the trains and, as connections that are planned or kept, between them.
 #![tactic(auto)]
 
-mod all_events;
 mod along;
 mod connections;
 pub mod edges;
 pub mod graph;
+mod indexing;
 mod rule;
+mod transfers;
 
 pub use edges::Edges;
 pub use graph::Graph;

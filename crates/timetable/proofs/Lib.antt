@@ -2,6 +2,7 @@ pub mod Words
 pub mod Sized
 pub mod Named
 pub mod Ordered
+pub mod OnSchedule
 pub mod Settling
 pub mod Sorted
 pub mod Listing
@@ -9,5 +10,4 @@ pub mod Departing
 pub mod Changed
 pub mod Shapes
 pub mod Prepared
-pub mod Stops
 pub mod Retimed

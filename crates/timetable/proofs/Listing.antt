@@ -14,7 +14,7 @@ live_keys-append : (es fs : List Event) → live_keys (es ++ fs) ≡ live_keys e
 live_keys-append es fs = rw (filter-append, map-append) refl
 
 -- the trains from one on are that one and those after it
-train-first : {X : Type 0} (ts : List X) (n : ℕ) → n < length ts → (t : X) × (slice_get ts n ≡ Some t) × (drop n ts ≡ t ∷ drop (n + 1) ts)
+pub train-first : {X : Type 0} (ts : List X) (n : ℕ) → n < length ts → (t : X) × (slice_get ts n ≡ Some t) × (drop n ts ≡ t ∷ drop (n + 1) ts)
 train-first ts n l = elim (slice_get_cases ts n).1 [ inl r ↦ (r.0, r.2, cut-at ts n r.0 l (sym r.3)) | inr none ↦ absurd (omega arith) ]
 
 pub keys-from : (st : State) (n : ℕ) → n < length st.trains → live_keys (events_from n (drop n st.trains)) ≡ live_keys (train_events st n) ++ live_keys (events_from (n + 1) (drop (n + 1) st.trains))

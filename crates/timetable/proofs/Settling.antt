@@ -68,15 +68,19 @@ module _ (g : Timetabled) (valid : IsValid g.network g.state) (order : List Key)
   pub differ-after : All (λ q. q ≢ k) ys
   differ-after = λ i d l same. let less = each-after es order is xs k ys whole i d l in let none = before-itself k in let own = rw same at less in cc
 
--- part of an evaluation: the times of the first events are kept, and those listed for which another was kept before. There is room
--- for the others. As long as departures are moved, they are listed
-pub record IsPart (g : Timetabled) (order : List Key) (old : StoredTimes) (before : Vec Node Global) (i : ℕ) (times : StoredTimes) (changed : Vec Node Global) (reach : ℕ) (ds : List Departure) : Type 0 where
+-- part of an evaluation: the times of the first events are stored, and those of the others as they were
+pub record IsTimedPart (g : Timetabled) (order : List Key) (old : StoredTimes) (i : ℕ) (times : StoredTimes) : Type 0 where
   pub done : All (HasItsTime g.network g.state times) (take i order)
   pub left : All (λ k. time_of times (node_of k) ≡ time_of old (node_of k)) (drop i order)
+  pub has_times : (st : State) → HasTimesFor st old → HasTimesFor st times
+
+-- and those are listed for which another was stored before. There is room for the others. As long as departures are moved, they are
+-- listed
+pub record IsPart (g : Timetabled) (order : List Key) (old : StoredTimes) (before : Vec Node Global) (i : ℕ) (times : StoredTimes) (changed : Vec Node Global) (reach : ℕ) (ds : List Departure) : Type 0 where
+  pub timed : IsTimedPart g order old i times
   pub listed : changed.items ++ map node_of (filter (has_another g.network g.state old) (drop i order)) ≡ before.items ++ map node_of (filter (has_another g.network g.state old) order)
   pub room : vec_len changed + length (drop i order) ≤ vec_capacity changed
   pub capacity : vec_capacity changed ≡ vec_capacity before
-  pub has_times : (st : State) → HasTimesFor st old → HasTimesFor st times
   pub departures : 0 < reach → AreListed times order ds
 
 -- a list is cut at one of its elements
@@ -85,7 +89,7 @@ cut-at xs i x l is =
     let next : suc i ≡ i + 1 = omega arith in
     drop-cons xs i x l ∙ ap (λ y. y ∷ drop (suc i) xs) (sym is) ∙ ap (λ j. x ∷ drop j xs) next
 
-module _ {g : Timetabled} (valid : IsValid g.network g.state) {order : List Key} (is : IsOrderOf (events g.state) order) {old : StoredTimes} (held : All (λ k. has_time old (node_of k) ≡ true) order) {before : Vec Node Global} {i : ℕ} {times : StoredTimes} {changed : Vec Node Global} {reach : ℕ} {ds : List Departure} (part : IsPart g order old before i times changed reach ds) {k : Key} (l : i < length order) (at : k ≡ get_or order i k) {n : Node} (name : n ≡ node_of k) where
+module _ {g : Timetabled} (valid : IsValid g.network g.state) {order : List Key} (is : IsOrderOf (events g.state) order) {old : StoredTimes} (held : All (λ k. has_time old (node_of k) ≡ true) order) {i : ℕ} {times : StoredTimes} (timed : IsTimedPart g order old i times) {k : Key} (l : i < length order) (at : k ≡ get_or order i k) {n : Node} (name : n ≡ node_of k) where
   abbrev xs : List Key
   xs = take i order
 
@@ -96,22 +100,26 @@ module _ {g : Timetabled} (valid : IsValid g.network g.state) {order : List Key}
   whole = sym (take-append-drop i order) ∙ ap (λ zs. xs ++ zs) (cut-at order i k l at)
 
   pub part-live : is_live g.state n ≡ true
-  part-live = rw name (next-live g valid order is times xs k ys whole part.done)
+  part-live = rw name (next-live g valid order is times xs k ys whole timed.done)
 
   pub part-held : All (λ (e : Edge). has_time times (node_of e.from) ≡ true) (edges_to g n)
-  part-held = rw name (next-held g valid order is times xs k ys whole part.done)
+  part-held = rw name (next-held g valid order is times xs k ys whole timed.done)
 
   pub part-fits : All (λ (e : Edge). stored_time times e.from + e.weight < 2 ^ 25) (edges_to g n)
-  part-fits = rw name (next-fits g valid order is times xs k ys whole part.done)
+  part-fits = rw name (next-fits g valid order is times xs k ys whole timed.done)
+
+  pub part-local : local_at g times n ≡ Some (event_time g.network g.state k)
+  part-local = rw name (next-local g valid order is times xs k ys whole timed.done)
 
   left-over : length (drop i order) ≡ length ys + 1
   left-over = omega (arith, ap length (cut-at order i k l at))
 
-  pub part-room : vec_len changed < vec_capacity changed
-  part-room = omega (arith, part.room, left-over)
+  pub part-room : {before : Vec Node Global} {changed : Vec Node Global} {reach : ℕ} {ds : List Departure} → IsPart g order old before i times changed reach ds
+      → vec_len changed < vec_capacity changed
+  part-room part = omega (arith, part.room, left-over)
 
   rest : All (λ k. time_of times (node_of k) ≡ time_of old (node_of k)) (k ∷ ys)
-  rest = rw (cut-at order i k l at) at part.left
+  rest = rw (cut-at order i k l at) at timed.left
 
   same : time_of times (node_of k) ≡ time_of old (node_of k)
   same = rest 0 k (omega arith)
@@ -128,15 +136,15 @@ module _ {g : Timetabled} (valid : IsValid g.network g.state) {order : List Key}
     x-old = ap (λ o. unwrap_or o 0) (sym same) ∙ x-kept
 
     -- so its departure is listed at that time, and at no other
-    pub part-there : 0 < reach → k.dep ≡ true → Contains ds (departing_at x k)
-    part-there more departs = rw (← x-kept) (listed-there times order ds (part.departures more) k (i, l, sym at) departs)
+    pub part-there : {reach : ℕ} {ds : List Departure} → (0 < reach → AreListed times order ds) → 0 < reach → k.dep ≡ true → Contains ds (departing_at x k)
+    part-there listed more departs = rw (← x-kept) (listed-there times order _ (listed more) k (i, l, sym at) departs)
 
-    pub part-others : 0 < reach → (y : ℕ) → x ≢ y → All (λ d. departing_at y k ≢ d) ds
-    part-others more y differ = listed-others times order ds (part.departures more) k y (λ e. differ (sym x-kept ∙ e))
+    pub part-others : {reach : ℕ} {ds : List Departure} → (0 < reach → AreListed times order ds) → 0 < reach → (y : ℕ) → x ≢ y → All (λ d. departing_at y k ≢ d) ds
+    part-others listed more y differ = listed-others times order _ (listed more) k y (λ e. differ (sym x-kept ∙ e))
 
     module _ (new : StoredTimes) (y : ℕ) (rule : local_at g times n ≡ Some y) (later : time_of new n ≡ Some y) (others : (m : Node) → is_same_node n m ≡ false → time_of new m ≡ time_of times m) (fits : (st : State) → HasTimesFor st times → HasTimesFor st new) where
       settled : HasItsTime g.network g.state new k
-      settled = ap (time_of new) (sym name) ∙ later ∙ sym rule ∙ ap (local_at g times) name ∙ next-local g valid order is times xs k ys whole part.done
+      settled = ap (time_of new) (sym name) ∙ later ∙ sym rule ∙ ap (local_at g times) name ∙ next-local g valid order is times xs k ys whole timed.done
 
       y-kept : stored_time new k ≡ y
       y-kept = let own = rw name at later in rw own refl
@@ -155,7 +163,7 @@ module _ {g : Timetabled} (valid : IsValid g.network g.state) {order : List Key}
 
       -- the time of each other event of the order is as it was
       left-or : (q : Key) → Contains order q → (q ≡ k) ⊎ IsLeft q
-      left-or q h = elim (this-or-other g valid order is times xs k ys whole part.done q h) [ inl e ↦ inl e | inr other ↦ inr (others (node_of q) (rw name other)) ]
+      left-or q h = elim (this-or-other g valid order is times xs k ys whole timed.done q h) [ inl e ↦ inl e | inr other ↦ inr (others (node_of q) (rw name other)) ]
 
       first : All (HasItsTime g.network g.state new) (take (i + 1) order)
       first =
@@ -163,14 +171,14 @@ module _ {g : Timetabled} (valid : IsValid g.network g.state) {order : List Key}
           (All-append (HasItsTime g.network g.state new) xs (k ∷ [])
           (λ j d m. elim (left-or (get_or xs j d) (subst (λ zs. Contains zs (get_or xs j d)) (sym whole) (Contains-append_left xs (k ∷ ys) _ (All-itself xs j d m)))) [
             | inl e ↦ rw e settled
-            | inr left ↦ left ∙ part.done j d m
+            | inr left ↦ left ∙ timed.done j d m
           ])
           (All-cons (HasItsTime g.network g.state new) k [] settled (All-nil (HasItsTime g.network g.state new))))
 
       last : All (λ k. time_of new (node_of k) ≡ time_of old (node_of k)) ys
       last = λ j d m.
           elim (left-or (get_or ys j d) (subst (λ zs. Contains zs (get_or ys j d)) (sym whole) (Contains-append_right xs (k ∷ ys) _ (Contains-there k ys _ (All-itself ys j d m))))) [
-            | inl e ↦ absurd (differ-after g valid order is times xs k ys whole part.done j d m e)
+            | inl e ↦ absurd (differ-after g valid order is times xs k ys whole timed.done j d m e)
             | inr left ↦ left ∙ rest (suc j) d (omega arith)
           ]
 
@@ -181,36 +189,37 @@ module _ {g : Timetabled} (valid : IsValid g.network g.state) {order : List Key}
       abbrev more : List Key → List Node
       more ks = map node_of (filter (has_another g.network g.state old) ks)
 
-      -- one event more, for which another time was kept. Its departure is moved
-      pub more-changed : (next : Vec Node Global) → x ≢ y → next.items ≡ changed.items ++ node_of k ∷ [] → vec_len next ≡ vec_len changed + 1 → vec_capacity next ≡ vec_capacity changed
-          → (rest : ℕ) (now : List Departure) → (0 < rest → 0 < reach) → (0 < rest → k.dep ≡ true → IsRetimed (departing_at x k) (departing_at y k) ds now) → (k.dep ≡ false → now ≡ ds) → IsPart g order old before (i + 1) new next rest now
-      more-changed next r pushed long same rest now reaches moved stands =
-          let room = part.room in
-          record {
-            done = first;
-            left = last;
-            listed = rw (pushed, append_assoc) (rw (cut-at order i k l at, counts r) at part.listed);
-            room = omega (arith, left-over);
-            capacity = same ∙ part.capacity;
-            has_times = λ st h. fits st (part.has_times st h);
-            departures = λ more.
-                let h = part.departures (reaches more) in
-                elim (cases_Bool k.dep) [
-                  | inl departs ↦ listed-retimed times order ds h new k (λ j d m. left-or (get_or order j d) (All-itself order j d m)) now (rw (x-kept, y-kept) (moved more departs))
-                  | inr arrives ↦ subst (AreListed new order) (sym (stands arrives)) (listed-same times order ds h new (stay (λ departs. absurd (cc))))
-                ];
-          }
+      -- one event more
+      pub more-timed : IsTimedPart g order old (i + 1) new
+      more-timed = record { done = first; left = last; has_times = λ st h. fits st (timed.has_times st h) }
 
-      -- and one whose time it was
-      pub more-same : x ≡ y → IsPart g order old before (i + 1) new changed reach ds
-      more-same r =
-          let room = part.room in
-          record {
-            done = first;
-            left = last;
-            listed = rw (cut-at order i k l at, counts-not r) at part.listed;
-            room = omega (arith, left-over);
-            capacity = part.capacity;
-            has_times = λ st h. fits st (part.has_times st h);
-            departures = λ more. listed-same times order ds (part.departures more) new (stay (λ _. r));
-          }
+      module _ {before : Vec Node Global} {changed : Vec Node Global} {reach : ℕ} {ds : List Departure} (part : IsPart g order old before i times changed reach ds) where
+        -- one event more, for which another time was kept. Its departure is moved
+        pub more-changed : (next : Vec Node Global) → x ≢ y → next.items ≡ changed.items ++ node_of k ∷ [] → vec_len next ≡ vec_len changed + 1 → vec_capacity next ≡ vec_capacity changed
+            → (rest : ℕ) (now : List Departure) → (0 < rest → 0 < reach) → (0 < rest → k.dep ≡ true → IsRetimed (departing_at x k) (departing_at y k) ds now) → (k.dep ≡ false → now ≡ ds) → IsPart g order old before (i + 1) new next rest now
+        more-changed next r pushed long same rest now reaches moved stands =
+            let room = part.room in
+            record {
+              timed = more-timed;
+              listed = rw (pushed, append_assoc) (rw (cut-at order i k l at, counts r) at part.listed);
+              room = omega (arith, left-over);
+              capacity = same ∙ part.capacity;
+              departures = λ more.
+                  let h = part.departures (reaches more) in
+                  elim (cases_Bool k.dep) [
+                    | inl departs ↦ listed-retimed times order ds h new k (λ j d m. left-or (get_or order j d) (All-itself order j d m)) now (rw (x-kept, y-kept) (moved more departs))
+                    | inr arrives ↦ subst (AreListed new order) (sym (stands arrives)) (listed-same times order ds h new (stay (λ departs. absurd (cc))))
+                  ];
+            }
+
+        -- and one whose time it was
+        pub more-same : x ≡ y → IsPart g order old before (i + 1) new changed reach ds
+        more-same r =
+            let room = part.room in
+            record {
+              timed = more-timed;
+              listed = rw (cut-at order i k l at, counts-not r) at part.listed;
+              room = omega (arith, left-over);
+              capacity = part.capacity;
+              departures = λ more. listed-same times order ds (part.departures more) new (stay (λ _. r));
+            }

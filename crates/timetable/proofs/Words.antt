@@ -41,7 +41,7 @@ unfoldable pub use Rattle.train_nodes.specs.Times.{time_of}
 pub use Rattle.train_nodes.specs.Lists.{change_at}
 pub use Rattle.train_nodes.specs.Times.{AreSized, StoredTimes, blank_times, has_time, no_time, place_of, with_labels, with_time, with_train_times}
 pub use Rattle.train_nodes.specs.Kinds.{changed_train, message_by_choice, message_by_kind, message_of, message_of_shape}
-pub use Rattle.timetable.specs.AtStops.{AreAtStops, IsAtStop}
+pub use Rattle.edge_rules.specs.AtStops.{AreAtStops, IsAtStop}
 unfoldable pub use Rattle.timetable.specs.Changed.{changed_nodes}
 pub use Rattle.timetable.specs.Changed.{AreInOrder, IsChangedEvent, is_changed}
 unfoldable pub use Rattle.timetable.specs.Departures.{live_departures}

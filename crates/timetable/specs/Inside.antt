@@ -1,7 +1,6 @@
 -- How a timetable is seen, and what holds of it.
 use Rattle.std.specs.Prelude.{◌≡◌, ◌+◌, ◌*◌, ◌≤◌, length, vec_capacity}
 use Rattle.timetable.specs.declared.timetable.Timetable.TheInside.{Inside}
-use Rattle.timetable.specs.AtStops.{AreAtStops}
 use Rattle.timetable.specs.Departures.{live_departures}
 use Rattle.timetable.specs.Running.{Running}
 use Rattle.timetable.specs.Settled.{IsSettled, IsRoomy}
@@ -14,10 +13,9 @@ seen a = record {
   changed = a.changed.items;
 }
 
--- trains call at stops, the times of the live events are stored, the live departures are listed,
--- and there is room for the events that messages may add
+-- the times of the live events are stored, the live departures are listed, and there is room for the
+-- events that messages may add
 pub record IsTimed (a : Inside) : Type 0 where
-  pub at_stops : AreAtStops a.graph.network a.graph.state
   pub settled : IsSettled a.graph.network a.graph.state a.times a.order.items
   pub roomy : IsRoomy (length a.order.items) a.graph.state.spare_calls (vec_capacity a.order)
       (vec_capacity a.changed)

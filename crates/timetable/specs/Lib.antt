@@ -3,7 +3,7 @@ pub mod LiveTimes
 pub mod Sorted
 pub mod Changed
 pub mod Departures
-pub mod AtStops
 pub mod Settled
 pub mod Inside
 pub mod Shapes
+pub mod Scheduled

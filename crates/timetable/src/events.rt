@@ -46,6 +46,17 @@ fn list_keys(keys: &mut Vec<Key>, trains: &Trains) -> Result<(), OutOfMemory>
     Ok(())
 }
 
+/// How many events the trains have, counted by their labels: room for so many keys is taken at
+/// once, and not by doubling.
+fn event_room(trains: &Trains) -> usize {
+    let mut room: usize = 0;
+    for number in 0..trains.count() {
+        let labels = trains.next_label(TrainNo::new(number));
+        room = room.saturating_add(2 * labels.get() as usize);
+    }
+    room
+}
+
 /// The keys of the live events, in the order in which they are settled, with room for those that
 /// the spare calls may add.
 pub(crate) fn key_order(alloc: Global, trains: &Trains) -> Result<Vec<Key>, OutOfMemory>
@@ -54,10 +65,11 @@ pub(crate) fn key_order(alloc: Global, trains: &Trains) -> Result<Vec<Key>, OutO
     ensures room { IfOk result (λ order. length order.items + 2 * trains.now.spare_calls
         ≤ vec_capacity order) }
 {
-    let mut order = Vec::new(alloc);
+    let spare = 2 * trains.spare_calls() as usize;
+    let mut order = Vec::with_capacity(alloc, event_room(trains).saturating_add(spare))?;
     list_keys(&mut order, trains)?;
     order.sort_unstable();
-    order.reserve(2 * trains.spare_calls() as usize)?;
+    order.reserve(spare)?;
     Ok(order)
 }
 

@@ -9,6 +9,7 @@ pub mod laws;
 mod messages;
 mod prepare;
 mod retiming;
+mod scheduled;
 mod settle;
 pub mod timetable;
 

@@ -13,6 +13,7 @@ ghost use Rattle.timetable.specs.Settled.{IsOrderOf, IsSettled, HasItsTime, HasT
 
 use crate::departure_list::{Departure, renew_departures};
 use crate::retiming::retime;
+use crate::scheduled::have_schedule_alone;
 use edge_rules::Graph;
 use mt_base::keys::{Key, Node};
 use mt_base::numbers::Time;
@@ -122,12 +123,60 @@ pub(crate) fn settle<L: Ledger>(
     }
 }
 
-/// Stores the time of each of these events, lists the departures among them, and counts no step.
+/// Stores for each of these events, which are the live ones, its scheduled time, if nothing but the
+/// schedule is known of any event: then this is its time. It answers whether it did, and else
+/// changes nothing.
+fn store_schedule(graph: &Graph, order: &[Key], times: &mut NodeTimes) -> bool
+    requires valid { IsValid graph.now.network graph.now.state }
+    requires order { IsOrderOf (events graph.now.state) order.now }
+    requires held { All (λ k. IsTrue (has_time times.old (node_of k))) order.now }
+    ensures times { result ≡ true
+        → All (HasItsTime graph.now.network graph.now.state times.new) order.now }
+    ensures has_times { (st : AState) → HasTimesFor st times.old → HasTimesFor st times.new }
+    ensures unchanged { result ≡ false → times.new ≡ times.old }
+{
+    if !have_schedule_alone(graph.trains()) {
+        return false;
+    }
+    for k in order {
+        times.write(k.node(), k.time);
+    }
+    true
+}
+
+/// Stores the time of each of these events, which are the live ones in the order of their keys.
+fn time_each<L: Ledger>(graph: &Graph, order: &[Key], times: &mut NodeTimes, steps: &mut Steps<L>)
+    requires valid { IsValid graph.now.network graph.now.state }
+    requires order { IsOrderOf (events graph.now.state) order.now }
+    requires held { All (λ k. IsTrue (has_time times.old (node_of k))) order.now }
+    ensures times { All (HasItsTime graph.now.network graph.now.state times.new) order.now }
+    ensures has_times { (st : AState) → HasTimesFor st times.old → HasTimesFor st times.new }
+{
+    for k in order {
+        settle_one(graph, &k.node(), times, steps);
+    }
+}
+
+/// Stores the time of each of these events, which are the live ones in the order of their keys.
+/// Where nothing but the schedule is known, no rule is evaluated.
+fn time_all<L: Ledger>(graph: &Graph, order: &[Key], times: &mut NodeTimes, steps: &mut Steps<L>)
+    requires valid { IsValid graph.now.network graph.now.state }
+    requires order { IsOrderOf (events graph.now.state) order.now }
+    requires held { All (λ k. IsTrue (has_time times.old (node_of k))) order.now }
+    ensures times { All (HasItsTime graph.now.network graph.now.state times.new) order.now }
+    ensures has_times { (st : AState) → HasTimesFor st times.old → HasTimesFor st times.new }
+{
+    if !store_schedule(graph, order, times) {
+        time_each(graph, order, times, steps);
+    }
+}
+
+/// Stores the time of each of these events, which are the live ones in the order of their keys,
+/// lists the departures among them, and counts no step.
 pub(crate) fn settle_all<L: Ledger>(
     graph: &Graph,
     order: &[Key],
     times: &mut NodeTimes,
-    changed: &mut Vec<Node>,
     departures: &mut Vec<Departure>,
     blank: Blank,
 )
@@ -138,13 +187,12 @@ pub(crate) fn settle_all<L: Ledger>(
     requires order { IsOrderOf (events graph.now.state) order.now }
     requires held { All (λ k. IsTrue (has_time times.old (node_of k))) order.now }
     requires has_times { HasTimesFor graph.now.state times.old }
-    requires room { vec_len changed.old + length order.now ≤ vec_capacity changed.old }
     requires departures_room { length order.now ≤ vec_capacity departures.old }
     ensures settled { IsSettled graph.now.network graph.now.state times.new order.now }
-    ensures capacity { vec_capacity changed.new ≡ vec_capacity changed.old }
     ensures departures { departures.new.items ≡ live_departures graph.now.network graph.now.state }
     ensures departures_capacity { vec_capacity departures.old ≤ vec_capacity departures.new }
 {
     let mut steps = Steps::<L>::open(blank);
-    settle(graph, order, times, changed, departures, false, &mut steps);
+    time_all(graph, order, times, &mut steps);
+    renew_departures(departures, order, times, &mut steps);
 }

@@ -8,7 +8,7 @@ ghost use Rattle.delay_model.specs.Valid.{IsValid};
 ghost use Rattle.waiting_rules.specs.WaitTable.{parent_station};
 ghost use Rattle.edge_rules.specs.Held.{network_of};
 ghost use Rattle.graph_edit.specs.Values.{Answers};
-ghost use Rattle.timetable.specs.AtStops.{AreAtStops};
+ghost use Rattle.edge_rules.specs.AtStops.{AreAtStops};
 ghost use Rattle.timetable.specs.Departures.{departures_from};
 ghost use Rattle.timetable.specs.LiveTimes.{live_time};
 ghost use Rattle.timetable.specs.Running.{stepped};
@@ -94,21 +94,14 @@ impl Timetable {
           changed = [];
         }) }
     {
-        let mut times = trains.blank_times(alloc)?;
-        let order = key_order(alloc, &trains)?;
-        let room = order.len() + 2 * trains.spare_calls() as usize;
-        let mut changed = Vec::with_capacity(alloc, 2 * room)?;
+        let graph = Graph::build(alloc, trains, changes, waits, opts)?;
+        let all = graph.trains();
+        let mut times = all.blank_times(alloc)?;
+        let order = key_order(alloc, all)?;
+        let room = order.len() + 2 * all.spare_calls() as usize;
+        let changed = Vec::with_capacity(alloc, 2 * room)?;
         let mut departures = Vec::with_capacity(alloc, room)?;
-        let graph = Graph::build(trains, changes, waits, opts);
-        settle_all::<Brand>(
-            &graph,
-            &order,
-            &mut times,
-            &mut changed,
-            &mut departures,
-            Blank::new(1),
-        );
-        changed.clear();
+        settle_all::<Brand>(&graph, &order, &mut times, &mut departures, Blank::new(1));
         Ok(Timetable {
             graph,
             times,
@@ -234,7 +227,6 @@ impl Timetable {
     pub fn calls_are_at_stops(&self)
         ensures { AreAtStops self.now.network self.now.state }
     {
-        // A field is read, so that the check knows what the type keeps.
-        let _ = &self.graph;
+        self.graph.calls_are_at_stops();
     }
 }

@@ -25,3 +25,6 @@ pub mod StoredLemmas
 pub mod StoredSlotLemmas
 pub mod TimeLemmas
 pub mod TrainLines
+pub mod WordsShapes
+pub mod WordsStored
+pub mod WordsSlots

@@ -1,12 +1,7 @@
 -- Entries of added calls that name earlier ones of their train.
-use Rattle.std.proofs.Common.{◌≡◌, ℕ, zero, suc, ◌+◌, ◌-◌, ◌<◌, ◌≤◌, List, [], ◌∷◌, ◌++◌, true, false, cond, nat_eq, length, map, append-nil, subst, ◌⊎◌, inl, inr, refl, sym, ◌∙◌, ap, arith, Some, slice_get}
-use Rattle.std.specs.List.{filter}
-use Rattle.std.proofs.lemmas.Bool.Decides.{nat_tests}
-use Rattle.std.proofs.lemmas.List.{map-append}
-use Rattle.std.proofs.lemmas.List.Elements.{filter-append}
-use Rattle.std.proofs.lemmas.Option.{slice_get_within}
-use Rattle.train_nodes.specs.declared.slots.AddedCall.{AddedCall}
-use Rattle.train_nodes.specs.StoredSlots.{added_slots, IsEntry, IsJump, IsLink, AreLinked}
+use Rattle.train_nodes.proofs.WordsSlots.{◌≡◌, ℕ, zero, suc, ◌+◌, ◌-◌, ◌<◌, ◌≤◌, List, [], ◌∷◌, ◌++◌, true, false, cond, nat_eq, length, append-nil, subst, ◌⊎◌, inl, inr, refl, sym, ◌∙◌, ap}
+use Rattle.train_nodes.proofs.WordsSlots.{arith, Some, slice_get, filter, nat_tests, map-append, length-append, cases_lt, filter-append, slice_get_within, AddedCall, added_slots, IsEntry}
+use Rattle.train_nodes.proofs.WordsSlots.{IsJump, IsLink, AreLinked}
 
 -- the place of an entry is there
 pub entry-there : (xs : List AddedCall) (place t n : ℕ) → IsEntry xs place t n → place < length xs
@@ -14,9 +9,7 @@ entry-there xs place t n h = slice_get_within xs place h.entry h.is
 
 -- what stands there is the entry
 pub entry-same : (xs : List AddedCall) (place t n : ℕ) (e : AddedCall) → IsEntry xs place t n → slice_get xs place ≡ Some e → (e.train ≡ t) × (e.nth ≡ n)
-entry-same xs place t n e h is =
-    let same : h.entry ≡ e = cc in
-    (ap (λ (e : AddedCall). e.train) (sym same) ∙ h.train, ap (λ (e : AddedCall). e.nth) (sym same) ∙ h.nth)
+entry-same xs place t n e h is = (grind (arith, h.is, h.train), grind (arith, h.is, h.nth))
 
 -- the entry before one that is not the first of its train
 pub before-there : (xs : List AddedCall) (e : AddedCall) → IsLink xs e → 0 < e.nth → IsEntry xs e.before e.train (e.nth - 1)
@@ -30,60 +23,57 @@ pub record IsNamed (xs : List AddedCall) (from e : AddedCall) : Type 0 where
   pub earlier : 0 < from.nth → e.nth < from.nth
 
 pub jump-named : (xs : List AddedCall) (from e : AddedCall) → AreLinked xs → IsLink xs from → slice_get xs from.jump ≡ Some e → IsNamed xs from e
-jump-named xs from e all link is =
-    let same = entry-same xs from.jump from.train link.jump.to e link.jump.there is in
-    record { link = all from.jump e is; train = same.0; not_after = rw same.1 link.jump.not_after; earlier = rw same.1 link.jump.before }
+jump-named xs from e all link is = grind (arith, entry-same xs from.jump from.train link.jump.to e link.jump.there is, all from.jump e is, link.jump.not_after, link.jump.before)
 
 pub before-named : (xs : List AddedCall) (from e : AddedCall) → AreLinked xs → IsLink xs from → 0 < from.nth → slice_get xs from.before ≡ Some e → IsNamed xs from e × (e.nth + 1 ≡ from.nth)
-before-named xs from e all link some is =
-    let same = entry-same xs from.before from.train (from.nth - 1) e (before-there xs from link some) is in
-    (record { link = all from.before e is; train = same.0; not_after = omega arith; earlier = λ _. omega arith }, omega arith)
+before-named xs from e all link some is = grind (arith, entry-same xs from.before from.train (from.nth - 1) e (before-there xs from link some) is, all from.before e is)
 
 -- where an entry after one may jump to: to the entry itself, and to an earlier one
 pub jump-near : (xs : List AddedCall) (place t n : ℕ) → IsEntry xs place t n → IsJump xs place t (suc n)
-jump-near xs place t n h = record { to = n; there = h; not_after = omega arith; before = λ _. omega arith }
+jump-near xs place t n h = grind (arith, h)
 
 pub jump-far : (xs : List AddedCall) (place t n : ℕ) (b near far : AddedCall) → AreLinked xs → slice_get xs place ≡ Some b → slice_get xs b.jump ≡ Some near → slice_get xs near.jump ≡ Some far → IsEntry xs place t n → IsJump xs near.jump t (suc n)
 jump-far xs place t n b near far all b-is near-is far-is h =
-    let same = entry-same xs place t n b h b-is in
     let first = jump-named xs b near all (all place b b-is) near-is in
     let second = jump-named xs near far all first.link far-is in
-    let le : far.nth ≤ n = omega (arith, first.not_after, second.not_after, same.1) in
-    record { to = far.nth; there = record { entry = far; is = far-is; train = second.train ∙ first.train ∙ same.0; nth = refl }; not_after = omega arith; before = λ _. omega arith }
+    grind (arith, entry-same xs place t n b h b-is, first.train, first.not_after, second.train, second.not_after, far-is)
+
+-- what stands in two lists one after the other
+pub get-old : {X : Type 0} (xs ys : List X) (i : ℕ) → i < length xs → slice_get (xs ++ ys) i ≡ slice_get xs i
+get-old [] ys i l = absurd (omega arith)
+get-old (x ∷ xs) ys zero l = refl
+get-old (x ∷ xs) ys (suc i) l = get-old xs ys i (omega arith)
+
+pub get-past : {X : Type 0} (xs ys : List X) (i j : ℕ) → i ≡ length xs + j → slice_get (xs ++ ys) i ≡ slice_get ys j
+get-past [] ys i j e = ap (slice_get ys) (e ∙ omega arith)
+get-past (x ∷ xs) ys zero j e = absurd (omega arith)
+get-past (x ∷ xs) ys (suc i) j e = get-past xs ys i j (omega arith)
+
+pub get-end : {X : Type 0} (xs ys : List X) (y : X) (i : ℕ) → i ≡ length xs → slice_get (xs ++ y ∷ ys) i ≡ Some y
+get-end xs ys y i e = get-past xs (y ∷ ys) i 0 (omega arith)
 
 -- what stands in a list stands there with more behind it
 pub get-more : {X : Type 0} (xs ys : List X) (i : ℕ) (x : X) → slice_get xs i ≡ Some x → slice_get (xs ++ ys) i ≡ Some x
-get-more [] ys i x h = absurd (cc)
-get-more (z ∷ xs) ys zero x h = h
-get-more (z ∷ xs) ys (suc i) x h = get-more xs ys i x h
+get-more xs ys i x h = get-old xs ys i (slice_get_within xs i x h) ∙ h
 
 -- what stands in a list with one more element is that, or stood there before
 pub get-push : {X : Type 0} (xs : List X) (y : X) (i : ℕ) (x : X) → slice_get (xs ++ y ∷ []) i ≡ Some x → (slice_get xs i ≡ Some x) ⊎ ((i ≡ length xs) × (x ≡ y))
-get-push [] y zero x h = inr (refl, cc)
-get-push [] y (suc i) x h = absurd (cc)
-get-push (z ∷ xs) y zero x h = inl h
-get-push (z ∷ xs) y (suc i) x h = elim (get-push xs y i x h) [ inl old ↦ inl old | inr new ↦ inr (omega (arith, new.0), new.1) ]
-
-pub get-end : {X : Type 0} (xs ys : List X) (y : X) (i : ℕ) → i ≡ length xs → slice_get (xs ++ y ∷ ys) i ≡ Some y
-get-end [] ys y zero e = refl
-get-end [] ys y (suc i) e = absurd (omega arith)
-get-end (x ∷ xs) ys y zero e = absurd (omega arith)
-get-end (x ∷ xs) ys y (suc i) e = get-end xs ys y i (omega arith)
+get-push xs y i x h = elim (cases_lt i (length xs)) [
+  | inl l ↦ inl (sym (get-old xs (y ∷ []) i l) ∙ h)
+  | inr l ↦ (let at = slice_get_within (xs ++ y ∷ []) i x h in let e : i ≡ length xs = omega (arith, length-append xs (y ∷ [])) in let new = get-end xs [] y i e in inr (e, cc))
+]
 
 -- the slots of a train, with one more entry
 pub added-push : (t : ℕ) (xs : List AddedCall) (e : AddedCall) → added_slots t (xs ++ e ∷ []) ≡ added_slots t xs ++ cond (nat_eq e.train t) (e.slot ∷ []) []
 added-push t xs e =
-    ap (map (λ (c : AddedCall). c.slot)) (filter-append (λ (c : AddedCall). nat_eq c.train t) xs (e ∷ []))
-    ∙ map-append (λ (c : AddedCall). c.slot) (filter (λ (c : AddedCall). nat_eq c.train t) xs) (cond (nat_eq e.train t) (e ∷ []) [])
-    ∙ ap (λ ss. added_slots t xs ++ ss) (elim (nat_eq e.train t) as (λ b. map (λ (c : AddedCall). c.slot) (cond b (e ∷ []) []) ≡ cond b (e.slot ∷ []) []) [ true ↦ refl | false ↦ refl ])
+    let mine = λ (c : AddedCall). nat_eq c.train t in
+    rw (filter-append mine xs (e ∷ []), map-append (λ (c : AddedCall). c.slot) (filter mine xs) (filter mine (e ∷ []))) (grind arith)
 
 pub added-own : (t : ℕ) (xs : List AddedCall) (e : AddedCall) → e.train ≡ t → added_slots t (xs ++ e ∷ []) ≡ added_slots t xs ++ e.slot ∷ []
-added-own t xs e h = let own : nat_eq e.train t ≡ true = grind (arith, nat_tests) in added-push t xs e ∙ ap (λ b. added_slots t xs ++ cond b (e.slot ∷ []) []) own
+added-own t xs e h = let own : nat_eq e.train t ≡ true = grind (arith, nat_tests) in added-push t xs e ∙ rw own refl
 
 pub added-other : (t : ℕ) (xs : List AddedCall) (e : AddedCall) → (e.train ≡ t → ⊥) → added_slots t (xs ++ e ∷ []) ≡ added_slots t xs
-added-other t xs e h =
-    let other : nat_eq e.train t ≡ false = grind (arith, nat_tests) in
-    added-push t xs e ∙ ap (λ b. added_slots t xs ++ cond b (e.slot ∷ []) []) other ∙ append-nil (added_slots t xs)
+added-other t xs e h = let other : nat_eq e.train t ≡ false = grind (arith, nat_tests) in added-push t xs e ∙ rw other (append-nil (added_slots t xs))
 
 pub entry-more : (xs ys : List AddedCall) (place t n : ℕ) → IsEntry xs place t n → IsEntry (xs ++ ys) place t n
 entry-more xs ys place t n h = record { entry = h.entry; is = get-more xs ys place h.entry h.is; train = h.train; nth = h.nth }
@@ -91,14 +81,11 @@ entry-more xs ys place t n h = record { entry = h.entry; is = get-more xs ys pla
 pub jump-more : (xs ys : List AddedCall) (place t n : ℕ) → IsJump xs place t n → IsJump (xs ++ ys) place t n
 jump-more xs ys place t n h = record { to = h.to; there = entry-more xs ys place t h.to h.there; not_after = h.not_after; before = h.before }
 
-slot-more : (t : ℕ) (xs : List AddedCall) (e : AddedCall) (i slot : ℕ) → slice_get (added_slots t xs) i ≡ Some slot → slice_get (added_slots t (xs ++ e ∷ [])) i ≡ Some slot
-slot-more t xs e i slot h = rw (added-push t xs e) (get-more (added_slots t xs) (cond (nat_eq e.train t) (e.slot ∷ []) []) i slot h)
-
 -- an entry stays linked with one more behind it
 pub link-more : (xs : List AddedCall) (new e : AddedCall) → IsLink xs e → IsLink (xs ++ new ∷ []) e
 link-more xs new e h =
     record {
-      slot = slot-more e.train xs new e.nth e.slot h.slot;
+      slot = rw (added-push e.train xs new) (get-more (added_slots e.train xs) _ e.nth e.slot h.slot);
       before = λ n is. entry-more xs (new ∷ []) e.before e.train n (h.before n is);
       jump = jump-more xs (new ∷ []) e.jump e.train e.nth h.jump;
     }
@@ -119,9 +106,7 @@ pub record IsNext (xs : List AddedCall) (t n : ℕ) (e : AddedCall) : Type 0 whe
 
 next-slot : (xs : List AddedCall) (t n : ℕ) (e : AddedCall) → IsNext xs t n e → slice_get (added_slots e.train (xs ++ e ∷ [])) e.nth ≡ Some e.slot
 next-slot xs t n e h =
-    ap (λ t. slice_get (added_slots t (xs ++ e ∷ [])) e.nth) h.train
-    ∙ ap (λ ss. slice_get ss e.nth) (added-own t xs e h.train)
-    ∙ get-end (added_slots t xs) [] e.slot e.nth (h.nth ∙ sym h.count)
+    ap (λ t. slice_get (added_slots t (xs ++ e ∷ [])) e.nth) h.train ∙ rw (added-own t xs e h.train) (get-end (added_slots t xs) [] e.slot e.nth (h.nth ∙ sym h.count))
 
 next-jump : (xs : List AddedCall) (t n : ℕ) (e : AddedCall) → IsNext xs t n e → IsJump (xs ++ e ∷ []) e.jump t n
 next-jump xs t zero e h =

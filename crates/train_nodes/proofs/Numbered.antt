@@ -1,13 +1,6 @@
 -- Tests of labels, and calls whose labels count up.
-use Rattle.std.proofs.Common.{rules, ◌≡◌, ◌≢◌, ℕ, suc, ◌+◌, ◌<◌, ◌≤◌, List, [], ◌∷◌, true, false, nat_eq, length, refl, ◌∙◌, ap, arith, All}
-use Rattle.std.proofs.lemmas.Bool.Decides.{nat_tests}
-use Rattle.std.proofs.lemmas.List.Elements.{All-nil, All-cons, All-weaker}
-use Rattle.mt_base.specs.declared.plans.NewCall.{NewCall}
-use Rattle.delay_model.specs.declared.state.Call.{Call}
-use Rattle.delay_model.specs.Effect.{new_calls}
-use Rattle.delay_model.specs.Valid.{HasDistinctLabels}
-use Rattle.train_nodes.specs.declared.calls.TableCall.{TableCall}
-use Rattle.train_nodes.specs.Loaded.{loaded_from}
+use Rattle.train_nodes.proofs.WordsSlots.{rules, ◌≡◌, ◌≢◌, ℕ, suc, ◌+◌, ◌<◌, ◌≤◌, List, [], ◌∷◌, true, false, nat_eq, length, refl, ◌∙◌, ap, arith, All, nat_tests, All-nil, All-weaker}
+use Rattle.train_nodes.proofs.WordsSlots.{elements, NewCall, Call, new_calls, HasDistinctLabels, TableCall, loaded_from}
 
 pub nat_eq-same : (a : ℕ) → nat_eq a a ≡ true
 nat_eq-same a = search rules
@@ -28,15 +21,11 @@ AreNumbered label (c ∷ cs) = (c.label ≡ label) × AreNumbered (label + 1) cs
 
 pub numbered-from : (k : ℕ) (cs : List Call) → AreNumbered k cs → All (λ c. k ≤ c.label) cs
 numbered-from k [] h = All-nil (λ (c : Call). k ≤ c.label)
-numbered-from k (c ∷ cs) h =
-    let at : c.label ≡ k = h.0 in
-    All-cons (λ (c : Call). k ≤ c.label) c cs (omega arith) (All-weaker (λ c. k + 1 ≤ c.label) (λ c. k ≤ c.label) (λ c l. omega arith) cs (numbered-from (k + 1) cs h.1))
+numbered-from k (c ∷ cs) h = grind (arith, elements, h.0, All-weaker (λ c. k + 1 ≤ c.label) (λ c. k ≤ c.label) (λ c l. omega arith) cs (numbered-from (k + 1) cs h.1))
 
 pub numbered-below : (k next : ℕ) (cs : List Call) → AreNumbered k cs → k + length cs ≤ next → All (λ c. c.label < next) cs
 numbered-below k next [] h l = All-nil (λ (c : Call). c.label < next)
-numbered-below k next (c ∷ cs) h l =
-    let at : c.label ≡ k = h.0 in
-    All-cons (λ (c : Call). c.label < next) c cs (omega arith) (numbered-below (k + 1) next cs h.1 (omega arith))
+numbered-below k next (c ∷ cs) h l = grind (arith, elements, h.0, numbered-below (k + 1) next cs h.1)
 
 -- their labels differ
 pub numbered-distinct : (k : ℕ) (cs : List Call) → AreNumbered k cs → HasDistinctLabels cs

@@ -1,27 +1,11 @@
 -- Rows of overrides in the order of the arrivals, and the same in that of the departures.
-use Rattle.std.proofs.Common.{◌≡◌, ℕ, ◌+◌, ◌-◌, ◌<◌, ◌≤◌, vec_capacity, List, [], ◌∷◌, Bool, true, false, cond, not, length, refl, sym, ◌∙◌, ap, arith, Ordering}
-use Rattle.std.specs.List.{filter}
-use mir.Val.{bool_byte}
-use Rattle.std.specs.Bool.{passes}
-use Rattle.std.specs.declared.cmp.Ordering.TheVariants.{Less, Equal, Greater}
-use Rattle.std.specs.Cmp.{IsTotalOrder}
-use Rattle.std.specs.Ordering.{is_eq, ordering_then, eq_by_cmp}
+use Rattle.train_nodes.proofs.WordsSlots.{◌≡◌, ℕ, ◌+◌, ◌-◌, ◌<◌, ◌≤◌, vec_capacity, List, [], ◌∷◌, Bool, true, false, cond, not, length, refl, sym, ◌∙◌, ap, arith, Ordering, filter}
+use Rattle.train_nodes.proofs.WordsSlots.{bool_byte, passes, IsTotalOrder, is_eq, ordering_then, eq_by_cmp, IsAntisymmetric, find, put, is_sorted, from_sorted, from_entries, len, same_map}
+use Rattle.train_nodes.proofs.WordsSlots.{get-from_sorted, get-from_entries, len-insert, is_sorted-put, is_sorted-where_key, find-put, find-where_key, and_parts, then_total, on_total}
+use Rattle.train_nodes.proofs.WordsSlots.{node_cmp, nodes_total, Connection, Override, connection_cmp, connections_total, exact_connections, End, Arrival, Departure, end_cmp, AreTurned}
 use Rattle.std.specs.FinMap as map
-use Rattle.std.specs.FinMap.{IsAntisymmetric, find, put, is_sorted, from_sorted, from_entries, len, same_map, get-from_sorted, get-from_entries, len-insert}
-use Rattle.std.specs.FinMap.Entries.{is_sorted-put, is_sorted-where_key, find-put, find-where_key}
-use Rattle.std.proofs.lemmas.Bool.{and_parts}
-use Rattle.std.proofs.lemmas.Cmp.{then_total, on_total}
-use Rattle.mt_base.specs.Order.{node_cmp}
-use Rattle.mt_base.proofs.KeyLemmas.{nodes_total}
-use Rattle.delay_model.specs.declared.overrides.Connection.{Connection}
-use Rattle.delay_model.specs.declared.overrides.Override.{Override}
-use Rattle.delay_model.specs.Overrides.{connection_cmp}
-use Rattle.delay_model.proofs.ConnectionLemmas.{connections_total, exact_connections}
-use Rattle.train_nodes.specs.declared.override_rows.End.{End}
-use Rattle.train_nodes.specs.declared.override_rows.End.TheVariants.{Arrival, Departure}
-use Rattle.train_nodes.specs.OverrideRows.{end_cmp}
 use Rattle.train_nodes.specs.declared.override_table.OverrideTable.TheInside.{Inside}
-use Rattle.train_nodes.specs.StoredOverrides.{AreTurned, AreStored}
+use Rattle.train_nodes.specs.StoredOverrides.{AreStored}
 use Rattle.train_nodes.proofs.PlaceLemmas.{truth, find-below}
 
 -- each of the two orders is total, and tells connections apart
@@ -30,20 +14,7 @@ ends_total Arrival = connections_total
 ends_total Departure = then_total (on_total (λ p. p.departure) nodes_total) (on_total (λ p. p.arrival) nodes_total)
 
 then-turned : (a b : Ordering) → is_eq (ordering_then a b) ≡ is_eq (ordering_then b a)
-then-turned Less Less = refl
-then-turned Less Equal = refl
-then-turned Less Greater = refl
-then-turned Equal Less = refl
-then-turned Equal Equal = refl
-then-turned Equal Greater = refl
-then-turned Greater Less = refl
-then-turned Greater Equal = refl
-then-turned Greater Greater = refl
-
-eq-Equal : (a : Ordering) → is_eq a ≡ true → a ≡ Equal
-eq-Equal Less h = cc
-eq-Equal Equal h = refl
-eq-Equal Greater h = cc
+then-turned a b = grind arith
 
 -- the orders tell the same connections apart
 pub tied-alike : (end : End) (p q : Connection) → eq_by_cmp (end_cmp end) p q ≡ eq_by_cmp connection_cmp p q
@@ -51,7 +22,7 @@ tied-alike Arrival p q = refl
 tied-alike Departure p q = then-turned (node_cmp p.departure q.departure) (node_cmp p.arrival q.arrival)
 
 pub exact_ends : (end : End) → IsAntisymmetric (end_cmp end)
-exact_ends end p q h = exact_connections p q (eq-Equal _ (sym (tied-alike end p q) ∙ ap is_eq h))
+exact_ends end p q h = exact_connections p q (grind (arith, tied-alike end p q, h))
 
 find-alike : (end : End) (q : Connection) (es : List (Connection × Override)) → find (end_cmp end) q es ≡ find connection_cmp q es
 find-alike end q [] = refl
@@ -80,26 +51,18 @@ entries-count end [] h = map.len-empty connection_cmp Override
 entries-count end (e ∷ es) h =
     let parts = and_parts _ _ h in
     let absent = get-from_entries connections_total es e.0 ∙ sym (find-alike end e.0 es) ∙ find-below (ends_total end) e.0 es parts.0 in
-    let rest = entries-count end es parts.1 in
-    len-insert connections_total (from_entries es) e.0 e.1 ∙ (rw absent (omega (arith, rest)))
+    grind (arith, len-insert connections_total (from_entries es) e.0 e.1, absent, entries-count end es parts.1)
 
 -- there are as many in the one order as in the other
 pub turned-count : (es fs : List (Connection × Override)) → AreTurned es fs → length fs ≡ length es
 turned-count es fs h =
     let all : from_entries {R = connection_cmp} fs ≡ from_entries es = same_map connections_total exact_connections _ _ (λ q.
-    get-from_entries connections_total fs q ∙ sym (find-alike Departure q fs) ∙ h.same q ∙ sym (get-from_entries connections_total es q)) in
-    sym (entries-count Departure fs h.turned) ∙ ap len all ∙ entries-count Arrival es h.sorted
+    grind (arith, get-from_entries connections_total fs q, find-alike Departure q fs, h.same q, get-from_entries connections_total es q)) in
+    grind (arith, entries-count Departure fs h.turned, all, entries-count Arrival es h.sorted)
 
 -- the same number of choices and spare ones, in both orders, is stored
 pub stored-with : (a b : Inside) → AreStored a → AreTurned b.by_arrival.items b.by_departure.items → length b.by_arrival.items + b.spare ≡ length a.by_arrival.items + a.spare → vec_capacity a.by_arrival ≤ vec_capacity b.by_arrival → vec_capacity a.by_departure ≤ vec_capacity b.by_departure → AreStored b
-stored-with a b h choices total room turned_room =
-    record {
-      choices = choices;
-      count = turned-count b.by_arrival.items b.by_departure.items choices;
-      room = omega (arith, h.room, total, room);
-      turned_room = omega (arith, h.turned_room, total, turned_room);
-      small = omega (arith, h.small, total);
-    }
+stored-with a b h choices total room turned_room = grind (arith, choices, turned-count b.by_arrival.items b.by_departure.items choices, h.room, h.turned_room, h.small)
 
 -- what is chosen, by the rows
 pub chosen : (a : Inside) (k : Connection) → AreStored a → map.get (from_sorted {R = connection_cmp} a.by_arrival.items) k ≡ find connection_cmp k a.by_arrival.items
@@ -112,8 +75,7 @@ pub record IsTaken (was : Bool) (spare n len : ℕ) : Type 0 where
   pub total : cond was len (len + 1) + (spare - n) ≡ len + spare
 
 pub taken : (was new : Bool) (spare n len : ℕ) → new ≡ not was → n ≡ bool_byte new → (was ≡ false → 0 < spare) → IsTaken was spare n len
-taken false new spare n len e f h = let one = f ∙ ap bool_byte e in let some = h refl in record { within = omega arith; left = omega arith; total = omega arith }
-taken true new spare n len e f h = let none = f ∙ ap bool_byte e in record { within = omega arith; left = omega arith; total = omega arith }
+taken was new spare n len e f h = grind (arith, e, f, h)
 
 -- a choice fewer gives one back if it was there
 pub record IsGiven (was : Bool) (spare n len left : ℕ) : Type 0 where
@@ -121,5 +83,4 @@ pub record IsGiven (was : Bool) (spare n len left : ℕ) : Type 0 where
   pub total : left + (spare + n) ≡ len + spare
 
 pub given : (was result : Bool) (spare n len left : ℕ) → result ≡ was → n ≡ bool_byte result → cond was 1 0 + left ≡ len → IsGiven was spare n len left
-given false result spare n len left e f h = let none = f ∙ ap bool_byte e in record { more = omega arith; total = omega arith }
-given true result spare n len left e f h = let one = f ∙ ap bool_byte e in record { more = omega arith; total = omega arith }
+given was result spare n len left e f h = grind (arith, e, f, h)

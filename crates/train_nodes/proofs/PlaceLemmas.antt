@@ -1,22 +1,10 @@
 -- A place in a list of entries in order, and what an edit there does.
-use Rattle.std.proofs.Common.{◌≡◌, ℕ, zero, suc, ◌<◌, ◌≤◌, List, [], ◌∷◌, Bool, true, false, cond, not, T, length, get_or, refl, sym, ◌∙◌, ap, arith, Some, None, Ordering, Result, Ok, Err, IfOk, IfErr}
-use Rattle.std.proofs.Math.ListN.{set}
-use Rattle.std.specs.Bool.{passes}
-use Rattle.std.specs.declared.cmp.Ordering.TheVariants.{Less, Equal, Greater}
-use Rattle.std.specs.Cmp.{IsTotalOrder}
-use Rattle.std.specs.Ordering.{is_eq, is_lt, eq_by_cmp, ordering_index, ordering_reverse}
-use Rattle.std.specs.List.{HoldsAt, insert, remove}
-use Rattle.std.specs.List.Sorted.{IsNonDecreasingBy, IsPartitionPoint, IsSearchInRange, IsBinarySearchResult}
+use Rattle.train_nodes.proofs.WordsSlots.{◌≡◌, ℕ, zero, suc, ◌<◌, ◌≤◌, List, [], ◌∷◌, Bool, true, false, cond, not, T, length, get_or, refl, sym, ◌∙◌, ap, arith, Some, None, Ordering}
+use Rattle.train_nodes.proofs.WordsSlots.{Result, Ok, Err, IfOk, IfErr, set, passes, Less, Equal, Greater, IsTotalOrder, is_eq, is_lt, eq_by_cmp, ordering_index, ordering_reverse, HoldsAt}
+use Rattle.train_nodes.proofs.WordsSlots.{insert, remove, IsNonDecreasingBy, IsPartitionPoint, IsSearchInRange, IsBinarySearchResult, IsAntisymmetric, find, put, is_sorted, from_sorted}
+use Rattle.train_nodes.proofs.WordsSlots.{same_map, retain_keys, get-from_sorted, get-insert, get-remove, get-retain_keys, below_all, where_key, is_sorted-put, is_sorted-where_key, find-put}
+use Rattle.train_nodes.proofs.WordsSlots.{find-where_key, and_parts, tied_back, alike_right, eq_by_cmp_equiv}
 use Rattle.std.specs.FinMap as map
-use Rattle.std.specs.FinMap.{IsAntisymmetric, find, put, is_sorted, from_sorted, same_map, retain_keys, get-from_sorted, get-insert, get-remove, get-retain_keys}
-use Rattle.std.specs.FinMap.Entries.{below_all, where_key, is_sorted-put, is_sorted-where_key, find-put, find-where_key}
-use Rattle.std.proofs.lemmas.Bool.{and_parts}
-use Rattle.std.proofs.lemmas.Cmp.{tied_back, alike_right, eq_by_cmp_equiv}
-
-is_lt-Less : (a : Ordering) → is_lt a ≡ true → a ≡ Less
-is_lt-Less Less h = refl
-is_lt-Less Equal h = absurd (cc)
-is_lt-Less Greater h = absurd (cc)
 
 pub truth : (b : Bool) → T b → b ≡ true
 truth true h = refl
@@ -24,13 +12,10 @@ truth false h = absurd h
 
 -- of two answers of a comparison with one key, the first is no greater
 pub index-rises : (a b : Ordering) → (a ≡ Equal → b ≡ Greater) → (a ≡ Greater → b ≡ Greater) → ordering_index a ≤ ordering_index b
-index-rises Less b f g = omega arith
-index-rises Equal b f g = rw (f refl) (omega arith)
-index-rises Greater b f g = rw (g refl) (omega arith)
+index-rises a b f g = grind (arith, f, g)
 
 turned : {A : Type 0} (b : Bool) (x y : A) → cond (not b) x y ≡ cond b y x
-turned true x y = refl
-turned false x y = refl
+turned b x y = grind arith
 
 module _ {K : Type 0} {R : K → K → Ordering} (o : IsTotalOrder R) where
   pub above : (x y : K) → R x y ≡ Less → R y x ≡ Greater
@@ -45,7 +30,7 @@ module _ {K : Type 0} {R : K → K → Ordering} (o : IsTotalOrder R) where
     others k = where_key R (λ x. not (eq_by_cmp R k x))
 
     pub first-below : (x : K) (e : K × X) (es : List (K × X)) → below_all R x (e ∷ es) ≡ true → R x e.0 ≡ Less
-    first-below x e es h = is_lt-Less (R x e.0) (and_parts (is_lt (R x e.0)) (below_all R x es) h).0
+    first-below x e es h = grind (arith, and_parts (is_lt (R x e.0)) (below_all R x es) h)
 
     -- a key below all keys has no entry
     pub find-below : (x : K) (es : List (K × X)) → below_all R x es ≡ true → find R x es ≡ None
@@ -110,11 +95,6 @@ module _ {K : Type 0} {R : K → K → Ordering} (o : IsTotalOrder R) where
     pub searched : (es : List (K × X)) (k : K) (r : Result ℕ ℕ) → is_sorted R es ≡ true → IsSearchInRange r (length es) → IsBinarySearchResult (λ e. R e.0 k) es r → record { within : IsSearchInRange r (length es); found : IfOk r (HoldsAt (λ e. R e.0 k ≡ Equal) es); absent : IfErr r (IsPartitionPoint (λ e. R e.0 k ≡ Less) (λ e. R e.0 k ≡ Greater) es) }
     searched es k (Ok i) s l h = record { within = l; found = h; absent = tt }
     searched es k (Err i) s l h = record { within = l; found = tt; absent = h (comparisons-rise es k s) }
-
-    -- a list in order is the finite map
-    pub record IsListOf (es : List (K × X)) (m : map.FinMap R X) : Type 0 where
-      pub sorted : is_sorted R es ≡ true
-      pub is : from_sorted es ≡ m
 
     -- the same of a list that is read as another
     pub at-found : (es fs : List (K × X)) (k : K) (i : ℕ) → fs ≡ es → is_sorted R es ≡ true → i < length fs → HoldsAt (λ e. R e.0 k ≡ Equal) fs i → IsFound k es i

@@ -1,15 +1,10 @@
 -- Stored slots, with one more train and with one more call.
-use Rattle.std.proofs.Common.{◌≡◌, ℕ, zero, suc, ◌+◌, ◌-◌, ◌<◌, ◌≤◌, ◌⊎◌, inl, inr, List, [], ◌∷◌, ◌++◌, length, append-nil, Vec, Global, refl, sym, ◌∙◌, ap, subst, arith, Some, slice_get}
-use Rattle.std.proofs.Math.ListN.{set}
-use Rattle.std.proofs.lemmas.List.{length-append, length-set}
-use Rattle.std.proofs.lemmas.Option.{slice_get_within}
-use Rattle.std.specs.Vec.{vec_capacity}
-use Rattle.train_nodes.specs.declared.slots.AddedCall.{AddedCall}
-use Rattle.train_nodes.specs.declared.slots.SlotRow.{SlotRow}
+use Rattle.train_nodes.proofs.WordsSlots.{cases_eq, ◌≡◌, ℕ, ◌+◌, ◌-◌, ◌<◌, ◌≤◌, ◌⊎◌, inl, inr, List, [], ◌∷◌, ◌++◌, length, append-nil, Vec, Global, refl, sym, ◌∙◌, ap, subst, arith, Some}
+use Rattle.train_nodes.proofs.WordsSlots.{slice_get, set, length-append, length-set, slice_get_within, vec_capacity, AddedCall, SlotRow, slots_from, with_numbered, with_more, added_slots}
+use Rattle.train_nodes.proofs.WordsSlots.{IsLink, IsSlotRow}
+use Rattle.train_nodes.proofs.RenewLemmas.{slice_get-set_same, slice_get-set_other}
 use Rattle.train_nodes.specs.declared.slots.Slots.TheInside.{Inside}
-use Rattle.train_nodes.specs.Lists.{change_at}
-use Rattle.train_nodes.specs.Numbering.{NumberedTrain, slots_from, with_numbered, with_more}
-use Rattle.train_nodes.specs.StoredSlots.{added_slots, numbered_trains, IsLink, IsSlotRow, AreStored, seen}
+use Rattle.train_nodes.specs.StoredSlots.{AreStored, seen}
 use Rattle.train_nodes.proofs.LinkLemmas.{get-push, get-end, entry-more, linked-more, added-own, added-other}
 use Rattle.train_nodes.proofs.SlotLemmas.{numbered-push, numbered-add, train-of}
 use Rattle.train_nodes.proofs.NumberingLemmas.{grown-numbering, train-grown, calls-grown}
@@ -33,22 +28,13 @@ pub record IsPushed (calls : ℕ) (a b : Inside) : Type 0 where
 
 pub pushed-seen : (calls : ℕ) (a b : Inside) → IsPushed calls a b → seen b ≡ with_numbered calls (seen a)
 pushed-seen calls a b h =
-    let all = ap (λ rs. numbered_trains a.added.items 0 rs) h.rows ∙ numbered-push a.added.items 0 a.rows.items (new_row a.used calls) in
     let none = h.stored.owned (length a.rows.items + 0) (omega arith) in
-    let slots = ap (λ ss. slots_from a.used calls ++ ss) none ∙ append-nil (slots_from a.used calls) in
-    let added = ap (λ (v : Vec AddedCall Global). numbered_trains v.items 0 b.rows.items) h.added in
-    let used = h.used in
-    let trains = h.spare_trains in
-    let calls = h.spare_calls in
-    cc
+    grind (arith, h.rows, numbered-push a.added.items 0 a.rows.items (new_row a.used calls), none, append-nil (slots_from a.used calls), h.added, h.used, h.spare_trains, h.spare_calls)
 
--- a row of a train is still right when more slots are used
-row-later : (added : List AddedCall) (used more t : ℕ) (r : SlotRow) → IsSlotRow added used t r → IsSlotRow added (used + more) t r
-row-later added used more t r h = record { count = h.count; last = h.last; within = omega (arith, h.within); small = omega (arith, h.small); some = h.some }
-
+-- each row is right with one more train
 pushed-row : (calls : ℕ) (a : Inside) (t : ℕ) (r : SlotRow) → AreStored a → 1 ≤ calls → slice_get (a.rows.items ++ new_row a.used calls ∷ []) t ≡ Some r → IsSlotRow a.added.items (a.used + calls) t r
 pushed-row calls a t r old some is = elim (get-push a.rows.items (new_row a.used calls) t r is) [
-  | inl was ↦ row-later a.added.items a.used calls t r (old.rows t r was)
+  | inl was ↦ grind (arith, old.rows t r was)
   | inr new ↦ subst (IsSlotRow a.added.items (a.used + calls) t) (sym new.1) record { count = ap length (old.owned t (omega (arith, new.0))); last = λ n e. absurd (omega arith); within = omega arith; small = omega arith; some = some }
 ]
 
@@ -88,41 +74,24 @@ pub record IsAdded (t : ℕ) (old : SlotRow) (e : AddedCall) (a b : Inside) : Ty
 
 pub added-seen : (t : ℕ) (old : SlotRow) (e : AddedCall) (a b : Inside) → IsAdded t old e a b → seen b ≡ with_more t 1 (seen a)
 added-seen t old e a b h =
-    let all = ap (λ xs. numbered_trains xs 0 b.rows.items) h.added ∙ ap (λ rs. numbered_trains (a.added.items ++ e ∷ []) 0 rs) h.rows in
     let new = numbered-add a.added.items e 0 a.rows.items t old record old { added = old.added + 1; last = length a.added.items } h.row refl refl (omega (arith, h.train)) in
-    let slot = ap (λ s. change_at t (λ (n : NumberedTrain). record n { slots = n.slots ++ s ∷ [] }) (numbered_trains a.added.items 0 a.rows.items)) h.slot in
-    let used = h.used in
-    let trains = h.spare_trains in
-    let calls = h.spare_calls in
-    cc
+    grind (arith, h.added, h.rows, new, h.slot, h.used, h.spare_trains, h.spare_calls)
 
 get-set : {X : Type 0} (xs : List X) (i j : ℕ) (x y : X) → slice_get (set xs i x) j ≡ Some y → ((j ≡ i) × (y ≡ x)) ⊎ ((j ≡ i → ⊥) × (slice_get xs j ≡ Some y))
-get-set [] i j x y h = absurd (cc)
-get-set (z ∷ xs) zero zero x y h = inl (refl, cc)
-get-set (z ∷ xs) zero (suc j) x y h = inr ((λ e. absurd (omega arith)), h)
-get-set (z ∷ xs) (suc i) zero x y h = inr ((λ e. absurd (omega arith)), h)
-get-set (z ∷ xs) (suc i) (suc j) x y h = elim (get-set xs i j x y h) [ inl new ↦ inl (ap suc new.0, new.1) | inr old ↦ inr ((λ e. old.0 (omega arith)), old.1) ]
+get-set xs i j x y h = elim (cases_eq j i) [
+  | inl same ↦ inl (same, grind (arith, same, h, slice_get-set_same xs i x, slice_get_within (set xs i x) j y h, length-set xs i x))
+  | inr apart ↦ inr (apart, sym (slice_get-set_other xs i j x apart) ∙ h)
+]
 
 row-other : (added : List AddedCall) (e : AddedCall) (used t : ℕ) (r : SlotRow) → (e.train ≡ t → ⊥) → IsSlotRow added used t r → IsSlotRow (added ++ e ∷ []) (used + 1) t r
 row-other added e used t r other h =
-    record {
-      count = ap length (added-other t added e other) ∙ h.count;
-      last = λ n is. entry-more added (e ∷ []) r.last t n (h.last n is);
-      within = omega (arith, h.within);
-      small = omega (arith, h.small);
-      some = h.some;
-    }
+    record { count = ap length (added-other t added e other) ∙ h.count; last = λ n is. entry-more added (e ∷ []) r.last t n (h.last n is); within = omega (arith, h.within); small = omega (arith, h.small); some = h.some }
 
 added-row : (t : ℕ) (old : SlotRow) (e : AddedCall) (a b : Inside) → IsAdded t old e a b → IsSlotRow (a.added.items ++ e ∷ []) (a.used + 1) t record old { added = old.added + 1; last = length a.added.items }
 added-row t old e a b h =
     let row = h.stored.rows t old h.row in
-    record {
-      count = omega (arith, ap length (added-own t a.added.items e h.train), length-append (added_slots t a.added.items) (e.slot ∷ []), row.count);
-      last = λ n is. record { entry = e; is = get-end a.added.items [] e (length a.added.items) refl; train = h.train; nth = omega (arith, h.nth) };
-      within = omega (arith, row.within);
-      small = omega (arith, row.small);
-      some = row.some;
-    }
+    let slots = ap length (added-own t a.added.items e h.train) in
+    grind (arith, slots, length-append (added_slots t a.added.items) (e.slot ∷ []), row, get-end a.added.items [] e (length a.added.items) refl, h.train, h.nth)
 
 pub added-stored : (t : ℕ) (old : SlotRow) (e : AddedCall) (a b : Inside) → IsAdded t old e a b → AreStored b
 added-stored t old e a b h =

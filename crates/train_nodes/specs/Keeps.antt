@@ -14,8 +14,12 @@ IsKept overrides arrival departure = get overrides (connection arrival departure
 
 -- the arrivals whose connection to the departure is kept, in the order of the overrides
 unfoldable pub kept_into : FinMap connection_cmp Override → Node → List Node
-kept_into overrides departure = map (λ e. e.0.arrival) (filter (λ e. is_same_node e.0.departure departure && is_keep e.1) (entries overrides))
+kept_into overrides departure =
+    map (λ e. e.0.arrival) (filter (λ e. is_same_node e.0.departure departure && is_keep e.1)
+    (entries overrides))
 
 -- the departures to which the connection from the arrival is kept, in the order of the overrides
 unfoldable pub kept_from : FinMap connection_cmp Override → Node → List Node
-kept_from overrides arrival = map (λ e. e.0.departure) (filter (λ e. is_same_node e.0.arrival arrival && is_keep e.1) (entries overrides))
+kept_from overrides arrival =
+    map (λ e. e.0.departure) (filter (λ e. is_same_node e.0.arrival arrival && is_keep e.1)
+    (entries overrides))

@@ -51,13 +51,6 @@ changed_train (Shapes.Cancel train from to) = train
 changed_train (Shapes.Reroute train from to via) = train
 changed_train (Shapes.Extra train day route calls) = train
 
--- the message changes which calls a train makes or which of its events take place
-abbrev pub IsShape : Message → Type 0
-IsShape (Cancel train from to) = Unit {0}
-IsShape (Reroute train from to via) = Unit {0}
-IsShape (Extra train day route calls) = Unit {0}
-IsShape _ = ⊥
-
 -- the message makes fewer than 2^31 new calls, so that each has a label
 abbrev pub HasFewCalls : Message → Type 0
 HasFewCalls (Reroute train from to via) = length via < 2 ^ 31

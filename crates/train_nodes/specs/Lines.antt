@@ -20,15 +20,18 @@ pub record IsLineCall (cs : List StoredCall) (train len : ℕ) (at : ℕ → ℕ
 -- the calls of a train stand in these slots, and no other call is one of its calls now
 pub record IsLineAt (cs : List StoredCall) (train len : ℕ) (at : ℕ → ℕ) : Type 0 where
   pub calls : (place : ℕ) → place < len → IsLineCall cs train len at place
-  pub covers : (i : ℕ) (x : StoredCall) → slice_get cs i ≡ Some x → x.train ≡ train → x.current ≡ true
+  pub covers : (i : ℕ) (x : StoredCall) → slice_get cs i ≡ Some x → x.train ≡ train
+      → x.current ≡ true
       → (place : ℕ) × (place < len) × (at place ≡ i)
 
 -- and each knows its place
 pub record IsPlacedAt (cs : List StoredCall) (train len : ℕ) (at : ℕ → ℕ) : Type 0 where
   pub line : IsLineAt cs train len at
-  pub places : (place : ℕ) (x : StoredCall) → place < len → slice_get cs (at place) ≡ Some x → x.place ≡ place
+  pub places : (place : ℕ) (x : StoredCall) → place < len → slice_get cs (at place) ≡ Some x
+      → x.place ≡ place
 
--- a part of a train: the calls in two slots, which stand at two places of its line, the one before the other
+-- a part of a train: the calls in two slots, which stand at two places of its line, the one before
+-- the other
 pub record IsPart (cs : List StoredCall) (train from to first last : ℕ) : Type 0 where
   pub len : ℕ
   pub at : ℕ → ℕ
@@ -38,13 +41,16 @@ pub record IsPart (cs : List StoredCall) (train from to first last : ℕ) : Type
   pub order : first < last
   pub within : last < len
 
--- what a call is once the events from the departure at one place of a train to the arrival at another are killed
+-- what a call is once the events from the departure at one place of a train to the arrival at
+-- another are killed
 abbrev pub killed_by : ℕ → ℕ → ℕ → StoredCall → Call
 killed_by train first last x =
     let mine = nat_eq x.train train && x.current in
     record (call_of x) {
-      arrival = killed (mine && (nat_lt first x.place && nat_le x.place last)) (values_by x.arrival);
-      departure = killed (mine && (nat_le first x.place && nat_lt x.place last)) (values_by x.departure);
+      arrival = killed (mine && (nat_lt first x.place && nat_le x.place last))
+          (values_by x.arrival);
+      departure = killed (mine && (nat_le first x.place && nat_lt x.place last))
+          (values_by x.departure);
     }
 
 -- a call before and after its events in a part of a train were killed
@@ -56,15 +62,19 @@ pub record IsKilledCall (train first last : ℕ) (x y : StoredCall) : Type 0 whe
 -- all calls before and after the events in a part of a train were killed
 pub record IsKilled (train first last : ℕ) (old new : List StoredCall) : Type 0 where
   pub same_count : length new ≡ length old
-  pub calls : (i : ℕ) (x : StoredCall) → slice_get old i ≡ Some x → (y : StoredCall) × (slice_get new i ≡ Some y) × IsKilledCall train first last x y
+  pub calls : (i : ℕ) (x : StoredCall) → slice_get old i ≡ Some x → (y : StoredCall)
+      × (slice_get new i ≡ Some y) × IsKilledCall train first last x y
 
--- the parts of a train from one call to another that stands after it: none where the second stands at or before the first
+-- the parts of a train from one call to another that stands after it: none where the second stands
+-- at or before the first
 abbrev pub HasNoPart : List StoredCall → Numbering → ℕ → ℕ → ℕ → Type 0
 HasNoPart cs nb train from to =
-    (i j : ℕ) → (u : IsCurrentAt cs nb train from i) → (v : IsCurrentAt cs nb train to j) → v.call.place ≤ u.call.place
+    (i j : ℕ) → (u : IsCurrentAt cs nb train from i) → (v : IsCurrentAt cs nb train to j)
+    → v.call.place ≤ u.call.place
 
 -- the part from the call of one label to that of another
-pub record IsPartOf (cs : List StoredCall) (nb : Numbering) (train from to : ℕ) (p : Part) : Type 0 where
+pub record IsPartOf (cs : List StoredCall) (nb : Numbering) (train from to : ℕ)
+    (p : Part) : Type 0 where
   pub train_is : p.train ≡ train
   pub start : IsCurrentAt cs nb train from p.from
   pub end : IsCurrentAt cs nb train to p.to
@@ -84,9 +94,11 @@ pub record IsTakenOut (train first last : ℕ) (x y : StoredCall) : Type 0 where
 -- all calls before and after
 pub record AreTakenOut (train first last : ℕ) (old new : List StoredCall) : Type 0 where
   pub same_count : length new ≡ length old
-  pub calls : (i : ℕ) (x : StoredCall) → slice_get old i ≡ Some x → (y : StoredCall) × (slice_get new i ≡ Some y) × IsTakenOut train first last x y
+  pub calls : (i : ℕ) (x : StoredCall) → slice_get old i ≡ Some x → (y : StoredCall)
+      × (slice_get new i ≡ Some y) × IsTakenOut train first last x y
 
--- the slot before that of the new call of a number: new calls have the slots from `used` on, after the call in the slot `from`
+-- the slot before that of the new call of a number: new calls have the slots from `used` on, after
+-- the call in the slot `from`
 abbrev pub slot_before : ℕ → ℕ → ℕ → ℕ
 slot_before from used number = if nat_eq number 0 then from else used + number - 1
 
@@ -102,15 +114,19 @@ pub record IsNewCall (train before after : ℕ) (call : Call) (x : StoredCall) :
   pub after_is : x.after ≡ after
   pub call_is : call_of x ≡ call
 
--- the first of so many new calls were appended, between the calls in two slots, labelled from `label` on
-pub record AreAppended (train from to label : ℕ) (via : List NewCall) (done : ℕ) (old new : List StoredCall) : Type 0 where
+-- the first of so many new calls were appended, between the calls in two slots, labelled from
+-- `label` on
+pub record AreAppended (train from to label : ℕ) (via : List NewCall) (done : ℕ)
+    (old new : List StoredCall) : Type 0 where
   pub count : length new ≡ length old + done
   pub kept : (i : ℕ) (x : StoredCall) → slice_get old i ≡ Some x → slice_get new i ≡ Some x
   pub made : (j : ℕ) (v : NewCall) → j < done → slice_get via j ≡ Some v
       → (x : StoredCall) × (slice_get new (length old + j) ≡ Some x)
-      × IsNewCall train (slot_before from (length old) j) (slot_from to (length old) (length via) (j + 1)) (new_call (label + j) v) x
+      × IsNewCall train (slot_before from (length old) j)
+      (slot_from to (length old) (length via) (j + 1)) (new_call (label + j) v) x
 
--- the call in a slot before and after it got other slots beside it, as the call in the slot `from` or `to`
+-- the call in a slot before and after it got other slots beside it, as the call in the slot `from`
+-- or `to`
 abbrev pub IsJoined : ℕ → ℕ → ℕ → ℕ → ℕ → StoredCall → StoredCall → Type 0
 IsJoined from to used count i x y =
     y ≡ record x {
@@ -121,9 +137,11 @@ IsJoined from to used count i x y =
 -- the two calls lead to each other over so many new ones
 pub record AreJoined (from to used count : ℕ) (old new : List StoredCall) : Type 0 where
   pub same_count : length new ≡ length old
-  pub calls : (i : ℕ) (x : StoredCall) → slice_get old i ≡ Some x → (y : StoredCall) × (slice_get new i ≡ Some y) × IsJoined from to used count i x y
+  pub calls : (i : ℕ) (x : StoredCall) → slice_get old i ≡ Some x → (y : StoredCall)
+      × (slice_get new i ≡ Some y) × IsJoined from to used count i x y
 
--- the call in a slot before and after the calls strictly between two of a train were replaced by so many new ones
+-- the call in a slot before and after the calls strictly between two of a train were replaced by so
+-- many new ones
 pub record IsReplaced (train from to first last used count i : ℕ) (x y : StoredCall) : Type 0 where
   pub rest : y ≡ record x { current = y.current; before = y.before; after = y.after }
   pub current_is : y.current ≡ (x.current && not (is_within train first last x))
@@ -131,10 +149,13 @@ pub record IsReplaced (train from to first last used count i : ℕ) (x y : Store
   pub after_is : y.after ≡ (if nat_eq i from then slot_from to used count 0 else x.after)
 
 -- all calls before and after
-pub record AreReplaced (train from to first last label : ℕ) (via : List NewCall) (old new : List StoredCall) : Type 0 where
+pub record AreReplaced (train from to first last label : ℕ) (via : List NewCall)
+    (old new : List StoredCall) : Type 0 where
   pub count : length new ≡ length old + length via
   pub calls : (i : ℕ) (x : StoredCall) → slice_get old i ≡ Some x
-      → (y : StoredCall) × (slice_get new i ≡ Some y) × IsReplaced train from to first last (length old) (length via) i x y
+      → (y : StoredCall) × (slice_get new i ≡ Some y) × IsReplaced train from to first last
+      (length old) (length via) i x y
   pub made : (j : ℕ) (v : NewCall) → slice_get via j ≡ Some v
       → (x : StoredCall) × (slice_get new (length old + j) ≡ Some x)
-      × IsNewCall train (slot_before from (length old) j) (slot_from to (length old) (length via) (j + 1)) (new_call (label + j) v) x
+      × IsNewCall train (slot_before from (length old) j)
+      (slot_from to (length old) (length via) (j + 1)) (new_call (label + j) v) x

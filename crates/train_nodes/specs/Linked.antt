@@ -17,12 +17,24 @@ time_by t = if nat_lt t.seconds (2 ^ 25) then Some t.seconds else None
 
 -- what is known of an event
 abbrev pub values_by : StoredEvent → EventValues
-values_by e = record { scheduled = e.scheduled; live = e.live; forecast = time_by e.forecast; report = time_by e.report }
+values_by e = record {
+  scheduled = e.scheduled;
+  live = e.live;
+  forecast = time_by e.forecast;
+  report = time_by e.report;
+}
 
 -- the call that is stored
 abbrev pub call_of : StoredCall → Call
 call_of c =
-    record { label = c.label; stop = c.stop; arrival = values_by c.arrival; departure = values_by c.departure; board = c.board; alight = c.alight }
+    record {
+      label = c.label;
+      stop = c.stop;
+      arrival = values_by c.arrival;
+      departure = values_by c.departure;
+      board = c.board;
+      alight = c.alight;
+    }
 
 abbrev pub next_report_of : StoredCall → Option ℕ
 next_report_of c = time_by c.next_report
@@ -38,7 +50,8 @@ IsPlaced place c d = d ≡ record c { place = place; next_report = d.next_report
 -- so many calls one after the other, from the one in a slot on
 abbrev pub walk : List StoredCall → ℕ → ℕ → List StoredCall
 walk cs zero slot = []
-walk cs (suc n) slot = option_map_or (λ (c : StoredCall). c ∷ walk cs n c.after) (slice_get cs slot) []
+walk cs (suc n) slot = option_map_or (λ (c : StoredCall). c ∷ walk cs n c.after)
+    (slice_get cs slot) []
 
 -- the report of an event, if it is live
 abbrev pub live_report : EventValues → Option ℕ
@@ -63,12 +76,15 @@ pub record IsCurrentAt (cs : List StoredCall) (nb : Numbering) (train label slot
 -- no call of a train has this label now
 abbrev pub HasNoCurrent : List StoredCall → Numbering → ℕ → ℕ → Type 0
 HasNoCurrent cs nb train label =
-    (slot : ℕ) (c : StoredCall) → slot_of nb train label ≡ Some slot → slice_get cs slot ≡ Some c → c.current ≡ false
+    (slot : ℕ) (c : StoredCall) → slot_of nb train label ≡ Some slot → slice_get cs slot ≡ Some c
+    → c.current ≡ false
 
--- these calls stand one after the other, from the one in a slot on: each leads to the next by its slot, and the next back to it
+-- these calls stand one after the other, from the one in a slot on: each leads to the next by its
+-- slot, and the next back to it
 abbrev pub IsChained : List StoredCall → ℕ → ℕ → List StoredCall → Type 0
 IsChained cs before slot [] = Unit {0}
-IsChained cs before slot (x ∷ xs) = (slice_get cs slot ≡ Some x) × (x.before ≡ before) × IsChained cs slot x.after xs
+IsChained cs before slot (x ∷ xs) = (slice_get cs slot ≡ Some x) × (x.before ≡ before)
+    × IsChained cs slot x.after xs
 
 -- each of these calls knows its place, from `place` on
 abbrev pub HasPlaces : ℕ → List StoredCall → Type 0
@@ -81,14 +97,15 @@ HasNextReports [] = Unit {0}
 HasNextReports (x ∷ xs) = (next_report_of x ≡ report_of (map call_of xs)) × HasNextReports xs
 
 -- the call differs in its place and next report at most, and not at all where it is another train's
-pub record IsRenewedCall (train : ℕ) (old new : List StoredCall) (i : ℕ) (x : StoredCall) : Type 0 where
+pub record IsRenewedCall (train : ℕ) (old new : List StoredCall) (i : ℕ)
+    (x : StoredCall) : Type 0 where
   pub now : StoredCall
   pub there : slice_get new i ≡ Some now
   pub same : now ≡ record x { place = now.place; next_report = now.next_report }
   pub other : x.train ≢ train → now ≡ x
 
--- the calls of a train, so many from a slot on, know their places and next reports again: nothing else changed, and nothing of other
--- trains
+-- the calls of a train, so many from a slot on, know their places and next reports again: nothing
+-- else changed, and nothing of other trains
 pub record IsRenewed (train first len : ℕ) (old new : List StoredCall) : Type 0 where
   pub same_count : length new ≡ length old
   pub alike : (i : ℕ) (x : StoredCall) → slice_get old i ≡ Some x → IsRenewedCall train old new i x
@@ -98,9 +115,11 @@ pub record IsRenewed (train first len : ℕ) (old new : List StoredCall) : Type 
 -- the slot to which so many steps along the links lead
 abbrev pub slot_after : List StoredCall → ℕ → ℕ → ℕ
 slot_after cs zero slot = slot
-slot_after cs (suc n) slot = slot_after cs n (option_map_or (λ (c : StoredCall). c.after) (slice_get cs slot) slot)
+slot_after cs (suc n) slot =
+    slot_after cs n (option_map_or (λ (c : StoredCall). c.after) (slice_get cs slot) slot)
 
--- a line of calls of a train, as far as its links tell: so many from a slot on, the last in the slot `last`
+-- a line of calls of a train, as far as its links tell: so many from a slot on, the last in the
+-- slot `last`
 pub record IsLine (train first last len : ℕ) (cs : List StoredCall) : Type 0 where
   pub whole : length (walk cs len first) ≡ len
   pub chained : IsChained cs first first (walk cs len first)
@@ -108,10 +127,12 @@ pub record IsLine (train first last len : ℕ) (cs : List StoredCall) : Type 0 w
   pub ends : slot_after cs (len - 1) first ≡ last
   pub apart : HasDistinctLabels (map call_of (walk cs len first))
 
--- the calls of a train, so many from a slot on, are such a line that ends with the last call that the train was loaded with
+-- the calls of a train, so many from a slot on, are such a line that ends with the last call that
+-- the train was loaded with
 abbrev pub IsTrainLine : Numbering → ℕ → ℕ → ℕ → List StoredCall → Type 0
 IsTrainLine nb train first len cs =
-    (n : NumberedTrain) (last : ℕ) → slice_get nb.trains train ≡ Some n → slot_of nb train (n.loaded - 1) ≡ Some last → IsLine train first last len cs
+    (n : NumberedTrain) (last : ℕ) → slice_get nb.trains train ≡ Some n
+    → slot_of nb train (n.loaded - 1) ≡ Some last → IsLine train first last len cs
 
 -- the call is stored at a place among so many new ones of a train, in the slots from `first` on
 pub record IsLaid (train first count place : ℕ) (call : Call) (x : StoredCall) : Type 0 where
@@ -123,14 +144,19 @@ pub record IsLaid (train first count place : ℕ) (call : Call) (x : StoredCall)
   pub after_is : x.after ≡ first + min (place + 1) (count - 1)
   pub report : next_report_of x ≡ None
 
--- so many calls more than before, the new ones at the places below that number, as the timetable gives them
-pub record AreLaid (train first : ℕ) (calls : List TableCall) (laid : ℕ) (old new : List StoredCall) : Type 0 where
+-- so many calls more than before, the new ones at the places below that number, as the timetable
+-- gives them
+pub record AreLaid (train first : ℕ) (calls : List TableCall) (laid : ℕ)
+    (old new : List StoredCall) : Type 0 where
   pub count : length new ≡ length old + laid
   pub stay : (i : ℕ) (x : StoredCall) → slice_get old i ≡ Some x → slice_get new i ≡ Some x
   pub added : (place : ℕ) (c : TableCall) → place < laid → slice_get calls place ≡ Some c
-      → (x : StoredCall) × (slice_get new (length old + place) ≡ Some x) × IsLaid train first (length calls) place (call_at (length calls) place c) x
+      → (x : StoredCall) × (slice_get new (length old + place) ≡ Some x)
+      × IsLaid train first (length calls) place (call_at (length calls) place c) x
 
 -- the call of this label stands between two places of its train
 abbrev pub is_between : List StoredCall → Numbering → ℕ → ℕ → ℕ → ℕ → Bool
 is_between cs nb train first last label =
-    option_map_or (λ (slot : ℕ). option_map_or (λ (c : StoredCall). c.current && (nat_lt first c.place && nat_lt c.place last)) (slice_get cs slot) false) (slot_of nb train label) false
+    option_map_or (λ (slot : ℕ). option_map_or (λ (c : StoredCall).
+    c.current && (nat_lt first c.place && nat_lt c.place last)) (slice_get cs slot) false)
+    (slot_of nb train label) false

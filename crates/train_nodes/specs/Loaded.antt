@@ -11,18 +11,30 @@ use Rattle.train_nodes.specs.declared.calls.TableCall.{TableCall}
 -- a call of the timetable, under a label
 abbrev pub table_call : ℕ → TableCall → Call
 table_call label c =
-    record { label = label; stop = c.stop; arrival = new_event c.arr; departure = new_event c.dep; board = c.board; alight = c.alight }
+    record {
+      label = label;
+      stop = c.stop;
+      arrival = new_event c.arr;
+      departure = new_event c.dep;
+      board = c.board;
+      alight = c.alight;
+    }
 
 -- calls of the timetable, labelled from `label` on in their order
 abbrev pub table_calls : ℕ → List TableCall → List Call
 table_calls label [] = []
 table_calls label (c ∷ cs) = table_call label c ∷ table_calls (label + 1) cs
 
--- a train of the timetable: its calls are labelled 0, 1, .., and all events are live but the arrival of the first call and the
--- departure of the last
+-- a train of the timetable: its calls are labelled 0, 1, .., and all events are live but the
+-- arrival of the first call and the departure of the last
 abbrev pub loaded_train : ℕ → ℕ → List TableCall → Train
 loaded_train day route calls =
-    record { day = day; route = route; next_label = length calls; calls = begin_run (end_run (table_calls 0 calls)) }
+    record {
+      day = day;
+      route = route;
+      next_label = length calls;
+      calls = begin_run (end_run (table_calls 0 calls));
+    }
 
 -- one more train, which takes a spare train and a spare call for each of its calls
 abbrev pub with_train : Train → State → State
@@ -48,9 +60,15 @@ DoNotFall cs = DoNotFallFrom 0 cs
 
 -- an event of the timetable
 abbrev pub event_by_table : ℕ → Bool → EventValues
-event_by_table scheduled live = record { scheduled = scheduled; live = live; forecast = None; report = None }
+event_by_table scheduled live = record {
+  scheduled = scheduled;
+  live = live;
+  forecast = None;
+  report = None;
+}
 
--- the call at a place among so many: the arrival of the first and the departure of the last are not live
+-- the call at a place among so many: the arrival of the first and the departure of the last are not
+-- live
 abbrev pub call_at : ℕ → ℕ → TableCall → Call
 call_at count place c =
     record {

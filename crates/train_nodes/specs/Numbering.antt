@@ -3,13 +3,14 @@ use Rattle.std.specs.Prelude.{ℕ, zero, suc, ◌+◌, ◌-◌, List, [], ◌∷
 use Rattle.std.specs.Option.{option_and_then}
 use Rattle.train_nodes.specs.Lists.{change_at}
 
--- of a train: with how many calls it was loaded, and the slots of its calls by label, those of calls that a rerouting took out among
--- them
+-- of a train: with how many calls it was loaded, and the slots of its calls by label, those of
+-- calls that a rerouting took out among them
 pub record NumberedTrain : Type 0 where
   pub loaded : ℕ
   pub slots : List ℕ
 
--- the slots of all trains' calls, how many slots are used, and for how many more trains and calls there is room
+-- the slots of all trains' calls, how many slots are used, and for how many more trains and calls
+-- there is room
 pub record Numbering : Type 0 where
   pub trains : List NumberedTrain
   pub used : ℕ
@@ -18,7 +19,8 @@ pub record Numbering : Type 0 where
 
 -- the slot of the call of a train that has this label, if it was ever made
 abbrev pub slot_of : Numbering → ℕ → ℕ → Option ℕ
-slot_of nb train label = option_and_then (λ (n : NumberedTrain). slice_get n.slots label) (slice_get nb.trains train)
+slot_of nb train label = option_and_then (λ (n : NumberedTrain). slice_get n.slots label)
+    (slice_get nb.trains train)
 
 -- so many slots from one on
 abbrev pub slots_from : ℕ → ℕ → List ℕ
@@ -39,7 +41,10 @@ with_numbered calls nb =
 abbrev pub with_more : ℕ → ℕ → Numbering → Numbering
 with_more train calls nb =
     record nb {
-      trains = change_at train (λ (n : NumberedTrain). record n { slots = n.slots ++ slots_from nb.used calls }) nb.trains;
+      trains = change_at train (λ (n : NumberedTrain). record n {
+        slots = n.slots
+            ++ slots_from nb.used calls;
+      }) nb.trains;
       used = nb.used + calls;
       spare_calls = nb.spare_calls - calls;
     }

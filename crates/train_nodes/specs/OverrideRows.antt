@@ -27,7 +27,8 @@ event_across Departure p = p.arrival
 
 -- connections by the event at an end, and then by the one at the other end
 abbrev pub end_cmp : End → Connection → Connection → Ordering
-end_cmp end a b = ordering_then (node_cmp (event_at end a) (event_at end b)) (node_cmp (event_across end a) (event_across end b))
+end_cmp end a b = ordering_then (node_cmp (event_at end a) (event_at end b))
+    (node_cmp (event_across end a) (event_across end b))
 
 -- the rows are in that order, one for each connection
 abbrev pub AreSorted : End → List (Connection × Override) → Type 0
@@ -43,10 +44,12 @@ IsRowAt end p rows i = HoldsAt (λ row. end_cmp end row.0 p ≡ Equal) rows i
 
 -- the connection has no row, and one of it would go to this place
 abbrev pub IsGapAt : End → Connection → List (Connection × Override) → ℕ → Type 0
-IsGapAt end p rows i = IsPartitionPoint (λ row. end_cmp end row.0 p ≡ Less) (λ row. end_cmp end row.0 p ≡ Greater) rows i
+IsGapAt end p rows i = IsPartitionPoint (λ row. end_cmp end row.0 p ≡ Less)
+    (λ row. end_cmp end row.0 p ≡ Greater) rows i
 
 -- the rows of the other connections
-abbrev pub rows_without : End → Connection → List (Connection × Override) → List (Connection × Override)
+abbrev pub rows_without : End → Connection → List (Connection × Override)
+    → List (Connection × Override)
 rows_without end p = where_key (end_cmp end) (λ q. not (eq_by_cmp (end_cmp end) p q))
 
 -- the rows of the connections that have the event at an end

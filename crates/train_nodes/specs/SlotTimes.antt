@@ -28,14 +28,19 @@ pub record IsNumberOf (slots : Numbering) (n : Node) (i : ℕ) : Type 0 where
 -- the times of the events of calls by their slots
 abbrev pub times_at : List ℕ → List ℕ → List ℕ
 times_at times [] = []
-times_at times (s ∷ ss) = get_or times (event_number s false) no_time ∷ get_or times (event_number s true) no_time ∷ times_at times ss
+times_at times (s ∷ ss) = get_or times (event_number s false) no_time ∷ get_or times
+    (event_number s true) no_time ∷ times_at times ss
 
 -- the times of each train
 abbrev pub trains_at : List ℕ → List NumberedTrain → List (List ℕ)
 trains_at times trains = map (λ (n : NumberedTrain). times_at times n.slots) trains
 
 abbrev pub seen : Inside → StoredTimes
-seen a = record { trains = trains_at a.times.items a.slots.trains; spare_trains = a.slots.spare_trains; spare_calls = a.slots.spare_calls }
+seen a = record {
+  trains = trains_at a.times.items a.slots.trains;
+  spare_trains = a.slots.spare_trains;
+  spare_calls = a.slots.spare_calls;
+}
 
 -- there are two times for each slot, and those of the slots that no call has yet are no event's
 pub record AreHeld (a : Inside) : Type 0 where

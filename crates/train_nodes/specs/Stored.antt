@@ -22,7 +22,12 @@ line_of cs len n = walk cs len (first_slot n)
 -- a train by its row and its numbers
 abbrev pub train_by : List StoredCall → Row → NumberedTrain → Train
 train_by cs r n =
-    record { day = r.day; route = r.route; next_label = length n.slots; calls = map call_of (line_of cs r.len n) }
+    record {
+      day = r.day;
+      route = r.route;
+      next_label = length n.slots;
+      calls = map call_of (line_of cs r.len n);
+    }
 
 abbrev pub trains_by : List StoredCall → List Row → List NumberedTrain → List Train
 trains_by cs [] ns = []
@@ -50,10 +55,11 @@ pub record IsInLine (train place before : ℕ) (c : StoredCall) : Type 0 where
 abbrev pub IsLinked : List StoredCall → ℕ → ℕ → ℕ → ℕ → List StoredCall → Type 0
 IsLinked cs train place before slot [] = Unit {0}
 IsLinked cs train place before slot (x ∷ xs) =
-    (slice_get cs slot ≡ Some x) × IsInLine train place before x × IsLinked cs train (place + 1) slot x.after xs
+    (slice_get cs slot ≡ Some x) × IsInLine train place before x
+    × IsLinked cs train (place + 1) slot x.after xs
 
--- calls of a train: no two have one label, each label is below the next one, and that stays a number of 31 bits as long as no more
--- than the spare calls are added
+-- calls of a train: no two have one label, each label is below the next one, and that stays a
+-- number of 31 bits as long as no more than the spare calls are added
 pub record AreLabelled (spare next : ℕ) (cs : List Call) : Type 0 where
   pub distinct : HasDistinctLabels cs
   pub below : All (λ c. c.label < next) cs
@@ -61,9 +67,10 @@ pub record AreLabelled (spare next : ℕ) (cs : List Call) : Type 0 where
   pub count : length cs ≤ next
   pub small : next + spare < 2 ^ 31
 
--- the calls of a stored train: as many as its row says, linked from the one with label 0 to the last one that it was loaded with, which
--- no rerouting takes out
-pub record IsTrainStored (spare : ℕ) (cs : List StoredCall) (train len : ℕ) (n : NumberedTrain) : Type 0 where
+-- the calls of a stored train: as many as its row says, linked from the one with label 0 to the
+-- last one that it was loaded with, which no rerouting takes out
+pub record IsTrainStored (spare : ℕ) (cs : List StoredCall) (train len : ℕ)
+    (n : NumberedTrain) : Type 0 where
   pub whole : length (line_of cs len n) ≡ len
   pub linked : IsLinked cs train 0 (first_slot n) (first_slot n) (line_of cs len n)
   pub reports : HasNextReports (line_of cs len n)
@@ -77,14 +84,17 @@ pub record IsCallAt (cs : List StoredCall) (train label slot : ℕ) : Type 0 whe
   pub train_is : call.train ≡ train
   pub label_is : call.label ≡ label
 
--- each train's calls are linked; a call has the slot that its train and label have; a current one is found by its place from the first
--- of its train on; and there is room for the spare ones
+-- each train's calls are linked; a call has the slot that its train and label have; a current one
+-- is found by its place from the first of its train on; and there is room for the spare ones
 pub record IsStored (a : Inside) : Type 0 where
-  pub trains : (t : ℕ) (r : Row) (n : NumberedTrain) → slice_get a.rows.items t ≡ Some r → slice_get a.slots.trains t ≡ Some n
+  pub trains : (t : ℕ) (r : Row) (n : NumberedTrain) → slice_get a.rows.items t ≡ Some r
+      → slice_get a.slots.trains t ≡ Some n
       → IsTrainStored a.slots.spare_calls a.calls.items t r.len n
-  pub numbered : (i : ℕ) (x : StoredCall) → slice_get a.calls.items i ≡ Some x → slot_of a.slots x.train x.label ≡ Some i
+  pub numbered : (i : ℕ) (x : StoredCall) → slice_get a.calls.items i ≡ Some x
+      → slot_of a.slots x.train x.label ≡ Some i
   pub named : (t l i : ℕ) → slot_of a.slots t l ≡ Some i → IsCallAt a.calls.items t l i
-  pub placed : (i : ℕ) (x : StoredCall) (r : Row) (n : NumberedTrain) → slice_get a.calls.items i ≡ Some x → x.current ≡ true
+  pub placed : (i : ℕ) (x : StoredCall) (r : Row) (n : NumberedTrain) → slice_get a.calls.items i
+      ≡ Some x → x.current ≡ true
       → slice_get a.rows.items x.train ≡ Some r → slice_get a.slots.trains x.train ≡ Some n
       → (x.place < r.len) × (slot_after a.calls.items x.place (first_slot n) ≡ i)
   pub rows_count : length a.rows.items ≡ length a.slots.trains

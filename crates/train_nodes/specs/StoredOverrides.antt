@@ -25,7 +25,8 @@ seen a = record { choices = from_sorted a.by_arrival.items; spare = a.spare }
 pub record AreTurned (by_arrival by_departure : List (Connection × Override)) : Type 0 where
   pub sorted : is_sorted connection_cmp by_arrival ≡ true
   pub turned : is_sorted (end_cmp Departure) by_departure ≡ true
-  pub same : (p : Connection) → find (end_cmp Departure) p by_departure ≡ find connection_cmp p by_arrival
+  pub same : (p : Connection) → find (end_cmp Departure) p by_departure
+      ≡ find connection_cmp p by_arrival
 
 -- there is room for the spare ones in both orders, in numbers of 32 bits
 pub record AreStored (a : Inside) : Type 0 where

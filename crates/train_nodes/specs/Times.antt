@@ -4,8 +4,8 @@ use Rattle.std.specs.Option.{option_and_then}
 use Rattle.mt_base.specs.declared.keys.Node.{Node}
 use Rattle.train_nodes.specs.Lists.{change_at}
 
--- for each train the times that are stored for its events, in the order of its labels and of each label the arrival first; and for how
--- many more trains and calls there is room
+-- for each train the times that are stored for its events, in the order of its labels and of each
+-- label the arrival first; and for how many more trains and calls there is room
 pub record StoredTimes : Type 0 where
   pub trains : List (List ℕ)
   pub spare_trains : ℕ
@@ -25,7 +25,10 @@ has_time k n = is_some (time_of k n)
 
 -- another time for an event
 abbrev pub with_time : Node → ℕ → StoredTimes → StoredTimes
-with_time n time k = record k { trains = change_at n.train (λ ts. slice_set ts (place_of n) time) k.trains }
+with_time n time k = record k {
+  trains = change_at n.train (λ ts. slice_set ts (place_of n) time)
+      k.trains;
+}
 
 -- the time of an event that was never settled: 2^25 - 1, which no event has by the rule for times
 abbrev pub no_time : ℕ
@@ -47,7 +50,10 @@ with_train_times labels k =
 -- times for so many more labels of a train
 abbrev pub with_labels : ℕ → ℕ → StoredTimes → StoredTimes
 with_labels train labels k =
-    record k { trains = change_at train (λ ts. ts ++ blank_times labels) k.trains; spare_calls = k.spare_calls - labels }
+    record k {
+      trains = change_at train (λ ts. ts ++ blank_times labels) k.trains;
+      spare_calls = k.spare_calls - labels;
+    }
 
 -- the times of each train are those of so many labels
 abbrev pub AreSized : List ℕ → StoredTimes → Type 0

@@ -113,7 +113,8 @@ pub(crate) fn push_extra_calls(
 )
     requires room { vec_len all.old + length calls.now ≤ vec_capacity all.old }
     requires slots { first + length calls.now < 2 ^ 32 }
-    ensures laid { AreLaid train first (map by_table calls.now) (length calls.now) all.old.items all.new.items }
+    ensures laid { AreLaid train first (map by_table calls.now)
+        (length calls.now) all.old.items all.new.items }
     ensures capacity { vec_capacity all.new ≡ vec_capacity all.old }
 {
     for place in 0..calls.len() {
@@ -129,7 +130,8 @@ fn live_event(scheduled: Time) -> EventValues
     table_event(scheduled, true)
 }
 
-/// A call that a message makes, under a label: both of its events are live, and passengers may board and alight.
+/// A call that a message makes, under a label: both of its events are live, and passengers may
+/// board and alight.
 pub fn new_call(label: Label, call: &NewCall) -> Call
     ensures { result ≡ new_call label call.now }
 {

@@ -15,7 +15,8 @@ use std::marker::Model;
 
 /// The arrival or the departure (dep true) of a call of the train that has this number and route.
 pub fn event_of(train: TrainNo, route: RouteNo, call: &Call, dep: bool) -> Event
-    ensures { result ≡ event_by train route call.now.label call.now.stop dep (values_of dep call.now) }
+    ensures { result ≡ event_by train route call.now.label call.now.stop dep
+        (values_of dep call.now) }
 {
     let values = values(call, dep);
     let node = Node {
@@ -33,9 +34,12 @@ pub fn event_of(train: TrainNo, route: RouteNo, call: &Call, dep: bool) -> Event
     }
 }
 
-/// The arrival or the departure (dep true) of a stored call of the train that has this number and route.
+/// The arrival or the departure (dep true) of a stored call of the train that has this number and
+/// route.
+#[inline(always)]
 pub(crate) fn stored_event(train: TrainNo, route: RouteNo, call: &StoredCall, dep: bool) -> Event
-    ensures { result ≡ event_by train route call.now.label call.now.stop dep (values_of dep (call_of call.now)) }
+    ensures { result ≡ event_by train route call.now.label call.now.stop dep
+        (values_of dep (call_of call.now)) }
 {
     let values = call.values(dep);
     let node = Node {
@@ -53,7 +57,8 @@ pub(crate) fn stored_event(train: TrainNo, route: RouteNo, call: &StoredCall, de
     }
 }
 
-/// The events of a train that are still to come, live or not, in the train's order. It is seen as the list of them.
+/// The events of a train that are still to come, live or not, in the train's order. It is seen as
+/// the list of them.
 #[derive(Drop)]
 pub struct TrainEvents<'a> {
     pub(crate) train: TrainNo,

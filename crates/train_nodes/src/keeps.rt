@@ -7,7 +7,8 @@ use delay_model::overrides::{Connection, Override};
 use mt_base::keys::Node;
 use std::marker::Model;
 
-/// The events at the other end of the kept connections of an event, in their order. It is seen as the list of those still to come.
+/// The events at the other end of the kept connections of an event, in their order. It is seen as
+/// the list of those still to come.
 #[derive(Drop)]
 pub struct Keeps<'a> {
     /// The rows of the connections that are still to come.

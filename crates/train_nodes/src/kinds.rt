@@ -144,7 +144,11 @@ fn of_value<'a>(kind: ValueKind, node: &Node, time: Time) -> Kind<'a>
 }
 
 fn of_choice<'a>(feeder: &Node, train: &Node, choice: Option<Override>) -> Kind<'a>
-    ensures { result ≡ Kind.Choice (record { feeder = feeder.now; train = train.now; choice = choice }) }
+    ensures { result ≡ Kind.Choice (record {
+      feeder = feeder.now;
+      train = train.now;
+      choice = choice;
+    }) }
 {
     Kind::Choice(Choice {
         feeder: *feeder,

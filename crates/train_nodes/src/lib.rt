@@ -1,4 +1,5 @@
-//! Trains, their calls and their events' values, and the stored times of events, in vectors by number.
+//! Trains, their calls and their events' values, and the stored times of events, in vectors by
+//! number.
 #![tactic(auto)]
 
 pub mod calls;

@@ -1,4 +1,5 @@
-//! The calls of a train in the arena of all calls: how one is found, and what is kept along all of them.
+//! The calls of a train in the arena of all calls: how one is found, and what is kept along all of
+//! them.
 
 ghost use Rattle.std.specs.Prelude.{◌≡◌, ℕ, ◌<◌, MatchOption, length, vec_capacity};
 ghost use Rattle.train_nodes.specs.Linked.{HasNoCurrent, IsCurrentAt, IsLine, IsRenewed, IsTrainLine};
@@ -8,8 +9,10 @@ use crate::stored_call::StoredCall;
 use mt_base::numbers::{Label, TrainNo};
 
 /// The slot of the call with this label, where it is one of the train's calls now.
+#[inline(always)]
 pub(crate) fn current_slot(calls: &[StoredCall], slots: &Slots, t: TrainNo, l: Label) -> Option<u32>
-    ensures { MatchOption result (HasNoCurrent calls.now slots.now t l) (λ slot. IsCurrentAt calls.now slots.now t l slot) }
+    ensures { MatchOption result (HasNoCurrent calls.now slots.now t l)
+        (λ slot. IsCurrentAt calls.now slots.now t l slot) }
 {
     let slot = slots.slot(t, l)?;
     if calls.get(slot as usize)?.is_current() {
@@ -19,9 +22,11 @@ pub(crate) fn current_slot(calls: &[StoredCall], slots: &Slots, t: TrainNo, l: L
     }
 }
 
-/// Gives each call of a train, of which the last stands in the slot `last`, its place and the first report after it.
+/// Gives each call of a train, of which the last stands in the slot `last`, its place and the first
+/// report after it.
 pub(crate) fn renew_line(calls: &mut Vec<StoredCall>, last: u32, len: u32)
-    ensures renewed { (train first : ℕ) → IsLine train first last len calls.old.items → IsRenewed train first len calls.old.items calls.new.items }
+    ensures renewed { (train first : ℕ) → IsLine train first last len calls.old.items
+        → IsRenewed train first len calls.old.items calls.new.items }
     ensures capacity { vec_capacity calls.new ≡ vec_capacity calls.old }
 {
     let mut slot = last as usize;

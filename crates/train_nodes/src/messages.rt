@@ -12,8 +12,9 @@ use mt_base::rows::Rows;
 use std::alloc::Global;
 use std::marker::Model;
 
-/// A message whose times are below 2^24 seconds, whose extra train has two calls at least, and whose feeder is an arrival and its
-/// train a departure, and which makes fewer than 2^31 new calls. It may still be refused.
+/// A message whose times are below 2^24 seconds, whose extra train has two calls at least, and
+/// whose feeder is an arrival and its train a departure, and which makes fewer than 2^31 new calls.
+/// It may still be refused.
 #[derive(Drop)]
 pub struct Msg {
     message: Message,

@@ -32,6 +32,7 @@ impl OptionalTime {
     }
 
     /// The time, if there is one.
+    #[inline(always)]
     pub(crate) fn get(&self) -> Option<Time>
         ensures { result ≡ time_by self.now }
     {

@@ -1,4 +1,5 @@
-//! Rows of what was chosen for connections, in the order of one end of the connections and then of the other.
+//! Rows of what was chosen for connections, in the order of one end of the connections and then of
+//! the other.
 
 ghost use Rattle.std.specs.Prelude.{◌≡◌, ◌<◌, ◌≤◌, None, IfOk, IfErr, is_some, length, not, slice_range, vec_capacity};
 ghost use Rattle.std.specs.List.Sorted.{IsSearchInRange};

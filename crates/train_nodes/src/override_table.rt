@@ -1,4 +1,5 @@
-//! What dispatchers chose for connections, found by either of their events, with room that was taken when it was made.
+//! What dispatchers chose for connections, found by either of their events, with room that was
+//! taken when it was made.
 
 ghost use Rattle.std.specs.Prelude.{◌≡◌, ◌+◌, ◌-◌, ◌<◌, ◌≤◌, not, false, IfOk, if◌then◌else◌, filter, length, nat_eq, vec_capacity};
 ghost use Rattle.std.specs.FinMap as map;
@@ -17,8 +18,9 @@ use mt_base::memory::OutOfMemory;
 use std::alloc::Global;
 use std::marker::Model;
 
-/// A map from connections to what was chosen for them, and how many more it has room for. The choices stand in the order of the
-/// arrivals and once more in that of the departures, so that the kept connections of either are found at once.
+/// A map from connections to what was chosen for them, and how many more it has room for. The
+/// choices stand in the order of the arrivals and once more in that of the departures, so that the
+/// kept connections of either are found at once.
 #[derive(Drop)]
 pub(crate) struct OverrideTable {
     by_arrival: Vec<(Connection, Override)>,
@@ -109,7 +111,9 @@ impl OverrideTable {
     pub(crate) fn set(&mut self, connection: Connection, choice: Override)
         requires spare { map.contains_key self.old.choices connection ≡ false → 0 < self.old.spare }
         ensures choices { self.new.choices ≡ map.insert self.old.choices connection choice }
-        ensures spare { self.new.spare ≡ (if map.contains_key self.old.choices connection then self.old.spare else self.old.spare - 1) }
+        ensures spare { self.new.spare
+            ≡ (if map.contains_key self.old.choices connection then self.old.spare
+            else self.old.spare - 1) }
     {
         let is_new = put(&mut self.by_arrival, End::Arrival, &connection, choice);
         put(&mut self.by_departure, End::Departure, &connection, choice);
@@ -119,17 +123,24 @@ impl OverrideTable {
     /// Takes back what was chosen for a connection, and gives its room back.
     pub(crate) fn remove(&mut self, connection: &Connection)
         ensures choices { self.new.choices ≡ map.remove self.old.choices connection.now }
-        ensures spare { self.new.spare ≡ (if map.contains_key self.old.choices connection.now then self.old.spare + 1 else self.old.spare) }
+        ensures spare { self.new.spare
+            ≡ (if map.contains_key self.old.choices connection.now then self.old.spare
+            + 1 else self.old.spare) }
     {
         let was_there = take_out(&mut self.by_arrival, End::Arrival, connection);
         take_out(&mut self.by_departure, End::Departure, connection);
         self.spare += u32::from(was_there);
     }
 
-    /// Takes back what was chosen for connections that name one of these events, and gives its room back.
+    /// Takes back what was chosen for connections that name one of these events, and gives its room
+    /// back.
     pub(crate) fn remove_all(&mut self, events: &RemovedEvents)
-        ensures choices { self.new.choices ≡ map.retain_keys self.old.choices (λ p. not (names_removed events.now.train (is_between events.now.calls.now events.now.slots.now events.now.train events.now.first events.now.last) events.now.ends p)) }
-        ensures spare { self.new.spare ≡ self.old.spare + (map.len self.old.choices - map.len self.new.choices) }
+        ensures choices { self.new.choices ≡ map.retain_keys self.old.choices
+            (λ p. not (names_removed events.now.train
+            (is_between events.now.calls.now events.now.slots.now events.now.train
+            events.now.first events.now.last) events.now.ends p)) }
+        ensures spare { self.new.spare ≡ self.old.spare
+            + (map.len self.old.choices - map.len self.new.choices) }
     {
         let before = self.by_arrival.len();
         retain(&mut self.by_arrival, events);
@@ -140,7 +151,11 @@ impl OverrideTable {
 
 /// Keeps the choices for connections that name none of these events.
 fn retain(rows: &mut Vec<(Connection, Override)>, events: &RemovedEvents)
-    ensures items { rows.new.items ≡ filter (λ row. not (names_removed events.now.train (is_between events.now.calls.now events.now.slots.now events.now.train events.now.first events.now.last) events.now.ends row.0)) rows.old.items }
+    ensures items { rows.new.items
+        ≡ filter (λ row.
+        not (names_removed events.now.train
+        (is_between events.now.calls.now events.now.slots.now events.now.train
+        events.now.first events.now.last) events.now.ends row.0)) rows.old.items }
     ensures bound { length rows.new.items ≤ length rows.old.items }
     ensures capacity { vec_capacity rows.new ≡ vec_capacity rows.old }
 {

@@ -10,8 +10,8 @@ use crate::stored_call::StoredCall;
 use mt_base::keys::Node;
 use mt_base::numbers::{Label, TrainNo};
 
-/// Events of a train that a message takes out: those of its calls at the places between two, and where there are ends, the departure of
-/// the one and the arrival of the other.
+/// Events of a train that a message takes out: those of its calls at the places between two, and
+/// where there are ends, the departure of the one and the arrival of the other.
 #[derive(Clone, Copy)]
 pub(crate) struct RemovedEvents<'a> {
     pub(crate) train: TrainNo,
@@ -27,7 +27,9 @@ pub(crate) struct RemovedEvents<'a> {
 impl RemovedEvents<'_> {
     /// Whether the event is one of them.
     pub(crate) fn has(&self, n: &Node) -> bool
-        ensures { result ≡ is_removed self.now.train (is_between self.now.calls.now self.now.slots.now self.now.train self.now.first self.now.last) self.now.ends n.now }
+        ensures { result ≡ is_removed self.now.train
+            (is_between self.now.calls.now self.now.slots.now self.now.train self.now.first
+            self.now.last) self.now.ends n.now }
     {
         n.train == self.train && (self.is_end(n) || self.is_between(n.label))
     }
@@ -43,7 +45,8 @@ impl RemovedEvents<'_> {
 
     /// Whether the call of this label is one of them.
     fn is_between(&self, label: Label) -> bool
-        ensures { result ≡ is_between self.now.calls.now self.now.slots.now self.now.train self.now.first self.now.last label }
+        ensures { result ≡ is_between self.now.calls.now self.now.slots.now self.now.train
+            self.now.first self.now.last label }
     {
         match current_slot(self.calls, self.slots, self.train, label) {
             Some(slot) => {

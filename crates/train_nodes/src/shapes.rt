@@ -20,7 +20,8 @@ use crate::trains::Trains;
 use mt_base::numbers::{Label, TrainNo};
 use mt_base::plans::NewCall;
 
-/// A part of a train: from the call in the slot `from`, at the place `first`, to the call in the slot `to`, at the place `last`.
+/// A part of a train: from the call in the slot `from`, at the place `first`, to the call in the
+/// slot `to`, at the place `last`.
 #[derive(Clone, Copy)]
 pub(crate) struct Part {
     train: TrainNo,
@@ -38,8 +39,8 @@ impl Trains {
         find_part(&self.calls, &self.slots, t, from, to).is_some()
     }
 
-    /// Cancels a train from the departure of one call to the arrival of a later one: these events no longer take place, and what was
-    /// chosen for connections that name one of them goes.
+    /// Cancels a train from the departure of one call to the arrival of a later one: these events
+    /// no longer take place, and what was chosen for connections that name one of them goes.
     pub fn cancel(&mut self, t: TrainNo, from: Label, to: Label)
         requires { stands_before from to (calls_of self.old t) ≡ true }
         ensures { self.new ≡ effect self.old (Message.Cancel t from to) }
@@ -54,8 +55,9 @@ impl Trains {
         renew_train(&mut self.calls, &self.slots, t, len);
     }
 
-    /// Lets a train make the calls `via` in place of those strictly between two of its calls. The new calls get the next labels, and
-    /// what was chosen for connections that name an event of the others goes.
+    /// Lets a train make the calls `via` in place of those strictly between two of its calls. The
+    /// new calls get the next labels, and what was chosen for connections that name an event of the
+    /// others goes.
     pub fn reroute(&mut self, t: TrainNo, from: Label, to: Label, via: &[NewCall])
         requires stand { stands_before from to (calls_of self.old t) ≡ true }
         requires spare { length via.now ≤ self.old.spare_calls }
@@ -84,7 +86,8 @@ fn find_part(
     from: Label,
     to: Label,
 ) -> Option<Part>
-    ensures { MatchOption result (HasNoPart calls.now slots.now t from to) (λ p. IsPartOf calls.now slots.now t from to p) }
+    ensures { MatchOption result (HasNoPart calls.now slots.now t from to)
+        (λ p. IsPartOf calls.now slots.now t from to p) }
 {
     let from = current_slot(calls, slots, t, from)?;
     let to = current_slot(calls, slots, t, to)?;
@@ -103,7 +106,8 @@ fn find_part(
     }
 }
 
-/// Takes back what was chosen for connections that name an event of the calls strictly within a part, or one of the ends.
+/// Takes back what was chosen for connections that name an event of the calls strictly within a
+/// part, or one of the ends.
 fn remove_overrides(
     overrides: &mut OverrideTable,
     calls: &[StoredCall],
@@ -111,8 +115,11 @@ fn remove_overrides(
     part: &Part,
     ends: Option<(Label, Label)>,
 )
-    ensures choices { overrides.new.choices ≡ map.retain_keys overrides.old.choices (λ p. not (names_removed part.now.train (is_between calls.now slots.now part.now.train part.now.first part.now.last) ends p)) }
-    ensures spare { overrides.new.spare ≡ overrides.old.spare + (map.len overrides.old.choices - map.len overrides.new.choices) }
+    ensures choices { overrides.new.choices ≡ map.retain_keys overrides.old.choices
+        (λ p. not (names_removed part.now.train
+        (is_between calls.now slots.now part.now.train part.now.first part.now.last) ends p)) }
+    ensures spare { overrides.new.spare ≡ overrides.old.spare
+        + (map.len overrides.old.choices - map.len overrides.new.choices) }
 {
     overrides.remove_all(&RemovedEvents {
         train: part.train,
@@ -126,8 +133,10 @@ fn remove_overrides(
 
 /// Kills the events from the departure with which a part begins to the arrival with which it ends.
 fn kill(calls: &mut Vec<StoredCall>, part: &Part)
-    requires { IsPart calls.old.items part.now.train part.now.from part.now.to part.now.first part.now.last }
-    ensures killed { IsKilled part.now.train part.now.first part.now.last calls.old.items calls.new.items }
+    requires { IsPart calls.old.items part.now.train part.now.from part.now.to part.now.first
+        part.now.last }
+    ensures killed { IsKilled part.now.train part.now.first part.now.last calls.old.items
+        calls.new.items }
     ensures capacity { vec_capacity calls.new ≡ vec_capacity calls.old }
 {
     let mut slot = part.from;
@@ -139,14 +148,17 @@ fn kill(calls: &mut Vec<StoredCall>, part: &Part)
     }
 }
 
-/// Replaces the calls strictly within a part by others, which get the next slots and are labelled from this label on.
+/// Replaces the calls strictly within a part by others, which get the next slots and are labelled
+/// from this label on.
 fn replace(calls: &mut Vec<StoredCall>, part: &Part, label: Label, via: &[NewCall])
-    requires part { IsPart calls.old.items part.now.train part.now.from part.now.to part.now.first part.now.last }
+    requires part { IsPart calls.old.items part.now.train part.now.from part.now.to part.now.first
+        part.now.last }
     requires room { vec_len calls.old + length via.now ≤ vec_capacity calls.old }
     requires small { vec_len calls.old + length via.now < 2 ^ 31 }
     requires labels { label + length via.now < 2 ^ 31 }
     requires places { part.now.last + length via.now < 2 ^ 31 }
-    ensures replaced { AreReplaced part.now.train part.now.from part.now.to part.now.first part.now.last label via.now calls.old.items calls.new.items }
+    ensures replaced { AreReplaced part.now.train part.now.from part.now.to part.now.first
+        part.now.last label via.now calls.old.items calls.new.items }
     ensures capacity { vec_capacity calls.new ≡ vec_capacity calls.old }
 {
     let first = calls.len() as u32;
@@ -157,8 +169,10 @@ fn replace(calls: &mut Vec<StoredCall>, part: &Part, label: Label, via: &[NewCal
 
 /// Takes the calls strictly within a part out of their train.
 fn take_out(calls: &mut Vec<StoredCall>, part: &Part)
-    requires { IsPart calls.old.items part.now.train part.now.from part.now.to part.now.first part.now.last }
-    ensures out { AreTakenOut part.now.train part.now.first part.now.last calls.old.items calls.new.items }
+    requires { IsPart calls.old.items part.now.train part.now.from part.now.to part.now.first
+        part.now.last }
+    ensures out { AreTakenOut part.now.train part.now.first part.now.last calls.old.items
+        calls.new.items }
     ensures capacity { vec_capacity calls.new ≡ vec_capacity calls.old }
 {
     let last = part.last;
@@ -176,7 +190,8 @@ fn push_via(calls: &mut Vec<StoredCall>, part: &Part, label: Label, via: &[NewCa
     requires small { vec_len calls.old + length via.now < 2 ^ 31 }
     requires labels { label + length via.now < 2 ^ 31 }
     requires places { part.now.first + 1 + length via.now < 2 ^ 32 }
-    ensures appended { AreAppended part.now.train part.now.from part.now.to label via.now (length via.now) calls.old.items calls.new.items }
+    ensures appended { AreAppended part.now.train part.now.from part.now.to label via.now
+        (length via.now) calls.old.items calls.new.items }
     ensures capacity { vec_capacity calls.new ≡ vec_capacity calls.old }
 {
     let first = calls.len() as u32;
@@ -190,7 +205,8 @@ fn push_via(calls: &mut Vec<StoredCall>, part: &Part, label: Label, via: &[NewCa
     }
 }
 
-/// Lets the ends of a part lead to each other over so many new calls, of which the first has the slot `new`.
+/// Lets the ends of a part lead to each other over so many new calls, of which the first has the
+/// slot `new`.
 fn join(calls: &mut Vec<StoredCall>, part: &Part, new: u32, count: u32)
     requires from { part.now.from < vec_len calls.old }
     requires to { part.now.to < vec_len calls.old }
@@ -202,7 +218,8 @@ fn join(calls: &mut Vec<StoredCall>, part: &Part, new: u32, count: u32)
     calls[part.to as usize].set_before(slot_before(part.from, new, count));
 }
 
-/// The slot before that of the new call of this number: new calls have the slots from `new` on, after the call in the slot `from`.
+/// The slot before that of the new call of this number: new calls have the slots from `new` on,
+/// after the call in the slot `from`.
 fn slot_before(from: u32, new: u32, number: u32) -> u32
     requires { new + number < 2 ^ 32 }
     ensures { result ≡ slot_before from new number }
@@ -210,7 +227,8 @@ fn slot_before(from: u32, new: u32, number: u32) -> u32
     if number == 0 { from } else { new + number - 1 }
 }
 
-/// The slot of the new call of this number, or after all new ones that of the call that follows them.
+/// The slot of the new call of this number, or after all new ones that of the call that follows
+/// them.
 fn slot_from(to: u32, new: u32, count: u32, number: u32) -> u32
     requires { new + number < 2 ^ 32 }
     ensures { result ≡ slot_from to new count number }

@@ -1,4 +1,5 @@
-//! The slots of calls. A call's slot is a number that no other call has, and that it keeps for good.
+//! The slots of calls. A call's slot is a number that no other call has, and that it keeps for
+//! good.
 
 ghost use Rattle.std.specs.Prelude.{◌≡◌, ℕ, suc, ◌+◌, ◌<◌, ◌≤◌, ◌^◌, [], ◌∷◌, ◌++◌, Some, IfOk, length, slice_get};
 ghost use Rattle.std.specs.Option.{option_map};
@@ -11,7 +12,8 @@ use mt_base::numbers::{Label, TrainNo};
 use std::alloc::{AllocError, Global};
 use std::marker::Model;
 
-/// A train. The calls that it was loaded with have the labels 0, 1, .. and the slots from `first` on.
+/// A train. The calls that it was loaded with have the labels 0, 1, .. and the slots from `first`
+/// on.
 #[derive(Clone, Copy)]
 pub(crate) struct SlotRow {
     first: u32,
@@ -57,6 +59,7 @@ impl Model for Slots {
 }
 
 /// The entry at a place.
+#[inline(always)]
 fn entry_at(added: &[AddedCall], place: u32) -> AddedCall
     requires { place < length added.now }
     ensures { slice_get added.now place ≡ Some result }
@@ -128,8 +131,8 @@ fn earlier(added: &[AddedCall], from: &AddedCall, nth: u32) -> AddedCall
     }
 }
 
-/// The slot of a call that a rerouting made, by how many such calls of its train stand before it. It is
-/// sought from a later one of the train.
+/// The slot of a call that a rerouting made, by how many such calls of its train stand before it.
+/// It is sought from a later one of the train.
 fn find(added: &[AddedCall], from: AddedCall, nth: u32) -> u32
     requires linked { AreLinked added.now }
     requires link { IsLink added.now from }
@@ -144,8 +147,8 @@ fn find(added: &[AddedCall], from: AddedCall, nth: u32) -> u32
 }
 
 impl Slots {
-    /// No trains, with room for so many, and for so many calls of all trains together. Room for 2^31
-    /// calls or more is answered as want of memory.
+    /// No trains, with room for so many, and for so many calls of all trains together. Room for
+    /// 2^31 calls or more is answered as want of memory.
     pub(crate) fn with_room(alloc: Global, trains: u32, calls: u32) -> Result<Slots, OutOfMemory>
         ensures { IfOk result (λ slots.
             slots ≡ record { trains = []; used = 0; spare_trains = trains; spare_calls = calls }) }
@@ -206,7 +209,8 @@ impl Slots {
     /// The label of the next call that a rerouting of the train makes.
     pub(crate) fn next_label(&self, t: TrainNo) -> Label
         requires { t < length self.now.trains }
-        ensures label { option_map (λ (n : NumberedTrain). length n.slots) (slice_get self.now.trains t)
+        ensures label { option_map (λ (n : NumberedTrain). length n.slots)
+            (slice_get self.now.trains t)
             ≡ Some result }
         ensures small { result < 2 ^ 31 }
     {
@@ -232,6 +236,7 @@ impl Slots {
     }
 
     /// The slot of the call of a train with a label. None exactly where no such call was ever made.
+    #[inline(always)]
     pub(crate) fn slot(&self, t: TrainNo, l: Label) -> Option<u32>
         ensures { result ≡ slot_of self.now t l }
     {
@@ -250,8 +255,8 @@ impl Slots {
         Some(find(&self.added, last, label - row.loaded))
     }
 
-    /// One more train, which is loaded with so many calls, and the slot of the first of them. It takes
-    /// no memory.
+    /// One more train, which is loaded with so many calls, and the slot of the first of them. It
+    /// takes no memory.
     pub(crate) fn push_train(&mut self, calls: u32) -> u32
         requires train_spare { 0 < self.old.spare_trains }
         requires some { 1 ≤ calls }
@@ -300,11 +305,12 @@ impl Slots {
         self.spare_calls -= 1;
     }
 
-    /// A law: each slot of a call is below the number of used ones and that of no other call, and each
-    /// used slot is that of a call.
+    /// A law: each slot of a call is below the number of used ones and that of no other call, and
+    /// each used slot is that of a call.
     pub(crate) fn numbers_are_lawful(&self)
         ensures below { (t l s : ℕ) → slot_of self.now t l ≡ Some s → s < self.now.used }
-        ensures once { (t l u m s : ℕ) → slot_of self.now t l ≡ Some s → slot_of self.now u m ≡ Some s
+        ensures once { (t l u m s : ℕ) → slot_of self.now t l ≡ Some s → slot_of self.now u m
+            ≡ Some s
             → (t ≡ u) × (l ≡ m) }
         ensures taken { (s : ℕ) → s < self.now.used
             → (t : ℕ) × (l : ℕ) × (slot_of self.now t l ≡ Some s) }

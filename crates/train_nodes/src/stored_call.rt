@@ -33,6 +33,7 @@ impl StoredEvent {
         }
     }
 
+    #[inline(always)]
     fn values(&self) -> EventValues
         ensures { result ≡ values_by self.now }
     {
@@ -55,7 +56,8 @@ impl StoredEvent {
     }
 }
 
-/// A call in its slot, with the slots of the calls before and after it along its train. In 64 bytes.
+/// A call in its slot, with the slots of the calls before and after it along its train. In 64
+/// bytes.
 #[derive(Clone, Copy)]
 pub(crate) struct StoredCall {
     pub(crate) label: Label,
@@ -78,7 +80,8 @@ pub(crate) struct StoredCall {
 }
 
 impl StoredCall {
-    /// A call of the train of this number, at a place among its calls, between the calls in two slots, with nothing reported after it.
+    /// A call of the train of this number, at a place among its calls, between the calls in two
+    /// slots, with nothing reported after it.
     pub(crate) fn new(
         train: TrainNo,
         place: u32,
@@ -137,6 +140,7 @@ impl StoredCall {
     }
 
     /// What is known of its departure (dep true) or arrival.
+    #[inline(always)]
     pub(crate) fn values(&self, dep: bool) -> EventValues
         ensures { result ≡ values_of dep (call_of self.now) }
     {
@@ -242,7 +246,8 @@ impl StoredCall {
         self.before = slot;
     }
 
-    /// Gives it its place among the calls of its train and the first report after it, and answers its own report, or else that one.
+    /// Gives it its place among the calls of its train and the first report after it, and answers
+    /// its own report, or else that one.
     pub(crate) fn renew(&mut self, place: u32, next_report: Option<Time>) -> Option<Time>
         ensures rest { IsPlaced place self.old self.new }
         ensures next { next_report_of self.new ≡ next_report }

@@ -52,6 +52,7 @@ fn blank_times(alloc: Global, count: usize) -> Result<Vec<Time>, OutOfMemory>
 }
 
 /// The number of an event, which is the place of its time.
+#[inline(always)]
 fn number_of(slots: &Slots, n: Node) -> usize
     requires { IsTrue (is_some (slot_of slots.now n.train n.label)) }
     ensures { IsNumberOf slots.now n result }
@@ -65,8 +66,8 @@ fn number_of(slots: &Slots, n: Node) -> usize
 }
 
 impl NodeTimes {
-    /// No times, with room for those of so many trains, and of so many calls of all trains together.
-    /// Room for 2^31 calls or more is answered as want of memory.
+    /// No times, with room for those of so many trains, and of so many calls of all trains
+    /// together. Room for 2^31 calls or more is answered as want of memory.
     pub fn with_room(alloc: Global, trains: u32, calls: u32) -> Result<NodeTimes, OutOfMemory>
         ensures { IfOk result (λ times.
             times ≡ record { trains = []; spare_trains = trains; spare_calls = calls }) }
@@ -101,6 +102,7 @@ impl NodeTimes {
 
     /// The time of an event, in seconds from the base of day 0. It takes one step, and nothing else
     /// takes one.
+    #[inline(always)]
     pub fn read<L: Ledger>(&self, n: Node, steps: &mut Steps<L>) -> Time
         requires { IsTrue (has_time self.now n) }
         ensures time { time_of self.now n ≡ Some result }
@@ -122,8 +124,8 @@ impl NodeTimes {
         self.times[number] = t;
     }
 
-    /// Times for the events of one more train, which has so many labels: 2^25 - 1 for each, which no
-    /// settled event has. It takes no memory.
+    /// Times for the events of one more train, which has so many labels: 2^25 - 1 for each, which
+    /// no settled event has. It takes no memory.
     pub fn push_train(&mut self, labels: u32)
         requires train_spare { 0 < self.old.spare_trains }
         requires some { 1 ≤ labels }
@@ -133,8 +135,8 @@ impl NodeTimes {
         let _ = self.slots.push_train(labels);
     }
 
-    /// Times for the events of so many more labels of a train, as for those of a new train. It takes no
-    /// memory.
+    /// Times for the events of so many more labels of a train, as for those of a new train. It
+    /// takes no memory.
     pub fn add_labels(&mut self, t: TrainNo, labels: u32)
         requires there { t < length self.old.trains }
         requires calls_spare { labels ≤ self.old.spare_calls }

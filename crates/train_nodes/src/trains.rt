@@ -41,8 +41,9 @@ use mt_base::plans::NewCall;
 use std::alloc::Global;
 use std::marker::Model;
 
-/// The trains with their calls and the values of their events, the overrides, and how much room is left. All memory is taken when they
-/// are made: the calls of all trains lie in one arena, in slots that are neither moved nor used again.
+/// The trains with their calls and the values of their events, the overrides, and how much room is
+/// left. All memory is taken when they are made: the calls of all trains lie in one arena, in slots
+/// that are neither moved nor used again.
 #[derive(Drop)]
 pub struct Trains {
     pub(crate) rows: Vec<Row>,
@@ -67,15 +68,21 @@ impl Model for Trains {
 }
 
 impl Trains {
-    /// No trains, with room for so many trains, calls of all trains together, and overrides. Room for 2^31 calls or more is answered as
-    /// want of memory, so that each new call has a label.
+    /// No trains, with room for so many trains, calls of all trains together, and overrides. Room
+    /// for 2^31 calls or more is answered as want of memory, so that each new call has a label.
     pub fn with_room(
         alloc: Global,
         trains: u32,
         calls: u32,
         overrides: u32,
     ) -> Result<Trains, OutOfMemory>
-        ensures { IfOk result (λ r. r ≡ record { trains = []; overrides = finmap.empty; spare_trains = trains; spare_calls = calls; spare_overrides = overrides }) }
+        ensures { IfOk result (λ r. r ≡ record {
+          trains = [];
+          overrides = finmap.empty;
+          spare_trains = trains;
+          spare_calls = calls;
+          spare_overrides = overrides;
+        }) }
     {
         let slots = Slots::with_room(alloc, trains, calls)?;
         Ok(Trains {
@@ -99,7 +106,8 @@ impl Trains {
         })
     }
 
-    /// Times for the events of these trains, 2^25 - 1 for each, which no settled event has; with room for those of spare trains and calls.
+    /// Times for the events of these trains, 2^25 - 1 for each, which no settled event has; with
+    /// room for those of spare trains and calls.
     pub fn blank_times(&self, alloc: Global) -> Result<NodeTimes, OutOfMemory>
         ensures sized { IfOk result (λ times.
             AreSized (map (λ (t : ATrain). t.next_label) self.now.trains) times) }
@@ -133,7 +141,8 @@ impl Trains {
         requires calls_spare { length calls.now ≤ self.old.spare_calls }
         requires two_calls { 2 ≤ length calls.now }
         ensures number { result ≡ length self.old.trains }
-        ensures train { self.new ≡ effect self.old (Message.Extra (length self.old.trains) day route calls.now) }
+        ensures train { self.new ≡ effect self.old
+            (Message.Extra (length self.old.trains) day route calls.now) }
     {
         self.slots.numbers_are_lawful();
         let number = TrainNo::new(self.slots.count());
@@ -180,6 +189,7 @@ impl Trains {
     }
 
     /// Whether the event is there and takes place.
+    #[inline(always)]
     pub fn live(&self, n: Node) -> bool
         ensures { result ≡ is_live self.now n }
     {
@@ -192,15 +202,18 @@ impl Trains {
     /// The service day of a train.
     pub fn day(&self, t: TrainNo) -> Day
         requires { t < length self.now.trains }
-        ensures { option_map (λ (train : ATrain). train.day) (slice_get self.now.trains t) ≡ Some result }
+        ensures { option_map (λ (train : ATrain). train.day) (slice_get self.now.trains t)
+            ≡ Some result }
     {
         self.rows[t.get() as usize].day
     }
 
     /// The route of a train.
+    #[inline(always)]
     pub fn route(&self, t: TrainNo) -> RouteNo
         requires { t < length self.now.trains }
-        ensures { option_map (λ (train : ATrain). train.route) (slice_get self.now.trains t) ≡ Some result }
+        ensures { option_map (λ (train : ATrain). train.route) (slice_get self.now.trains t)
+            ≡ Some result }
     {
         self.rows[t.get() as usize].route
     }
@@ -208,7 +221,8 @@ impl Trains {
     /// The label of the next call that a rerouting of the train makes.
     pub fn next_label(&self, t: TrainNo) -> Label
         requires { t < length self.now.trains }
-        ensures label { option_map (λ (train : ATrain). train.next_label) (slice_get self.now.trains t) ≡ Some result }
+        ensures label { option_map (λ (train : ATrain). train.next_label)
+            (slice_get self.now.trains t) ≡ Some result }
         ensures small { result < 2 ^ 31 }
     {
         self.slots.next_label(t)
@@ -219,7 +233,8 @@ impl Trains {
         requires { t < length self.now.trains }
         ensures { first_label (calls_of self.now t) ≡ Some result }
     {
-        // The first call is the one that the train was loaded with first: no rerouting takes it out.
+        // The first call is the one that the train was loaded with first: no rerouting takes it
+        // out.
         let _ = &self.rows;
         let _ = t;
         Label::new(0)
@@ -240,6 +255,7 @@ impl Trains {
     }
 
     /// The label of the call before this one. None exactly at the first call.
+    #[inline(always)]
     pub fn prev_call(&self, t: TrainNo, l: Label) -> Option<Label>
         requires { IsTrue (has_call self.now t l) }
         ensures { result ≡ label_before (calls_of self.now t) l }
@@ -264,7 +280,8 @@ impl Trains {
     /// Whether passengers may board at a call.
     pub fn boards(&self, t: TrainNo, l: Label) -> bool
         requires { IsTrue (has_call self.now t l) }
-        ensures { option_map (λ (call : ACall). call.board) (call_named self.now t l) ≡ Some result }
+        ensures { option_map (λ (call : ACall). call.board) (call_named self.now t l)
+            ≡ Some result }
     {
         self.call(t, l).boards()
     }
@@ -272,7 +289,8 @@ impl Trains {
     /// Whether passengers may alight at a call.
     pub fn alights(&self, t: TrainNo, l: Label) -> bool
         requires { IsTrue (has_call self.now t l) }
-        ensures { option_map (λ (call : ACall). call.alight) (call_named self.now t l) ≡ Some result }
+        ensures { option_map (λ (call : ACall). call.alight) (call_named self.now t l)
+            ≡ Some result }
     {
         self.call(t, l).alights()
     }
@@ -280,7 +298,8 @@ impl Trains {
     /// The scheduled time of an event, in seconds from the base of day 0.
     pub fn scheduled(&self, n: Node) -> Time
         requires { IsTrue (has_event self.now n) }
-        ensures { option_map (λ (event : AnEvent). event.key.time) (event_named self.now n) ≡ Some result }
+        ensures { option_map (λ (event : AnEvent). event.key.time) (event_named self.now n)
+            ≡ Some result }
     {
         self.event(n).key.time
     }
@@ -288,7 +307,8 @@ impl Trains {
     /// The key of an event, by which events are ordered.
     pub fn key(&self, n: Node) -> Key
         requires { IsTrue (has_event self.now n) }
-        ensures { option_map (λ (event : AnEvent). event.key) (event_named self.now n) ≡ Some result }
+        ensures { option_map (λ (event : AnEvent). event.key) (event_named self.now n)
+            ≡ Some result }
     {
         self.event(n).key
     }
@@ -296,7 +316,8 @@ impl Trains {
     /// The forecast of an event, in seconds from the base of day 0. None exactly where it has none.
     pub fn forecast(&self, n: Node) -> Option<Time>
         requires { IsTrue (has_event self.now n) }
-        ensures { option_map (λ (event : AnEvent). event.forecast) (event_named self.now n) ≡ Some result }
+        ensures { option_map (λ (event : AnEvent). event.forecast) (event_named self.now n)
+            ≡ Some result }
     {
         self.event(n).forecast
     }
@@ -304,12 +325,15 @@ impl Trains {
     /// The report of an event, in seconds from the base of day 0. None exactly where it has none.
     pub fn report(&self, n: Node) -> Option<Time>
         requires { IsTrue (has_event self.now n) }
-        ensures { option_map (λ (event : AnEvent). event.report) (event_named self.now n) ≡ Some result }
+        ensures { option_map (λ (event : AnEvent). event.report) (event_named self.now n)
+            ≡ Some result }
     {
         self.event(n).report
     }
 
-    /// The report of the next later live event of the train that has one, in seconds from the base of day 0.
+    /// The report of the next later live event of the train that has one, in seconds from the base
+    /// of day 0.
+    #[inline(always)]
     pub fn next_report(&self, n: Node) -> Option<Time>
         requires { IsTrue (has_event self.now n) }
         ensures { result ≡ report_after self.now n }
@@ -323,8 +347,8 @@ impl Trains {
         }
     }
 
-    /// The events of a train in its order, live or not: of each call the arrival and then the departure. No events where there is no
-    /// such train.
+    /// The events of a train in its order, live or not: of each call the arrival and then the
+    /// departure. No events where there is no such train.
     pub fn events(&self, t: TrainNo) -> TrainEvents<'_>
         ensures { result ≡ train_events self.now t }
     {
@@ -342,7 +366,8 @@ impl Trains {
         }
     }
 
-    /// What a dispatcher chose for the connection from an arrival to a departure. None exactly where nothing was chosen.
+    /// What a dispatcher chose for the connection from an arrival to a departure. None exactly
+    /// where nothing was chosen.
     pub fn override_of(&self, feeder: Node, train: Node) -> Option<Override>
         ensures { result ≡ finmap.get self.now.overrides (connection feeder train) }
     {
@@ -351,7 +376,8 @@ impl Trains {
 
     /// Keeps or drops a connection, in place of what was chosen before. It takes no memory.
     pub fn set_override(&mut self, feeder: Node, train: Node, choice: Override)
-        requires spare { has_override self.old (connection feeder train) ≡ false → 0 < self.old.spare_overrides }
+        requires spare { has_override self.old (connection feeder train) ≡ false
+            → 0 < self.old.spare_overrides }
         ensures { self.new ≡ with_override (connection feeder train) choice self.old }
     {
         self.overrides.set(connection(feeder, train), choice);
@@ -364,7 +390,8 @@ impl Trains {
         self.overrides.remove(&connection(feeder, train));
     }
 
-    /// The arrivals whose connection to a departure is kept, each once, in the order of events by name.
+    /// The arrivals whose connection to a departure is kept, each once, in the order of events by
+    /// name.
     pub fn keeps_into(&self, departure: Node) -> Keeps<'_>
         ensures kept { result ≡ kept_into self.now.overrides departure }
         ensures each { (u : ANode) → Contains result u ↔ IsKept self.now.overrides u departure }
@@ -373,7 +400,8 @@ impl Trains {
         self.overrides.keeps_into(&departure)
     }
 
-    /// The departures to which the connection from an arrival is kept, each once, in the order of events by name.
+    /// The departures to which the connection from an arrival is kept, each once, in the order of
+    /// events by name.
     pub fn keeps_from(&self, arrival: Node) -> Keeps<'_>
         ensures kept { result ≡ kept_from self.now.overrides arrival }
         ensures each { (v : ANode) → Contains result v ↔ IsKept self.now.overrides arrival v }
@@ -398,6 +426,7 @@ impl Trains {
     }
 
     /// The call with this label.
+    #[inline(always)]
     fn find_call(&self, t: TrainNo, l: Label) -> Option<&StoredCall>
         ensures found { option_map call_of (option_copied result) ≡ call_named self.now t l }
         ensures labels { HasDistinctLabels (calls_of self.now t) }
@@ -408,6 +437,7 @@ impl Trains {
         }
     }
 
+    #[inline(always)]
     fn call(&self, t: TrainNo, l: Label) -> &StoredCall
         requires { IsTrue (has_call self.now t l) }
         ensures { call_named self.now t l ≡ Some (call_of result.now) }
@@ -419,6 +449,7 @@ impl Trains {
     }
 
     /// The event of this name, live or not.
+    #[inline(always)]
     pub fn event(&self, n: Node) -> Event
         requires { IsTrue (has_event self.now n) }
         ensures { event_named self.now n ≡ Some result }

@@ -64,8 +64,3 @@ min-position p xs n h = elim (cases_lt (position_or_len p xs) (length xs)) [
   | inl there ↦ rw (lt-ltb (position_or_len p xs) (length xs) there) refl
   | inr none ↦ rw (le-ltb (position_or_len p xs) (length xs) none) (omega arith)
 ]
-
--- what was looked up once is not earlier the second time
-pub earlier-again : (o : Option ℕ) (n k : ℕ) → k ≡ min n (unwrap_or o n) → k ≡ min k (unwrap_or o k)
-earlier-again (Some m) n k h = omega arith
-earlier-again None n k h = omega arith

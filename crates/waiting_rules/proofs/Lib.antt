@@ -1,4 +1,9 @@
 pub mod Firsts
-pub mod Asked
+pub mod Anys
+pub mod Orders
 pub mod PlaceLemmas
+pub mod PartLemmas
+pub mod FitLemmas
+pub mod BoundLemmas
+pub mod FlagLemmas
 pub mod WaitLemmas

@@ -1,18 +1,17 @@
 -- The wait from the first rule that fits.
-use Rattle.std.proofs.Common.{◌≡◌, ◌≤◌, ℕ, List, All, map, Option, Some, None, unwrap_or, slice_get, ◌&&◌, ◌||◌, inl, inr, refl, sym, subst, ◌∙◌, ap, arith}
-use Rattle.std.specs.List.{find, position_or_len}
+use Rattle.std.proofs.Common.{Bool, ◌||◌, ◌≡◌, ◌≤◌, ℕ, true, false, List, [], ◌∷◌, All, map, Option, Some, None, unwrap_or, slice_get, nat_lt, ◌&&◌, inl, inr, refl, sym, subst, ◌∙◌, ap, arith}
+use Rattle.std.specs.List.{find, list_any, position_or_len}
 use Rattle.std.specs.Option.{option_map, option_map_or}
-use Rattle.std.proofs.lemmas.Bool.{cases_Bool}
+use Rattle.std.proofs.lemmas.Bool.{cases_Bool, cases_lt, lt-ltb, and_parts, false≢true}
 use Rattle.std.proofs.lemmas.List.Folds.{find_at}
 use Rattle.std.proofs.lemmas.Option.{slice_get-map, slice_get_cases}
 use Rattle.mt_base.specs.declared.tables.RuleRow.{RuleRow}
 use Rattle.mt_base.specs.declared.tables.StopRow.{StopRow}
 use Rattle.mt_base.specs.Places.{is_platform}
 use Rattle.delay_model.specs.Changes.{station, station_by}
-use Rattle.delay_model.specs.Waits.{is_empty_or, wait}
-use Rattle.waiting_rules.specs.declared.scopes.Asked.{Asked}
-use Rattle.waiting_rules.specs.Scopes.{is_for}
-use Rattle.waiting_rules.specs.WaitTable.{parent_station, station_in}
+use Rattle.delay_model.specs.Waits.{wait}
+use Rattle.waiting_rules.specs.Rules.{has_wait, makes_wait, is_for}
+use Rattle.waiting_rules.specs.WaitTable.{parent_station, station_in, some_waits, WaitTable}
 
 station-by : (a : ℕ) (row : Option StopRow) → option_map_or (station_by a) row a ≡ unwrap_or (unwrap_or (option_map parent_station row) None) a
 station-by a None = refl
@@ -23,12 +22,46 @@ station-is : (stops : List StopRow) (a : ℕ) → station stops a ≡ station_in
 station-is stops a =
     station-by a (slice_get stops a) ∙ ap (λ row. unwrap_or (unwrap_or row None) a) (sym (slice_get-map parent_station stops a))
 
--- the wait is that of the first rule that fits
-pub wait-first : (stops : List StopRow) (rules : List RuleRow) (asked : Asked) → asked.station ≡ station_in (map parent_station stops) asked.stop → option_map_or (λ (rule : RuleRow). rule.max_wait) (slice_get rules (position_or_len (is_for asked) rules)) 0 ≡ wait stops rules asked.feeder asked.connecting asked.stop
+-- the wait is that of the first rule that fits, by the station of the stop
+wait-by : (stops : List StopRow) (rules : List RuleRow) (parents : List (Option ℕ)) (feeder route stop : ℕ) → map parent_station stops ≡ parents → option_map_or (λ (rule : RuleRow). rule.max_wait) (find (is_for feeder route stop (station_in parents stop)) rules) 0 ≡ wait stops rules feeder route stop
 unfolding wait
-wait-first stops rules asked e =
-    ap (λ found. option_map_or (λ (rule : RuleRow). rule.max_wait) found 0) (sym (find_at (is_for asked) rules)
-    ∙ ap (λ t. find (λ rule. is_empty_or rule.feeder asked.feeder && (is_empty_or rule.connecting asked.connecting && (is_empty_or rule.stop asked.stop || is_empty_or rule.stop t))) rules) (e ∙ sym (station-is stops asked.stop)))
+wait-by stops rules parents feeder route stop e =
+    ap (λ t. option_map_or (λ (rule : RuleRow). rule.max_wait) (find (is_for feeder route stop t) rules) 0) (sym (station-is stops stop ∙ ap (λ ps. station_in ps stop) e))
+
+pub wait-first : (stops : List StopRow) (rules : List RuleRow) (parents : List (Option ℕ)) (feeder route stop n : ℕ) → map parent_station stops ≡ parents → n ≡ position_or_len (is_for feeder route stop (station_in parents stop)) rules → option_map_or (λ (rule : RuleRow). rule.max_wait) (slice_get rules n) 0 ≡ wait stops rules feeder route stop
+wait-first stops rules parents feeder route stop n e first =
+    ap (λ k. option_map_or (λ (rule : RuleRow). rule.max_wait) (slice_get rules k) 0) first
+    ∙ ap (λ found. option_map_or (λ (rule : RuleRow). rule.max_wait) found 0) (sym (find_at (is_for feeder route stop (station_in parents stop)) rules))
+    ∙ wait-by stops rules parents feeder route stop e
+
+no-wait : (n : ℕ) → nat_lt 0 n ≡ false → n ≡ 0
+no-wait n h = elim (cases_lt 0 n) [ inl more ↦ let one = lt-ltb 0 n more in absurd (cc) | inr none ↦ omega arith ]
+
+waits-not : (w m more : Bool) → w ≡ true → m ≡ true → ((w && m) || more) ≡ false → ⊥
+waits-not true true more h k e = false≢true (sym e)
+waits-not true false more h k e = false≢true k
+waits-not false m more h k e = false≢true h
+
+none-fits : (feeder route stop station : ℕ) (rules : List RuleRow) → list_any (λ rule. has_wait rule && makes_wait route stop station rule) rules ≡ false → option_map_or (λ (rule : RuleRow). rule.max_wait) (find (is_for feeder route stop station) rules) 0 ≡ 0
+none-fits feeder route stop station [] h = refl
+none-fits feeder route stop station (x ∷ xs) h = elim (cases_Bool (is_for feeder route stop station x)) [
+  | inl here ↦
+      let makes : makes_wait route stop station x ≡ true = (and_parts _ _ here).1 in
+      elim (cases_Bool (has_wait x)) [
+        | inl waits ↦ absurd (waits-not (has_wait x) (makes_wait route stop station x) _ waits makes h)
+        | inr short ↦ rw here (no-wait x.max_wait short)
+      ]
+  | inr other ↦
+      elim (cases_Bool (has_wait x && makes_wait route stop station x)) [
+        | inl waits ↦ let none = rw waits at h in absurd (cc)
+        | inr apart ↦ let rest = rw apart at h in rw other (none-fits feeder route stop station xs rest)
+      ]
+]
+
+-- where no rule with a wait above 0 fits, no train waits
+pub wait-none : (table : WaitTable) (route stop : ℕ) → some_waits table route stop ≡ false → (feeder : ℕ) (stops : List StopRow) → map parent_station stops ≡ table.parents → wait stops table.rules feeder route stop ≡ 0
+wait-none table route stop h feeder stops e =
+    sym (wait-by stops table.rules table.parents feeder route stop e) ∙ none-fits feeder route stop (station_in table.parents stop) table.rules h
 
 -- no wait is longer than that of a rule
 pub wait-bound : (rules : List RuleRow) (n : ℕ) → All (λ (rule : RuleRow). rule.max_wait ≤ 86400) rules → option_map_or (λ (rule : RuleRow). rule.max_wait) (slice_get rules n) 0 ≤ 86400

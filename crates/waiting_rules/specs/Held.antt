@@ -1,10 +1,14 @@
 -- What holds of kept waits.
 use Rattle.std.specs.Prelude.{◌≤◌, All}
 use Rattle.mt_base.specs.declared.tables.RuleRow.{RuleRow}
-use Rattle.waiting_rules.specs.Indexed.{IsIndexed}
+use Rattle.waiting_rules.specs.Indexed.{AreFirst}
+use Rattle.waiting_rules.specs.Bounded.{HasBounds}
+use Rattle.waiting_rules.specs.Waiting.{HasFlags}
 use Rattle.waiting_rules.specs.declared.waits.Waits.TheInside.{Inside}
 
--- no rule has a wait above 86,400 seconds, and the first rules are those of the file
+-- no rule has a wait above 86,400 seconds, and what is kept is that of the rules of the file
 pub record IsHeld (a : Inside) : Type 0 where
   pub longest : All (λ (rule : RuleRow). rule.max_wait ≤ 86400) a.rules.items
-  pub first_rules : IsIndexed a.rules.items a.first_rules
+  pub first_rules : AreFirst a.rules.items a.first_rules.items
+  pub bounds : HasBounds a.rules.items a.first_rules.items a.bounds
+  pub flags : HasFlags a.parents.items a.rules.items a.flags.items

@@ -1,4 +1,8 @@
+pub mod Rules
 pub mod WaitTable
 pub mod Scopes
 pub mod Indexed
+pub mod Waiting
+pub mod Bounded
 pub mod Held
+pub mod HeldClass

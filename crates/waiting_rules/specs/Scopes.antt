@@ -1,65 +1,47 @@
--- What waiting rules are for.
-use Rattle.std.specs.Prelude.{ℕ, Bool, ◌&&◌, ◌||◌, Option, Some, None, if◌then◌else◌}
-use mathlib.Core.Bool.{beq}
+-- What waiting rules are for, by the fields that they give.
+use Rattle.std.specs.Prelude.{ℕ, Bool, List, [], ◌∷◌, Some, None}
 use Rattle.std.specs.declared.cmp.Ordering.{Ordering}
 use Rattle.std.specs.BTreeMap.{is_at}
-use Rattle.std.specs.Option.{is_some, option_cmp}
+use Rattle.std.specs.Option.{option_cmp}
 use Rattle.std.specs.Ordering.{nat_cmp, ordering_then}
 use Rattle.mt_base.specs.declared.tables.RuleRow.{RuleRow}
-use Rattle.delay_model.specs.Waits.{is_empty_or}
-use Rattle.waiting_rules.specs.declared.scopes.Asked.{Asked}
-use Rattle.waiting_rules.specs.declared.scopes.Fields.{Fields}
+use Rattle.waiting_rules.specs.declared.scopes.Connecting.{Connecting}
 use Rattle.waiting_rules.specs.declared.scopes.Scope.{Scope}
+
+-- the trains that a rule makes wait
+abbrev pub connecting_of : RuleRow → Connecting
+connecting_of rule = record { route = rule.connecting; stop = rule.stop }
 
 -- what a rule is for
 abbrev pub scope_of : RuleRow → Scope
-scope_of rule = record { feeder = rule.feeder; connecting = rule.connecting; stop = rule.stop }
+scope_of rule = record { connecting = connecting_of rule; feeder = rule.feeder }
 
--- which fields a rule gives
-abbrev pub fields_of : RuleRow → Fields
-fields_of rule = record {
-  feeder = is_some rule.feeder;
-  connecting = is_some rule.connecting;
-  stop = is_some rule.stop;
-}
+-- trains in the order of their routes and then of stops, an empty field before any other
+abbrev pub connecting_cmp : Connecting → Connecting → Ordering
+connecting_cmp a b =
+    ordering_then (option_cmp nat_cmp a.route b.route) (option_cmp nat_cmp a.stop b.stop)
 
--- the same fields are given
-abbrev pub same_fields : Fields → Fields → Bool
-same_fields a b = beq a.feeder b.feeder && (beq a.connecting b.connecting && beq a.stop b.stop)
-
--- a field that is given, or an empty one
-abbrev pub given : Bool → ℕ → Option ℕ
-given there n = if there then Some n else None
-
--- the scope of the rules that give these fields and are for the routes asked for and for this stop
--- or station
-abbrev pub scope_at : Fields → Asked → ℕ → Scope
-scope_at fields asked stop =
-    record {
-      feeder = given fields.feeder asked.feeder;
-      connecting = given fields.connecting asked.connecting;
-      stop = given fields.stop stop;
-    }
-
--- scopes in the order of their fields, an empty field before any other
+-- scopes in the order of the trains that wait and then of feeders' routes, an empty one first
 abbrev pub scope_cmp : Scope → Scope → Ordering
 scope_cmp a b =
-    ordering_then (option_cmp nat_cmp a.feeder b.feeder)
-    (ordering_then (option_cmp nat_cmp a.connecting b.connecting)
-    (option_cmp nat_cmp a.stop b.stop))
+    ordering_then (connecting_cmp a.connecting b.connecting)
+    (option_cmp nat_cmp a.feeder b.feeder)
 
 -- the rule has this scope
 abbrev pub has_scope : Scope → RuleRow → Bool
 has_scope scope rule = is_at (scope_cmp scope) (scope_of rule)
 
--- the rule is for the routes asked for, and for the stop or its station
-abbrev pub is_for : Asked → RuleRow → Bool
-is_for asked rule =
-    is_empty_or rule.feeder asked.feeder
-    && (is_empty_or rule.connecting asked.connecting
-    && (is_empty_or rule.stop asked.stop || is_empty_or rule.stop asked.station))
+-- the rule has these fields for the trains that wait
+abbrev pub is_connecting : Connecting → RuleRow → Bool
+is_connecting connecting rule = is_at (connecting_cmp connecting) (connecting_of rule)
 
--- the rule gives these fields and is for what is asked for
-abbrev pub is_asked : Asked → Fields → RuleRow → Bool
-is_asked asked fields rule = has_scope (scope_at fields asked asked.stop) rule || has_scope
-    (scope_at fields asked asked.station) rule
+-- the fields of the rules that make trains of a route wait at a stop or its station
+abbrev pub all_connecting : ℕ → ℕ → ℕ → List Connecting
+all_connecting route stop station =
+    record { route = Some route; stop = Some stop }
+    ∷ record { route = Some route; stop = Some station }
+    ∷ record { route = Some route; stop = None }
+    ∷ record { route = None; stop = Some stop }
+    ∷ record { route = None; stop = Some station }
+    ∷ record { route = None; stop = None }
+    ∷ []

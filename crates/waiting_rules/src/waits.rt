@@ -1,19 +1,23 @@
 //! Waits by the first rule that fits.
 
-ghost use Rattle.std.specs.Prelude.{◌≡◌, ◌≤◌, List, map, slice_get, length, nat_eq, IfOk};
-ghost use Rattle.std.specs.Option.{option_map_or};
+ghost use Rattle.std.specs.Prelude.{◌≡◌, ◌≤◌, ℕ, List, All, map, length, nat_eq, is_some, None, IfOk, IfSome};
 ghost use Rattle.mt_base.specs.declared.tables.RuleRow.{RuleRow as ARule};
 ghost use Rattle.mt_base.specs.declared.tables.StopRow.{StopRow as AStopRow};
 ghost use Rattle.delay_model.specs.Waits.{wait};
-ghost use Rattle.waiting_rules.specs.WaitTable.{parent_station, station_in, wait_table};
+ghost use Rattle.waiting_rules.specs.WaitTable.{parent_station, wait_table, some_waits};
 
-use crate::first_rules::FirstRules;
-use crate::scopes::Asked;
+use crate::bounds::{Bounds, all_bounds};
+use crate::classes::{WaitClass, parts, some_wait};
+use crate::first_rules::first_rules;
+use crate::scopes::{Connecting, Scope, all_connecting};
+use crate::stations::{parents, station};
+use crate::waiting::{flag_at, flags};
 use feed_tables::FeedTables;
 use mt_base::memory::OutOfMemory;
 use mt_base::numbers::{RouteNo, StopNo};
-use mt_base::tables::{RuleRow, StopRow};
+use mt_base::tables::RuleRow;
 use std::alloc::Global;
+use std::collections::BTreeMap;
 use std::marker::Model;
 
 /// How long trains wait for late feeders. It is seen as the parent stations of the locations and
@@ -22,7 +26,12 @@ use std::marker::Model;
 pub struct Waits {
     parents: Vec<Option<StopNo>>,
     rules: Vec<RuleRow>,
-    first_rules: FirstRules,
+    /// The first rule of each scope with its place in the file, in the order of scopes.
+    first_rules: Vec<(Scope, u32)>,
+    /// Where those that make the same trains wait start and end.
+    bounds: BTreeMap<Connecting, Bounds>,
+    /// Whether a rule with a wait above 0 names each location or its station, or no stop.
+    flags: Vec<bool>,
 }
 
 impl Model for Waits {
@@ -43,11 +52,15 @@ impl Waits {
         ensures { IfOk result (λ waits. waits ≡ wait_table t.now.stops t.now.rules) }
     {
         let tables = t.tables();
+        let parents = parents(alloc, tables.stops.as_slice())?;
         let rules = Vec::from_slice(alloc, tables.rules.as_slice())?;
+        let first_rules = first_rules(alloc, rules.as_slice())?;
         Ok(Waits {
-            parents: parents(alloc, tables.stops.as_slice())?,
-            first_rules: FirstRules::build(alloc, rules.as_slice())?,
+            bounds: all_bounds(alloc, rules.as_slice(), first_rules.as_slice())?,
+            flags: flags(alloc, parents.as_slice(), rules.as_slice())?,
+            parents,
             rules,
+            first_rules,
         })
     }
 
@@ -59,7 +72,9 @@ impl Waits {
         Ok(Waits {
             parents: Vec::from_slice(alloc, self.parents.as_slice())?,
             rules: Vec::from_slice(alloc, self.rules.as_slice())?,
-            first_rules: self.first_rules.copy()?,
+            first_rules: Vec::from_slice(alloc, self.first_rules.as_slice())?,
+            bounds: self.bounds.clone()?,
+            flags: Vec::from_slice(alloc, self.flags.as_slice())?,
         })
     }
 
@@ -70,6 +85,36 @@ impl Waits {
         self.rules.is_empty()
     }
 
+    /// How long trains of the route `connecting` wait at `stop`, by the routes of late feeders.
+    /// None exactly where no rule with a wait above 0 is for this route and this stop or its
+    /// station.
+    pub fn class(&self, connecting: RouteNo, stop: StopNo) -> Option<WaitClass<'_>>
+        ensures some { is_some result ≡ some_waits self.now connecting stop }
+        ensures class { IfSome result (λ class. class
+            ≡ record { table = self.now; connecting = connecting; stop = stop }) }
+        ensures none { result ≡ None → (feeder : ℕ) (stops : List AStopRow)
+            → map parent_station stops ≡ self.now.parents
+            → wait stops self.now.rules feeder connecting stop ≡ 0 }
+    {
+        if !flag_at(self.flags.as_slice(), stop) {
+            return None;
+        }
+        let station = station(self.parents.as_slice(), stop);
+        let all = all_connecting(connecting, stop, station);
+        let parts = parts(&self.bounds, &all);
+        if !some_wait(&parts) {
+            return None;
+        }
+        Some(WaitClass::new(
+            self.parents.as_slice(),
+            self.rules.as_slice(),
+            self.first_rules.as_slice(),
+            connecting,
+            stop,
+            parts,
+        ))
+    }
+
     /// How many seconds a train of the route `connecting` waits at `stop` for a late train of the
     /// route `feeder`: at most `max_wait` of the first rule for these routes and for the stop or
     /// its station, or 0 where there is none. An empty field of a rule is for all.
@@ -78,49 +123,17 @@ impl Waits {
             → result ≡ wait stops self.now.rules feeder connecting stop }
         ensures longest { result ≤ 86400 }
     {
-        let asked = Asked {
-            feeder,
-            connecting,
-            stop,
-            station: station(self.parents.as_slice(), stop),
-        };
-        let rules = self.rules.as_slice();
-        longest_wait(rules, self.first_rules.first(rules, &asked))
+        match self.class(connecting, stop) {
+            Some(class) => class.wait(feeder),
+            None => 0,
+        }
     }
-}
 
-/// The longest wait of the rule at a place, or 0 where there is none.
-fn longest_wait(rules: &[RuleRow], place: usize) -> u32
-    ensures { result ≡ option_map_or (λ (rule : ARule). rule.max_wait)
-        (slice_get rules.now place) 0 }
-{
-    rules.get(place).map_or(0, |rule| rule.max_wait)
-}
-
-/// The parent station of each location, where it has one.
-fn parents(alloc: Global, stops: &[StopRow]) -> Result<Vec<Option<StopNo>>, OutOfMemory>
-    ensures { IfOk result (λ v. v.items ≡ map parent_station stops.now) }
-{
-    stops.iter().map(parent_station).collect(alloc)
-}
-
-/// The parent station of a stop or platform. Any other location has none.
-fn parent_station(row: &StopRow) -> Option<StopNo>
-    ensures { result ≡ parent_station row.now }
-{
-    if row.kind.is_platform() {
-        row.parent
-    } else {
-        None
-    }
-}
-
-/// The station of a location: its parent station, or itself where it has none.
-fn station(parents: &[Option<StopNo>], stop: StopNo) -> StopNo
-    ensures { result ≡ station_in parents.now stop }
-{
-    match parents.get(stop.get() as usize) {
-        Some(Some(parent)) => *parent,
-        _ => stop,
+    /// A law: no rule makes a train wait longer than 86,400 seconds. The call does nothing.
+    pub fn waits_are_short(&self)
+        ensures { All (λ (rule : ARule). rule.max_wait ≤ 86400) self.now.rules }
+    {
+        // A field is named, so that the check knows what holds of the rules.
+        let _ = &self.rules;
     }
 }

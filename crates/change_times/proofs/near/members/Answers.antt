@@ -3,8 +3,8 @@ use Rattle.std.proofs.lemmas.List.FromFn.{map-range_with_len_more}
 use Rattle.std.proofs.lemmas.Result.{IfOk-weaker}
 use Rattle.std.specs.List.{range_with_len}
 use Rattle.std.specs.List.Sorted.{IsPermutation}
-use Rattle.change_times.specs.Near.{HaveMembers}
-use Rattle.change_times.proofs.NearLemmas.{member, have-members}
+use Rattle.change_times.specs.Near.{member, HaveMembers}
+use Rattle.change_times.proofs.NearLemmas.{have-members}
 use Rattle.change_times.proofs.near.members.Goals as goal
 
 pub loop-number-preserved : goal.loop-number-preserved

@@ -1,6 +1,6 @@
 use Rattle.std.proofs.Common.{◌≡◌, map}
 use Rattle.std.specs.List.{range_with_len}
-use Rattle.change_times.proofs.NearLemmas.{member}
+use Rattle.change_times.specs.Near.{member}
 use Rattle.change_times.proofs.near.members.Given as goal
 
 abbrev pub invariant-loop-number : goal.invariant-loop-number

@@ -1,7 +1,7 @@
 use Rattle.std.proofs.Common.{◌≡◌}
-use Rattle.change_times.specs.declared.near.Direction.TheVariants.{Back}
+use Rattle.change_times.specs.Reach.{reached_back}
 use Rattle.change_times.proofs.CountLemmas.{lists_of}
 use Rattle.change_times.proofs.reach.back.Given as goal
 
 abbrev pub invariant-loop-number : goal.invariant-loop-number
-invariant-loop-number l = l.lists ≡ lists_of l.table Back l.number
+invariant-loop-number l = l.lists ≡ lists_of (reached_back l.table) l.number

@@ -3,7 +3,7 @@ use Rattle.std.specs.Prelude.{cond}
 use Rattle.delay_model.specs.Changes.{is_stop_or_station}
 use Rattle.change_times.specs.declared.near.Direction.TheVariants.{Onward}
 use Rattle.change_times.specs.Listed.{listed}
-use Rattle.change_times.proofs.CountLemmas.{lists-more, lists-all, counted, counted-next, counted-below, counted-all}
+use Rattle.change_times.proofs.CountLemmas.{lists-more, onward-all, counted, counted-next, counted-below, counted-all}
 use Rattle.change_times.proofs.reach.onward.Goals as goal
 
 pub returns-then-count-gt-MOST_PAIRS-clause-many : goal.returns-then-count-gt-MOST_PAIRS-clause-many
@@ -23,7 +23,7 @@ loop-number-preserved c =
     let p : c.pairs_from-count.result ≡ cond (is_stop_or_station t.stops n) (length (listed t Onward n)) 0 = search rules in
     let next = counted-next t n (is_stop_or_station t.stops n) refl in
     record {
-      lists = e ∙ ap (λ lists. lists ++ listed t Onward n ∷ []) c.loop-number.invariant.lists ∙ sym (lists-more t Onward n);
+      lists = e ∙ ap (λ lists. lists ++ listed t Onward n ∷ []) c.loop-number.invariant.lists ∙ sym (lists-more (listed t Onward) n);
       count = omega (arith, p, next);
       few = omega arith;
     }
@@ -32,7 +32,7 @@ pub returns-clause-lists : goal.returns-clause-lists
 returns-clause-lists c a =
     let t = c.args.table.now in
     let end : c.loop-number.number ≡ length t.stops = omega (arith, c.len-number-end.ensures, ap length c.places.ensures.places) in
-    ap (λ lists. get_or lists a []) c.loop-number.invariant.lists ∙ lists-all t Onward c.loop-number.number a c.places.ensures.kept end
+    ap (λ lists. get_or lists a []) c.loop-number.invariant.lists ∙ onward-all t c.loop-number.number a c.places.ensures.kept end
 
 pub returns-clause-limit : goal.returns-clause-limit
 returns-clause-limit c =

@@ -1,11 +1,12 @@
 use Rattle.std.proofs.Common.{◌≡◌, ◌≤◌}
 use Rattle.change_times.specs.declared.near.Direction.TheVariants.{Onward}
+use Rattle.change_times.specs.Listed.{listed}
 use Rattle.change_times.proofs.CountLemmas.{lists_of, counted}
 use Rattle.change_times.proofs.reach.onward.Given as goal
 
 abbrev pub invariant-loop-number : goal.invariant-loop-number
 invariant-loop-number l = record {
-  lists : l.lists ≡ lists_of l.table Onward l.number;
+  lists : l.lists ≡ lists_of (listed l.table Onward) l.number;
   count : l.count ≡ counted l.table l.number;
   few : l.count ≤ 4000000;
 }

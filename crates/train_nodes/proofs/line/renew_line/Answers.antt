@@ -1,6 +1,4 @@
-use Rattle.std.proofs.Common.{◌≡◌, ◌-◌, ◌∙◌, ap, arith, refl}
-use Rattle.std.proofs.lemmas.List.{get_or-set_same}
-use Rattle.train_nodes.specs.declared.stored_call.StoredCall.{StoredCall}
+use Rattle.train_nodes.proofs.WordsSlots.{◌≡◌, ◌-◌, ◌∙◌, ap, arith, refl, get_or-set_same, StoredCall}
 use Rattle.train_nodes.proofs.RenewLemmas.{begins, ends, inside, goes-on}
 use Rattle.train_nodes.proofs.line.renew_line.Goals as goal
 

@@ -1,5 +1,4 @@
-use Rattle.std.proofs.Common.{◌≡◌, ℕ, vec_capacity}
-use Rattle.train_nodes.specs.Linked.{IsLine}
+use Rattle.train_nodes.proofs.WordsSlots.{◌≡◌, ℕ, vec_capacity, IsLine}
 use Rattle.train_nodes.proofs.RenewLemmas.{IsPartlyRenewed}
 use Rattle.train_nodes.proofs.line.renew_line.Given as goal
 

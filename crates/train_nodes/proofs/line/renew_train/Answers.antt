@@ -1,5 +1,4 @@
-use Rattle.std.proofs.Common.{◌-◌, sym, ap, ◌∙◌}
-use Rattle.train_nodes.specs.Numbering.{slot_of}
+use Rattle.train_nodes.proofs.WordsSlots.{◌-◌, sym, ap, ◌∙◌, slot_of}
 use Rattle.train_nodes.proofs.EditLemmas.{loaded-read, last-there}
 use Rattle.train_nodes.proofs.line.renew_train.Goals as goal
 

@@ -1,8 +1,4 @@
-use Rattle.std.proofs.Common.{rules}
-use Rattle.std.specs.Ordering.{is_le, is_lt}
-use Rattle.std.proofs.lemmas.List.Sorted.{IsPartitionPoint-from_clause}
-use Rattle.mt_base.specs.Order.{node_cmp}
-use Rattle.train_nodes.specs.OverrideRows.{event_at}
+use Rattle.train_nodes.proofs.WordsSlots.{rules, is_le, is_lt, IsPartitionPoint-from_clause, node_cmp, event_at}
 use Rattle.train_nodes.proofs.KeepLemmas.{IsPart, begin-parted, end-parted, part-is, part-order}
 use Rattle.train_nodes.proofs.override_rows.bounds.Goals as goal
 

@@ -1,4 +1,4 @@
-use Rattle.std.proofs.Common.{refl, arith}
+use Rattle.train_nodes.proofs.WordsSlots.{refl, arith}
 use Rattle.train_nodes.proofs.OverrideOrders.{ends_total}
 use Rattle.train_nodes.proofs.PlaceLemmas.{at-found, at-gap}
 use Rattle.train_nodes.proofs.override_rows.put.Goals as goal

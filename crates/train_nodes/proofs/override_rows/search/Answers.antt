@@ -1,6 +1,4 @@
-use Rattle.std.proofs.Common.{rules}
-use Rattle.std.proofs.lemmas.Fn.{always_returns_same}
-use Rattle.train_nodes.specs.OverrideRows.{end_cmp}
+use Rattle.train_nodes.proofs.WordsSlots.{rules, always_returns_same, end_cmp}
 use Rattle.train_nodes.proofs.OverrideOrders.{ends_total}
 use Rattle.train_nodes.proofs.PlaceLemmas.{searched}
 use Rattle.train_nodes.proofs.override_rows.search.Goals as goal

@@ -1,4 +1,4 @@
-use Rattle.std.proofs.Common.{refl, sym}
+use Rattle.train_nodes.proofs.WordsSlots.{refl, sym}
 use Rattle.train_nodes.proofs.OverrideOrders.{ends_total}
 use Rattle.train_nodes.proofs.PlaceLemmas.{at-found, at-gap}
 use Rattle.train_nodes.proofs.override_rows.take_out.Goals as goal

@@ -1,5 +1,4 @@
-use Rattle.std.proofs.Common.{rules}
-use Rattle.std.proofs.lemmas.Fn.{filter_same}
+use Rattle.train_nodes.proofs.WordsSlots.{rules, filter_same}
 use Rattle.train_nodes.proofs.override_table.retain.Goals as goal
 
 pub returns-clause-items : goal.returns-clause-items

@@ -1,5 +1,4 @@
-use Rattle.std.proofs.Common.{ap, ◌∙◌, arith}
-use Rattle.train_nodes.specs.declared.stored_call.StoredCall.{StoredCall}
+use Rattle.train_nodes.proofs.WordsShapes.{◌∙◌, ap, arith, StoredCall}
 use Rattle.train_nodes.proofs.PartLemmas.{joined-as}
 use Rattle.train_nodes.proofs.shapes.join.Goals as goal
 

@@ -1,4 +1,4 @@
-use Rattle.std.proofs.Common.{◌≡◌, ◌≤◌, vec_capacity}
+use Rattle.std.proofs.Common.{◌≡◌, ◌<◌, ◌≤◌, length, vec_capacity}
 use Rattle.train_nodes.specs.Lines.{IsKilled}
 use Rattle.train_nodes.proofs.PartLemmas.{IsStanding}
 use Rattle.train_nodes.proofs.shapes.kill.Given as goal
@@ -9,5 +9,6 @@ invariant-loop-place l = record {
   killed : IsKilled l.part.train l.part.first l.place l.fn.calls.items l.calls.items;
   standing : IsStanding l.fn.calls.items l.part.train l.place l.slot;
   from : l.part.first ≤ l.place;
+  within : l.slot < length l.calls.items;
   capacity : vec_capacity l.calls ≡ vec_capacity l.fn.calls;
 }

@@ -1,7 +1,4 @@
-use Rattle.std.proofs.Common.{◌≡◌, ap, sym, subst, ◌∙◌, ◌+◌, arith, refl, length}
-use Rattle.std.proofs.lemmas.Option.{slice_get_read}
-use Rattle.delay_model.specs.Effect.{new_call}
-use Rattle.train_nodes.specs.Lines.{AreAppended, slot_before, slot_from}
+use Rattle.train_nodes.proofs.WordsShapes.{new_call, ◌≡◌, ◌+◌, length, refl, sym, ◌∙◌, ap, subst, arith, slice_get_read, slot_before, slot_from, AreAppended}
 use Rattle.train_nodes.proofs.PartLemmas.{append-more}
 use Rattle.train_nodes.proofs.shapes.push_via.Goals as goal
 

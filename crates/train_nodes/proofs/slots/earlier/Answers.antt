@@ -1,4 +1,4 @@
-use Rattle.std.proofs.Common.{arith}
+use Rattle.train_nodes.proofs.WordsSlots.{arith}
 use Rattle.train_nodes.proofs.LinkLemmas.{entry-there, before-there, jump-named, before-named}
 use Rattle.train_nodes.proofs.slots.earlier.Goals as goal
 

@@ -1,6 +1,4 @@
-use Rattle.std.proofs.Common.{◌≡◌, ◌≤◌, ℕ}
-use Rattle.train_nodes.specs.declared.slots.AddedCall.{AddedCall}
-use Rattle.train_nodes.specs.StoredSlots.{IsLink}
+use Rattle.train_nodes.proofs.WordsSlots.{◌≡◌, ◌≤◌, ℕ, AddedCall, IsLink}
 use Rattle.train_nodes.proofs.slots.find.Given as goal
 
 -- an entry of the train, and none before the one wanted

@@ -1,5 +1,4 @@
-use Rattle.std.proofs.Common.{◌-◌, refl, sym, subst, arith}
-use Rattle.train_nodes.specs.StoredSlots.{IsJump}
+use Rattle.train_nodes.proofs.WordsSlots.{◌-◌, refl, sym, subst, arith, IsJump}
 use Rattle.train_nodes.proofs.LinkLemmas.{entry-there, next-link}
 use Rattle.train_nodes.proofs.slots.next_entry.Goals as goal
 

@@ -1,6 +1,6 @@
 use Rattle.std.proofs.Common.{◌∙◌, arith}
 use Rattle.std.proofs.lemmas.Result.{err_from_is_err_and}
-use Rattle.change_times.proofs.CountLemmas.{onward-is, back-is}
+use Rattle.change_times.proofs.CountLemmas.{onward-is}
 use Rattle.change_times.proofs.SameLemmas.{pairs-same}
 use Rattle.change_times.proofs.changes.Changes.build.Goals as goal
 
@@ -12,7 +12,7 @@ returns-in_err-onward-clause-many c =
 pub invariant_of-result : goal.invariant_of-result
 invariant_of-result c = record {
   onward = λ n. c.in_ok-onward.ensures.lists n ∙ onward-is c.in_ok-table.table n;
-  back = λ n. c.in_ok-back.ensures n ∙ back-is c.in_ok-table.table n;
+  back = λ n. c.in_ok-back.ensures n;
 }
 
 pub returns-clause-few : goal.returns-clause-few

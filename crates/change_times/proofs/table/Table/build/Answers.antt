@@ -12,8 +12,8 @@ made c = record {
   lawful = c.tables-t.ensures.lawful;
   places = c.in_ok-places.ensures ∙ ap (map without_id) (c.as_slice.ensures ∙ ap (λ (t : Tables). t.stops) c.tables-t.ensures.tables);
   kept = c.in_ok-rows.ensures ∙ ap (filter (is_looked_at c.in_ok-places.places)) (c.as_slice-2.ensures ∙ ap (λ (t : Tables). t.transfers) c.tables-t.ensures.tables);
-  pairs = c.in_ok-transfers.ensures.pairs;
-  moved = c.in_ok-transfers.ensures.moved;
+  first = c.in_ok-transfers.ensures.first;
+  given = c.in_ok-transfers.ensures.given;
 }
 
 pub build-requires-2-clause-from : goal.build-requires-2-clause-from

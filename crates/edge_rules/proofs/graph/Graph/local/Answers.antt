@@ -1,5 +1,6 @@
 use Rattle.std.proofs.Common.{◌≡◌, ◌+◌, Some, unwrap_or, sym, ◌∙◌, ap, subst}
 use Rattle.std.specs.List.{All, fold}
+use Rattle.std.specs.List.Sorted.{IsPermutation}
 use Rattle.mt_base.specs.declared.keys.Node.{Node}
 use Rattle.mt_base.specs.Order.{node_of}
 use Rattle.delay_model.specs.Events.{event_named}
@@ -9,8 +10,14 @@ use Rattle.edge_rules.specs.AtEvent.{edges_to, stored_time}
 use Rattle.edge_rules.specs.Held.{HasOwnLabels}
 use Rattle.edge_rules.specs.Timetabled.{Timetabled}
 use Rattle.edge_rules.proofs.Neighbours.{named-there}
-use Rattle.edge_rules.proofs.LocalRule.{rule-at, ahead-more}
+use Rattle.edge_rules.proofs.LocalRule.{rule-at, ahead-first, ahead-more}
 use Rattle.edge_rules.proofs.graph.Graph.local.Goals as goal
+
+pub loop-edge-init : goal.loop-edge-init
+loop-edge-init g c =
+    let all = edges_to c.args.self.now c.args.n in
+    let found = subst (λ m. IsPermutation c.edges_to-edge-items.result (edges_to c.args.self.now m)) c.live_event-event.ensures.named c.edges_to-edge-items.ensures in
+    rw c.into_iter-edge-iterator.ensures.into_iter_gives (ahead-first c.args.times.now all c.edges_to-edge-items.result c.floor-time.result c.args.steps.now found c.requires.held c.requires.fits c.floor-time.ensures.small)
 
 pub loop-edge-preserved : goal.loop-edge-preserved
 loop-edge-preserved g c =

@@ -1,6 +1,6 @@
-use Rattle.timetable.proofs.Words.{rules, arith, ap, effect, Running}
+use Rattle.timetable.proofs.Words.{arith, ap, effect, Running}
 use Rattle.delay_model.specs.Touched.{changed_count}
-use Rattle.timetable.proofs.{Changed.changed-length, Departing.are-listed, Prepared.departures-fit, Stops.stops-kept}
+use Rattle.timetable.proofs.{Changed.changed-length, Departing.are-listed, Prepared.departures-fit}
 use Rattle.timetable.proofs.timetable.Timetable.step.Goals as goal
 
 pub settle-requires-clause-valid : goal.settle-requires-clause-valid
@@ -23,7 +23,6 @@ invariant_of-self-2 g c =
     let p = c.in_ok-same_events.ensures.prepared in
     let is = c.in_ok-same_events.ensures.effect in
     record {
-      at_stops = rw is (stops-kept c.self.inside.graph.network c.self.inside.graph.state c.args.m.now (search rules) c.self.invariant.at_stops);
       settled = rw c.deref.ensures.value at c.settle.ensures.settled;
       roomy = rw (c.settle.ensures.capacity, is) p.roomy;
       departures = c.settle.ensures.departures;

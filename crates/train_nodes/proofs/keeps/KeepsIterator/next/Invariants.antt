@@ -1,5 +1,4 @@
-use Rattle.std.proofs.Common.{◌≡◌, length}
-use Rattle.train_nodes.specs.OverrideRows.{kept_across}
+use Rattle.train_nodes.proofs.WordsSlots.{◌≡◌, length, kept_across}
 use Rattle.train_nodes.proofs.keeps.KeepsIterator.next.Given as goal
 
 -- what is left gives all that the whole gives

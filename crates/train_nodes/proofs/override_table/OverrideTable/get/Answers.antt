@@ -1,4 +1,4 @@
-use Rattle.delay_model.proofs.ConnectionLemmas.{connections_total}
+use Rattle.train_nodes.proofs.WordsSlots.{connections_total}
 use Rattle.train_nodes.proofs.OverrideOrders.{chosen}
 use Rattle.train_nodes.proofs.PlaceLemmas.{at-found, at-gap}
 use Rattle.train_nodes.proofs.override_table.OverrideTable.get.Goals as goal

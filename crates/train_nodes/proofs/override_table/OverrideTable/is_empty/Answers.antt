@@ -1,7 +1,4 @@
-use Rattle.std.proofs.Common.{nat_eq, ap, ◌∙◌}
-use Rattle.std.specs.Bool.{passes}
-use Rattle.std.specs.FinMap.{len-entries, entries-from_sorted}
-use Rattle.delay_model.specs.Overrides.{connection_cmp}
+use Rattle.train_nodes.proofs.WordsSlots.{nat_eq, ap, ◌∙◌, passes, len-entries, entries-from_sorted, connection_cmp}
 use Rattle.train_nodes.proofs.override_table.OverrideTable.is_empty.Goals as goal
 
 pub returns : goal.returns

@@ -1,11 +1,4 @@
-use Rattle.std.proofs.Common.{arith, not}
-use Rattle.std.specs.Bool.{passes}
-use Rattle.std.specs.Ordering.{eq_by_cmp}
-use Rattle.std.specs.FinMap.Entries.{length_without}
-use Rattle.delay_model.specs.Overrides.{connection_cmp}
-use Rattle.delay_model.proofs.ConnectionLemmas.{connections_total, exact_connections}
-use Rattle.train_nodes.specs.declared.override_rows.End.TheVariants.{Departure}
-use Rattle.train_nodes.specs.OverrideRows.{end_cmp}
+use Rattle.train_nodes.proofs.WordsSlots.{arith, not, passes, eq_by_cmp, length_without, connection_cmp, connections_total, exact_connections, Departure, end_cmp}
 use Rattle.train_nodes.proofs.OverrideOrders.{chosen, kept-turned, stored-with, given, tied-alike}
 use Rattle.train_nodes.proofs.PlaceLemmas.{without-is}
 use Rattle.train_nodes.proofs.override_table.OverrideTable.remove.Goals as goal

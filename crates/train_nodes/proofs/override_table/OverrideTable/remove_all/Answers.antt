@@ -1,8 +1,4 @@
-use Rattle.std.proofs.Common.{not, arith, refl}
-use Rattle.delay_model.specs.declared.overrides.Connection.{Connection}
-use Rattle.delay_model.proofs.ConnectionLemmas.{connections_total, exact_connections}
-use Rattle.train_nodes.specs.Linked.{is_between}
-use Rattle.train_nodes.specs.Removed.{names_removed}
+use Rattle.train_nodes.proofs.WordsSlots.{not, arith, refl, Connection, connections_total, exact_connections, is_between, names_removed}
 use Rattle.train_nodes.proofs.OverrideOrders.{kept-turned, stored-with}
 use Rattle.train_nodes.proofs.PlaceLemmas.{kept-is}
 use Rattle.train_nodes.proofs.RemovedLemmas.{sorted-len}

@@ -1,8 +1,4 @@
-use Rattle.std.proofs.Common.{refl, arith}
-use Rattle.std.specs.Bool.{passes}
-use Rattle.std.specs.FinMap.Entries.{length-put}
-use Rattle.delay_model.specs.Overrides.{connection_cmp}
-use Rattle.delay_model.proofs.ConnectionLemmas.{connections_total, exact_connections}
+use Rattle.train_nodes.proofs.WordsSlots.{refl, arith, passes, length-put, connection_cmp, connections_total, exact_connections}
 use Rattle.train_nodes.proofs.OverrideOrders.{chosen, put-turned, stored-with, taken}
 use Rattle.train_nodes.proofs.PlaceLemmas.{put-is}
 use Rattle.train_nodes.proofs.override_table.OverrideTable.set.Goals as goal

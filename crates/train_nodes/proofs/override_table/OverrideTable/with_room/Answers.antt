@@ -1,7 +1,4 @@
-use Rattle.std.proofs.Common.{[], length, ap, ◌∙◌}
-use Rattle.std.specs.FinMap.{empty_of_len, len-entries, from_sorted, entries-from_sorted}
-use Rattle.delay_model.specs.Overrides.{connection_cmp}
-use Rattle.train_nodes.specs.StoredOverrides.{Overrides}
+use Rattle.train_nodes.proofs.WordsSlots.{[], length, ap, ◌∙◌, empty_of_len, len-entries, from_sorted, entries-from_sorted, connection_cmp, Overrides}
 use Rattle.train_nodes.proofs.override_table.OverrideTable.with_room.Goals as goal
 
 pub returns : goal.returns

@@ -1,7 +1,5 @@
-use Rattle.std.proofs.Common.{◌≡◌, ◌∙◌, ◌+◌, ◌-◌, length, refl, ap, arith}
-use Rattle.std.proofs.Math.ListN.{set}
+use Rattle.train_nodes.proofs.WordsSlots.{◌≡◌, ◌∙◌, ◌+◌, ◌-◌, length, refl, ap, arith, set, Numbering, with_more}
 use Rattle.std.specs.Vec.{with_item}
-use Rattle.train_nodes.specs.Numbering.{Numbering, with_more}
 use Rattle.train_nodes.proofs.SlotLemmas.{numbered-length, row-read}
 use Rattle.train_nodes.proofs.StoredSlotLemmas.{IsAdded, added-seen, added-stored}
 use Rattle.train_nodes.proofs.slots.Slots.add_call.Goals as goal

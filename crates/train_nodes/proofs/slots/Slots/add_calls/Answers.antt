@@ -1,5 +1,4 @@
-use Rattle.std.proofs.Common.{◌∙◌, length, sym, ap, arith}
-use Rattle.train_nodes.specs.Numbering.{Numbering, with_more}
+use Rattle.train_nodes.proofs.WordsSlots.{◌∙◌, length, sym, ap, arith, Numbering, with_more}
 use Rattle.train_nodes.proofs.NumberingLemmas.{calls-none, calls-more, change-length}
 use Rattle.train_nodes.proofs.slots.Slots.add_calls.Goals as goal
 

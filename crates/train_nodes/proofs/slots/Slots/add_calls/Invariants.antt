@@ -1,5 +1,4 @@
-use Rattle.std.proofs.Common.{◌≡◌}
-use Rattle.train_nodes.specs.Numbering.{with_more}
+use Rattle.train_nodes.proofs.WordsSlots.{◌≡◌, with_more}
 use Rattle.train_nodes.proofs.slots.Slots.add_calls.Given as goal
 
 abbrev pub invariant-loop : goal.invariant-loop

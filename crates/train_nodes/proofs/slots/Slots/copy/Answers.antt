@@ -1,4 +1,4 @@
-use Rattle.std.proofs.Common.{◌∙◌}
+use Rattle.train_nodes.proofs.WordsSlots.{◌∙◌}
 use Rattle.train_nodes.proofs.slots.Slots.copy.Goals as goal
 
 pub invariant_of-result : goal.invariant_of-result

@@ -1,4 +1,4 @@
-use Rattle.std.proofs.Common.{arith}
+use Rattle.train_nodes.proofs.WordsSlots.{arith}
 use Rattle.train_nodes.proofs.SlotLemmas.{numbered-length}
 use Rattle.train_nodes.proofs.slots.Slots.count.Goals as goal
 

@@ -1,4 +1,4 @@
-use Rattle.std.proofs.Common.{◌∙◌, ap, arith, Some}
+use Rattle.train_nodes.proofs.WordsSlots.{◌∙◌, ap, arith, Some}
 use Rattle.train_nodes.proofs.SlotLemmas.{numbered-length, train-read, slot-loaded}
 use Rattle.train_nodes.proofs.slots.Slots.first.Goals as goal
 

@@ -1,4 +1,4 @@
-use Rattle.std.proofs.Common.{refl, arith}
+use Rattle.train_nodes.proofs.WordsSlots.{refl, arith}
 use Rattle.train_nodes.proofs.SlotLemmas.{numbered-length, train-read}
 use Rattle.train_nodes.proofs.slots.Slots.loaded.Goals as goal
 

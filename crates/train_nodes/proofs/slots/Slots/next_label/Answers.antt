@@ -1,4 +1,4 @@
-use Rattle.std.proofs.Common.{◌∙◌, sym, ap, arith, Some}
+use Rattle.train_nodes.proofs.WordsSlots.{◌∙◌, sym, ap, arith, Some}
 use Rattle.train_nodes.proofs.SlotLemmas.{numbered-length, train-read, slots-length}
 use Rattle.train_nodes.proofs.slots.Slots.next_label.Goals as goal
 

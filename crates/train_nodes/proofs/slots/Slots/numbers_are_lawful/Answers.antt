@@ -1,4 +1,4 @@
-use Rattle.std.proofs.Common.{arith}
+use Rattle.train_nodes.proofs.WordsSlots.{arith}
 use Rattle.train_nodes.proofs.SlotLemmas.{numbered-length, train-loaded}
 use Rattle.train_nodes.proofs.slots.Slots.numbers_are_lawful.Goals as goal
 

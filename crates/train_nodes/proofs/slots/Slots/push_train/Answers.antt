@@ -1,5 +1,4 @@
-use Rattle.std.proofs.Common.{◌∙◌, ◌+◌, ◌-◌, refl, ap, arith}
-use Rattle.train_nodes.specs.Numbering.{Numbering, with_numbered}
+use Rattle.train_nodes.proofs.WordsSlots.{◌∙◌, ◌+◌, ◌-◌, refl, ap, arith, Numbering, with_numbered}
 use Rattle.train_nodes.proofs.StoredSlotLemmas.{IsPushed, pushed-seen, pushed-stored}
 use Rattle.train_nodes.proofs.slots.Slots.push_train.Goals as goal
 

@@ -1,4 +1,4 @@
-use Rattle.std.proofs.Common.{◌∙◌, sym, arith}
+use Rattle.train_nodes.proofs.WordsSlots.{◌∙◌, sym, arith}
 use Rattle.train_nodes.proofs.LinkLemmas.{entry-there, entry-same}
 use Rattle.train_nodes.proofs.SlotLemmas.{row-read, last-there, slot-loaded, slot-added, slot-none, slot-no-train}
 use Rattle.train_nodes.proofs.slots.Slots.slot.Goals as goal

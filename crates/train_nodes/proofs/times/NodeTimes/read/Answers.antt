@@ -1,4 +1,4 @@
-use Rattle.std.proofs.Common.{arith}
+use Rattle.train_nodes.proofs.WordsSlots.{arith}
 use Rattle.train_nodes.proofs.SlotTimeLemmas.{some-slot, number-within, time-read}
 use Rattle.train_nodes.proofs.times.NodeTimes.read.Goals as goal
 

@@ -1,5 +1,4 @@
-use Rattle.std.proofs.Common.{◌∙◌, ap}
-use Rattle.train_nodes.specs.Times.{time_of}
+use Rattle.train_nodes.proofs.WordsSlots.{◌∙◌, ap, time_of}
 use Rattle.train_nodes.proofs.TimeLemmas.{with_time-law}
 use Rattle.train_nodes.proofs.SlotTimeLemmas.{some-slot, written-seen}
 use Rattle.train_nodes.proofs.times.NodeTimes.write.Goals as goal

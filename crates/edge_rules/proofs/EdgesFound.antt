@@ -1,0 +1,72 @@
+-- The edges that are found at an event are those of the model.
+use Rattle.std.proofs.Common.{◌≡◌, ℕ, Bool, map, filter, get_or, suc, refl, true, false, List, [], ◌∷◌, ◌++◌, Some, subst, arith, All}
+use Rattle.std.specs.List.Sorted.{IsPermutation}
+use Rattle.std.proofs.lemmas.List.Elements.{All-map, All-filter, All-cons, All-nil, All-contains, Contains-append_right}
+use Rattle.std.proofs.lemmas.List.Sorted.{IsPermutation-append_right, IsPermutation-sym, All-permutation}
+use Rattle.std.proofs.lemmas.Option.{slice_get_within, get_or_from_slice_get}
+use Rattle.mt_base.specs.declared.keys.Node.{Node}
+use Rattle.delay_model.specs.declared.network.Network.{Network}
+use Rattle.delay_model.specs.declared.state.Call.{Call}
+use Rattle.delay_model.specs.declared.state.Train.{Train}
+use Rattle.delay_model.specs.declared.state.State.{State}
+use Rattle.delay_model.specs.declared.state.Event.{Event}
+use Rattle.delay_model.specs.Changes.{is_stop}
+use Rattle.mt_base.specs.Order.{node_of}
+use Rattle.delay_model.specs.Events.{live_events, events, events_at, event_named, arrival_of, departure_of}
+use Rattle.state_laws.proofs.Parts.{events-from_each}
+use Rattle.station_index.specs.Indexed.{Indexed}
+use Rattle.edge_rules.specs.AtEvent.{edges_to, edges_from, along_to, along_from}
+use Rattle.edge_rules.specs.AtStops.{AreAtStops, IsAtStop}
+use Rattle.train_nodes.specs.Calls.{has_event}
+use Rattle.mt_base.specs.declared.plans.Entry.{Entry}
+use Rattle.edge_rules.specs.Found.{planned_at, kept_at, AreNames, HaveEvents}
+use Rattle.edge_rules.specs.Held.{HasOwnLabels}
+use Rattle.edge_rules.specs.Indexing.{IsIndexOf, entry_of}
+use Rattle.edge_rules.specs.Timetabled.{Timetabled}
+use Rattle.edge_rules.proofs.Caps.{there}
+use Rattle.edge_rules.proofs.FoundLemmas.{found-into, found-out}
+use Rattle.edge_rules.proofs.Neighbours.{each-named, named-there}
+use Rattle.edge_rules.proofs.TransferLemmas.{edges-to, edges-from}
+
+-- the events of calls at stops are at stops
+events-at_stops : (nw : Network) (train route : ℕ) (cs : List Call) → All (IsAtStop nw.stops) cs → All (λ v. is_stop nw.stops v.stop ≡ true) (events_at train route cs)
+events-at_stops nw train route [] h = All-nil (λ (v : Event). is_stop nw.stops v.stop ≡ true)
+events-at_stops nw train route (c ∷ cs) h =
+    let P : Event → Type 0 = λ v. is_stop nw.stops v.stop ≡ true in
+    let rest = events_at train route cs in
+    All-cons P (arrival_of train route c) (departure_of train route c ∷ rest) (h 0 c (omega arith))
+    (All-cons P (departure_of train route c) rest (h 0 c (omega arith)) (events-at_stops nw train route cs (λ k d l. h (suc k) d (omega arith))))
+
+all-at_stops : (nw : Network) (st : State) → AreAtStops nw st → All (λ v. is_stop nw.stops v.stop ≡ true) (events st)
+unfolding events
+all-at_stops nw st h =
+    events-from_each (λ v. is_stop nw.stops v.stop ≡ true) 0 st.trains (λ k at t e got.
+    events-at_stops nw at t.route t.calls (subst (λ (t : Train). All (IsAtStop nw.stops) t.calls) (get_or_from_slice_get st.trains k t t got) (h k t (slice_get_within st.trains k t got))))
+
+module _ (g : Timetabled) (index : Indexed) (n : Node) (v : Event) (labels : All HasOwnLabels g.state.trains) (stops : AreAtStops g.network g.state) (is : IsIndexOf g.state index) (named : event_named g.state n ≡ Some v) where
+  at-stop : is_stop g.network.stops v.stop ≡ true
+  at-stop =
+      let r = there g.state n v named in
+      let all = subst (All (λ u. is_stop g.network.stops u.stop ≡ true)) r.whole (all-at_stops g.network g.state stops) in
+      All-contains (λ u. is_stop g.network.stops u.stop ≡ true) (r.earlier ++ v ∷ r.later) v all (Contains-append_right r.earlier (v ∷ r.later) v (0, omega arith, refl))
+
+  pub edges-to_found : IsPermutation (along_to g.network.opts g.state n ++ (planned_at g index.entries true v ++ kept_at g true v)) (edges_to g n)
+  edges-to_found =
+      rw (edges-to g n v labels named) (IsPermutation-append_right _ _ _ (found-into g index.entries is.entries (each-named g.state labels) (all-at_stops g.network g.state stops) labels v at-stop))
+
+  pub edges-from_found : IsPermutation (along_from g.network.opts g.state n ++ (planned_at g index.entries false v ++ kept_at g false v)) (edges_from g n)
+  edges-from_found =
+      rw (edges-from g n v labels named) (IsPermutation-append_right _ _ _ (found-out g index.entries is.entries (each-named g.state labels) (all-at_stops g.network g.state stops) labels v))
+
+-- the names of entries of events are those of events
+pub names-in : (st : State) (es : List Entry) (p : Entry → Bool) → HaveEvents st es → AreNames st (map (λ (e : Entry). e.node) (filter p es))
+names-in st es p h = All-map (λ n. has_event st n ≡ true) (λ (e : Entry). e.node) (filter p es) (All-filter p (λ e. has_event st e.node ≡ true) es h)
+
+-- the entries of the index are those of events
+pub index-events : (st : State) (index : Indexed) → All HasOwnLabels st.trains → IsIndexOf st index → HaveEvents st index.entries
+index-events st index labels is =
+    let P : Entry → Type 0 = λ e. has_event st e.node ≡ true in
+    let named = each-named st labels in
+    let all : All (λ v. P (entry_of v)) (events st) = λ i d l. let v = get_or (events st) i d in named-there st (node_of v.key) v (named i d l) in
+    let live = live_events (events st) in
+    All-permutation P (map entry_of live) index.entries (IsPermutation-sym index.entries (map entry_of live) is.entries) (All-map P entry_of live (All-filter (λ (v : Event). v.live) (λ v. P (entry_of v)) (events st) all))

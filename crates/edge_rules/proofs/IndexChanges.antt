@@ -1,0 +1,90 @@
+-- An index from which entries are taken out, and into which others are put.
+use Rattle.state_laws.proofs.Words.{◌≡◌, ◌+◌, ◌≤◌, List, [], ◌∷◌, length, refl, arith, cond, events, State}
+use Rattle.std.proofs.Common.{◌*◌}
+use Rattle.mt_base.specs.declared.plans.Entry.{Entry}
+use Rattle.station_index.proofs.EntryLemmas.{same_entry-itself}
+use Rattle.station_index.specs.Indexed.{Indexed, is_same_entry, with_entry, without_entry}
+use Rattle.edge_rules.specs.Indexing.{AreNew, AreThere, IsIndexOf, entries_of, put_in, taken_out, with_entries, without_entries}
+use Rattle.edge_rules.proofs.EntryCounts.{count_of, count-there, there-count, count-without, count-with, to-counts, from-counts}
+
+-- entries that were taken out of an index, and what is left
+record IsLeft (out : List Entry) (index : Indexed) : Type 0 where
+  pub there : AreThere out index
+  pub left : (e : Entry) → count_of e (without_entries out index).entries + count_of e out ≡ count_of e index.entries
+  pub spare : (without_entries out index).spare ≡ index.spare
+
+taken : (out : List Entry) (index : Indexed) → ((e : Entry) → count_of e index.entries ≤ 1) → ((e : Entry) → count_of e out ≤ count_of e index.entries) → IsLeft out index
+taken [] index once within = record { there = tt; left = λ e. omega arith; spare = refl }
+taken (d ∷ ds) index once within =
+    let own = same_entry-itself d in
+    let after : (e : Entry) → count_of e (without_entry d index.entries) ≡ cond (is_same_entry d e) 0 (count_of e index.entries) = λ e. count-without d e index.entries in
+    let r = taken ds (taken_out d index) (λ e. let o = once e in let a = after e in grind arith) (λ e. let o = once e in let w = within e in let a = after e in grind arith) in
+    record {
+      there = (there-count d index.entries (let w = within d in grind arith), r.there);
+      left = λ e. let o = once e in let w = within e in let a = after e in let l = r.left e in grind arith;
+      spare = r.spare;
+    }
+
+-- entries that were put into an index, and what is there then
+record IsFilled (put : List Entry) (index : Indexed) : Type 0 where
+  pub new : AreNew put index
+  pub filled : (e : Entry) → count_of e (with_entries put index).entries ≡ count_of e put + count_of e index.entries
+  pub spare : (with_entries put index).spare + length put ≡ index.spare
+
+filled : (put : List Entry) (index : Indexed) → ((e : Entry) → count_of e put + count_of e index.entries ≤ 1) → length put ≤ index.spare → IsFilled put index
+filled [] index once room = record { new = tt; filled = λ e. omega arith; spare = omega arith }
+filled (d ∷ ds) index once room =
+    let own = same_entry-itself d in
+    let after : (e : Entry) → count_of e (with_entry d index.entries) ≡ count_of e (d ∷ index.entries) = λ e. count-with d e index.entries in
+    let r = filled ds (put_in d index) (λ e. let o = once e in let a = after e in omega arith) (omega arith) in
+    record {
+      new = (omega arith, (λ c. let there = count-there d index.entries c in let o = once d in absurd (grind arith)), r.new);
+      filled = λ e. let a = after e in let f = r.filled e in omega arith;
+      spare = let s = r.spare in omega arith;
+    }
+
+-- these entries are of live events, none of which has two
+pub record AreOf (st : State) (out : List Entry) : Type 0 where
+  pub once : (e : Entry) → count_of e (entries_of (events st)) ≤ 1
+  pub within : (e : Entry) → count_of e out ≤ count_of e (entries_of (events st))
+
+indexed : (st : State) (index : Indexed) → IsIndexOf st index → (e : Entry) → count_of e index.entries ≡ count_of e (entries_of (events st))
+indexed st index h = to-counts index.entries (entries_of (events st)) h.entries
+
+left : (st : State) (out : List Entry) (index : Indexed) → IsIndexOf st index → AreOf st out → IsLeft out index
+left st out index h o =
+    taken out index (λ e. let i = indexed st index h e in let one = o.once e in omega arith) (λ e. let i = indexed st index h e in let w = o.within e in omega arith)
+
+-- so they can be taken out
+pub out-there : (st : State) (out : List Entry) (index : Indexed) → IsIndexOf st index → AreOf st out → AreThere out index
+out-there st out index h o = (left st out index h o).there
+
+-- a change of the events takes these entries out and puts those in
+pub record IsChange (old new : State) (out put : List Entry) : Type 0 where
+  pub of_old : AreOf old out
+  pub once : (e : Entry) → count_of e (entries_of (events new)) ≤ 1
+  pub balance : (e : Entry) → count_of e (entries_of (events new)) + count_of e out ≡ count_of e (entries_of (events old)) + count_of e put
+  pub room : 2 * new.spare_calls + length put ≤ 2 * old.spare_calls
+
+-- an index that was changed so
+pub record IsChanged (after : State) (index : Indexed) (out put : List Entry) : Type 0 where
+  pub new : AreNew put (without_entries out index)
+  pub is_index : IsIndexOf after (with_entries put (without_entries out index))
+
+pub changed : (old new : State) (out put : List Entry) (index : Indexed) → IsIndexOf old index → IsChange old new out put → IsChanged new index out put
+changed old new out put index h c =
+    let is = indexed old index h in
+    let t = left old out index h c.of_old in
+    let rest = without_entries out index in
+    let room = h.room in
+    let more = c.room in
+    let same = t.spare in
+    let f = filled put rest (λ e. let i = is e in let o = c.once e in let b = c.balance e in let l = t.left e in omega arith) (omega arith) in
+    let spare = f.spare in
+    record {
+      new = f.new;
+      is_index = record {
+        entries = from-counts (with_entries put rest).entries (entries_of (events new)) (λ e. let i = is e in let b = c.balance e in let l = t.left e in let g = f.filled e in omega arith);
+        room = omega arith;
+      };
+    }

@@ -1,0 +1,55 @@
+-- Pieces of events that are found by changes and by an index are those of all events.
+use Rattle.std.proofs.Common.{◌≡◌, ℕ, ◌<◌, Bool, true, cond, List, [], flat_map, map, filter, filter_map, get_or, Option, Some, None, refl, sym, ◌∙◌, ap, subst, arith, All}
+use Rattle.std.specs.List.{range_with_len}
+use Rattle.std.specs.List.Sorted.{IsPermutation}
+use Rattle.std.specs.Option.{option_map_or}
+use Rattle.std.proofs.lemmas.List.Sorted.{IsPermutation-trans}
+use Rattle.mt_base.specs.declared.plans.Entry.{Entry}
+use Rattle.mt_base.specs.Order.{node_of}
+use Rattle.delay_model.specs.declared.state.State.{State}
+use Rattle.delay_model.specs.declared.state.Event.{Event}
+use Rattle.delay_model.specs.declared.state.Edge.{Edge}
+use Rattle.delay_model.specs.Events.{events, event_named, live_events}
+use Rattle.change_times.specs.declared.change.Change.{Change}
+use Rattle.edge_rules.specs.Found.{of_name}
+use Rattle.edge_rules.specs.Indexing.{entry_of}
+use Rattle.edge_rules.proofs.PieceLemmas.{pieces-permuted, pieces-filter, pieces-map, pieces-filter_map, pieces-same, pieces-turned, one-of-range}
+
+module _ (st : State) (entries : List Entry) (index : IsPermutation entries (map entry_of (live_events (events st)))) (named : All (λ u. event_named st (node_of u.key) ≡ Some u) (events st)) where
+  -- the changes by the number of the stop, which entries are near by a change, and the pieces that are wanted
+  module _ (change : ℕ → Option Change) (n : ℕ) (stop_is : (a : ℕ) (c : Change) → change a ≡ Some c → c.stop ≡ a) (near : Change → Entry → Bool) (near_is : (c : Change) (e : Entry) → near c e ≡ true → e.stop ≡ c.stop) (f : ℕ → Event → List Edge) where
+    abbrev changes : List Change
+    changes = filter_map change (range_with_len 0 n)
+
+    abbrev at : Change → Entry → List Edge
+    at c e = cond (near c e) (of_name st (f c.seconds) e.node) []
+
+    -- the piece of an event by the change at its own stop
+    abbrev pub own_piece : Event → List Edge
+    own_piece u = option_map_or (λ c. cond (near c (entry_of u)) (f c.seconds u) []) (change u.stop) []
+
+    other-stop : (u : Event) (a : ℕ) (o : Option Change) → change a ≡ o → (a ≡ u.stop → ⊥) → option_map_or (λ c. at c (entry_of u)) o [] ≡ []
+    other-stop u a None e differ = refl
+    other-stop u a (Some c) e differ = grind (arith, stop_is a c e, near_is c (entry_of u))
+
+    own-stop : (u : Event) → event_named st (node_of u.key) ≡ Some u → u.stop < n → flat_map (λ c. at c (entry_of u)) changes ≡ own_piece u
+    own-stop u is within =
+        pieces-filter_map (λ c. at c (entry_of u)) change (range_with_len 0 n)
+        ∙ one-of-range (λ a. option_map_or (λ c. at c (entry_of u)) (change a) []) u.stop (λ a differ. other-stop u a (change a) refl differ) n within
+        ∙ rw is refl
+
+    pub found-planned : All (λ u. u.stop < n) (events st) → IsPermutation (flat_map (λ c. flat_map (of_name st (f c.seconds)) (map (λ (e : Entry). e.node) (filter (near c) entries))) changes) (flat_map (λ u. cond u.live (own_piece u) []) (events st))
+    found-planned within =
+        let live = live_events (events st) in
+        let by_entry : Entry → List Edge = λ e. flat_map (λ c. at c e) changes in
+        let by_change = pieces-same (λ c. flat_map (of_name st (f c.seconds)) (map (λ (e : Entry). e.node) (filter (near c) entries))) (λ c. flat_map (at c) entries) changes (λ i d l.
+        let c = get_or changes i d in
+        pieces-map (of_name st (f c.seconds)) (λ (e : Entry). e.node) (filter (near c) entries) ∙ pieces-filter (λ e. of_name st (f c.seconds) e.node) (near c) entries) in
+        let by_event =
+        pieces-map by_entry entry_of live
+        ∙ pieces-filter (λ u. by_entry (entry_of u)) (λ (u : Event). u.live) (events st)
+        ∙ pieces-same (λ u. cond u.live (by_entry (entry_of u)) []) (λ u. cond u.live (own_piece u) []) (events st) (λ i d l.
+        let u = get_or (events st) i d in ap (λ es. cond u.live es []) (own-stop u (named i d l) (within i d l))) in
+        subst (λ l. IsPermutation l (flat_map (λ u. cond u.live (own_piece u) []) (events st))) (sym by_change)
+        (subst (IsPermutation (flat_map (λ c. flat_map (at c) entries) changes)) by_event
+        (IsPermutation-trans _ _ _ (pieces-turned at changes entries) (pieces-permuted by_entry entries (map entry_of live) index)))

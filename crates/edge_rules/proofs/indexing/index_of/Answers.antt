@@ -1,0 +1,16 @@
+use Rattle.std.proofs.Common.{◌≡◌, sym, subst}
+use Rattle.std.proofs.Math.Logic.{◌≢◌}
+use Rattle.std.specs.List.{All, AllPairs}
+use Rattle.mt_base.specs.declared.plans.Entry.{Entry}
+use Rattle.delay_model.specs.Events.{events}
+use Rattle.edge_rules.proofs.EventChanges.{entries-distinct}
+use Rattle.edge_rules.proofs.Listing.{entries-dep}
+use Rattle.edge_rules.proofs.indexing.index_of.Goals as goal
+
+pub build-requires-clause-distinct : goal.build-requires-clause-distinct
+build-requires-clause-distinct c =
+    subst (AllPairs (λ (a b : Entry). a ≢ b)) (sym c.in_ok-entries.ensures.entries) (entries-distinct c.args.trains.now c.requires)
+
+pub build-requires-clause-dep : goal.build-requires-clause-dep
+build-requires-clause-dep c =
+    subst (All (λ (e : Entry). e.dep ≡ e.node.dep)) (sym c.in_ok-entries.ensures.entries) (entries-dep (events c.args.trains.now))

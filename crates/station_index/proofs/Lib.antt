@@ -1,0 +1,10 @@
+pub mod EntryLemmas
+pub mod RowLemmas
+pub mod OrderLemmas
+pub mod KeptLemmas
+pub mod MergeLemmas
+pub mod RangeLemmas
+pub mod SlotLemmas
+pub mod PartLemmas
+pub mod FindLemmas
+pub mod TouchedLemmas

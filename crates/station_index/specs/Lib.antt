@@ -1,0 +1,7 @@
+pub mod Indexed
+pub mod Loaded
+pub mod Merged
+pub mod Places
+pub mod Ranged
+pub mod Slots
+pub mod Stored

@@ -1,0 +1,13 @@
+//! The events of each stop by time, so that connections are found by a search.
+#![tactic(auto)]
+
+pub mod index;
+mod live;
+mod loaded;
+mod loaded_event;
+pub mod range;
+mod rows;
+mod touched;
+
+pub use index::StationIndex;
+pub use range::Range;

@@ -1,0 +1,98 @@
+-- Flags of locations, and the trains that wait.
+use Rattle.std.proofs.Common.{All, map, ◌≡◌, ◌<◌, ℕ, zero, suc, Bool, true, false, List, [], ◌∷◌, ◌++◌, length, Option, Some, None, get_or, nat_eq, cond, ◌&&◌, ◌||◌, refl, sym, ◌∙◌, ap, arith, is_none}
+use Rattle.std.specs.BTreeMap.{is_at}
+use Rattle.std.specs.BTreeSet.{BTreeSet}
+use Rattle.std.specs.List.{list_any}
+use Rattle.std.specs.Option.{option_map_or}
+use Rattle.std.proofs.lemmas.List.Folds.{list_any-append}
+use Rattle.mt_base.specs.declared.tables.RuleRow.{RuleRow}
+use Rattle.delay_model.specs.Waits.{is_empty_or}
+use Rattle.waiting_rules.specs.declared.scopes.Connecting.{Connecting}
+use Rattle.waiting_rules.specs.declared.parts.Part.{Part}
+use Rattle.waiting_rules.specs.declared.scopes.Scope.{Scope}
+use Rattle.waiting_rules.specs.Bounded.{ArePartsOf, IsPartOf}
+use Rattle.waiting_rules.specs.Rules.{has_wait, makes_wait}
+use Rattle.waiting_rules.specs.Scopes.{connecting_cmp, connecting_of, is_connecting, all_connecting}
+use Rattle.waiting_rules.specs.Waiting.{names_stop, names_none, flag_at, AreFlags, HasFlags, HasWaiting, in_waiting}
+use Rattle.waiting_rules.specs.WaitTable.{station_in, some_waits}
+use Rattle.waiting_rules.proofs.Anys.{any-swapped, any-either, none-weaker}
+use Rattle.waiting_rules.proofs.FitLemmas.{six-connecting}
+use Rattle.waiting_rules.proofs.Orders.{connecting_laws}
+
+-- some of these trains wait where some rule with a wait above 0 is for them
+some-wait : (rules : List RuleRow) (route stop station : ℕ) → list_any (λ (c : Connecting). list_any (λ rule. has_wait rule && is_connecting c rule) rules) (all_connecting route stop station) ≡ list_any (λ rule. has_wait rule && makes_wait route stop station rule) rules
+some-wait rules route stop station =
+    any-swapped has_wait is_connecting (all_connecting route stop station) rules
+    ∙ ap (λ t. list_any t rules) (λ i rule. has_wait rule && six-connecting route stop station rule i)
+
+waits-each : (rules : List RuleRow) (places : List (Scope × ℕ)) (parts : List Part) → All (IsPartOf rules places) parts → list_any (λ (p : Part). p.waits) parts ≡ list_any (λ (c : Connecting). list_any (λ rule. has_wait rule && is_connecting c rule) rules) (map (λ (p : Part). p.connecting) parts)
+waits-each rules places [] h = refl
+waits-each rules places (p ∷ ps) h =
+    (λ i. (h 0 p (omega arith)).waits i || waits-each rules places ps (λ k d l. h (suc k) d (omega arith)) i)
+
+-- some of the parts of a stop and its station wait where some rule with a wait above 0 fits
+pub some-parts : (parents : List (Option ℕ)) (rules : List RuleRow) (places : List (Scope × ℕ)) (route stop station : ℕ) (all : List Connecting) (parts : List Part) (r : Bool) → ArePartsOf all rules places parts → station ≡ station_in parents stop → all ≡ all_connecting route stop station → r ≡ list_any (λ (p : Part). p.waits) parts → r ≡ some_waits (record { parents = parents; rules = rules }) route stop
+some-parts parents rules places route stop station all parts r h at six is =
+    is ∙ waits-each rules places parts h.each
+    ∙ ap (list_any (λ (c : Connecting). list_any (λ rule. has_wait rule && is_connecting c rule) rules)) (h.connecting ∙ six)
+    ∙ some-wait rules route stop station
+    ∙ ap (λ t. list_any (λ rule. has_wait rule && makes_wait route stop t rule) rules) at
+
+by-field : (w r : Bool) (field : Option ℕ) (stop station : ℕ) → (w && (r && (is_empty_or field stop || is_empty_or field station))) ≡ true → ((w && is_none field) || ((w && option_map_or (λ n. nat_eq n stop) field false) || (w && option_map_or (λ n. nat_eq n station) field false))) ≡ true
+by-field false r field stop station h = cc
+by-field true false field stop station h = cc
+by-field true true None stop station h = refl
+by-field true true (Some m) stop station h = h
+
+either-none : (a b : Bool) → a ≡ false → b ≡ false → (a || b) ≡ false
+either-none true b h k = cc
+either-none false b h k = k
+
+parts-none : (a b : Bool) → (a || b) ≡ false → (a ≡ false) × (b ≡ false)
+parts-none true b h = absurd (cc)
+parts-none false b h = (refl, h)
+
+slice-none : (flags : List Bool) (stop : ℕ) → flag_at flags stop ≡ false → stop < length flags × ((d : Bool) → get_or flags stop d ≡ false)
+slice-none [] stop h = absurd (cc)
+slice-none (x ∷ xs) zero h = (omega arith, λ d. h)
+slice-none (x ∷ xs) (suc stop) h = let rest = slice-none xs stop h in (omega (arith, rest.0), rest.1)
+
+same-default : (named : List Bool) (stop : ℕ) → stop < length named → get_or named stop true ≡ false → get_or named stop false ≡ false
+same-default [] stop l h = absurd (omega arith)
+same-default (x ∷ xs) zero l h = h
+same-default (x ∷ xs) (suc stop) l h = same-default xs stop (omega arith) h
+
+or-end : (b : Bool) → b ≡ (b || false)
+or-end true = refl
+or-end false = refl
+
+-- where the flags are those of the locations that rules name, or all are set, they tell where no train waits
+pub flags-are : (parents : List (Option ℕ)) (rules : List RuleRow) (named flags : List Bool) → AreFlags parents named flags → ((stop : ℕ) → stop < length named → get_or named stop false ≡ (list_any names_none rules || list_any (names_stop stop) rules)) → HasFlags parents rules flags
+flags-are parents rules named flags h is = λ route stop e.
+    let here = slice-none flags stop e in
+    let l : stop < length named = omega (arith, here.0, h.count) in
+    let two = parts-none _ _ (sym (h.each stop l) ∙ here.1 true) in
+    let at_station = slice-none named (station_in parents stop) two.1 in
+    let first = parts-none _ _ (sym (is stop l) ∙ same-default named stop l two.0) in
+    let second = parts-none _ _ (sym (is (station_in parents stop) at_station.0) ∙ at_station.1 false) in
+    none-weaker (λ rule. has_wait rule && makes_wait route stop (station_in parents stop) rule) (λ rule. names_none rule || (names_stop stop rule || names_stop (station_in parents stop) rule))
+    (λ rule. by-field (has_wait rule) (is_empty_or rule.connecting route) rule.stop stop (station_in parents stop)) rules
+    (any-either names_none (λ rule. names_stop stop rule || names_stop (station_in parents stop) rule) rules
+    ∙ either-none _ _ first.0 (any-either (names_stop stop) (names_stop (station_in parents stop)) rules ∙ either-none _ _ first.1 second.1))
+
+-- the trains of one more rule
+pub waiting-more : (rules : List RuleRow) (rule : RuleRow) (old new : BTreeSet Connecting) → HasWaiting rules old → ((c : Connecting) → in_waiting new c ≡ (in_waiting old c || (has_wait rule && is_connecting c rule))) → HasWaiting (rules ++ rule ∷ []) new
+waiting-more rules rule old new h more = λ c.
+    more c ∙ ap (λ b. b || (has_wait rule && is_connecting c rule)) (h c)
+    ∙ ap (λ b. list_any (λ r. has_wait r && is_connecting c r) rules || b) (or-end (has_wait rule && is_connecting c rule))
+    ∙ sym (list_any-append (λ r. has_wait r && is_connecting c r) rules (rule ∷ []))
+
+cond-or : (b o : Bool) → cond b true o ≡ (o || (true && b))
+cond-or true true = refl
+cond-or true false = refl
+cond-or false true = refl
+cond-or false false = refl
+
+pub waiting-step : (rule : RuleRow) (before : Bool) (c : Connecting) → has_wait rule ≡ true → cond (is_at (connecting_cmp (connecting_of rule)) c) true before ≡ (before || (has_wait rule && is_connecting c rule))
+waiting-step rule before c h =
+    ap (λ b. cond b true before) (connecting_laws.symm (connecting_of rule) c) ∙ cond-or (is_connecting c rule) before ∙ ap (λ w. before || (w && is_connecting c rule)) (sym h)

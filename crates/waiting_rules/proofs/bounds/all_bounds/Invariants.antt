@@ -1,0 +1,7 @@
+use Rattle.std.proofs.Common.{take}
+use Rattle.waiting_rules.specs.Bounded.{HasSome}
+use Rattle.waiting_rules.proofs.bounds.all_bounds.Given as goal
+
+-- the bounds are those of the rules so far
+abbrev pub invariant-loop-rule : goal.invariant-loop-rule
+invariant-loop-rule l = HasSome l.rules l.first_rules (take l.rule-index l.rules) l.bounds
