@@ -19,7 +19,8 @@ use Rattle.delay_model.specs.Valid.{HasDistinctLabels, IsRun, IsTrain, IsValid}
 use Rattle.train_nodes.specs.Calls.{call_named, has_call, label_after, values_of}
 use Rattle.train_nodes.proofs.EventLemmas.{event-named, live-named}
 use Rattle.timetable.specs.LiveTimes.{live_time}
-use Rattle.timetable.proofs.Named.{event-found, live-event, live_time-none}
+use Rattle.propagate.proofs.Named.{event-found}
+use Rattle.timetable.proofs.Named.{live-event, live_time-none}
 use Rattle.conn_scan.specs.Calls.{arrival_at, calls_after, first_arrival}
 use Rattle.conn_scan.proofs.RideLemmas.{is-at, labelled}
 

@@ -23,7 +23,7 @@ use Rattle.edge_rules.proofs.Neighbours.{named-there}
 use Rattle.timetable.specs.Departures.{departing, departures_from, IsDeparture}
 use Rattle.timetable.specs.declared.departure_list.Departure.{Departure}
 use Rattle.timetable.proofs.Departing.{later-in, later-each, later-not-before, later-rise, times-rise}
-use Rattle.timetable.proofs.Named.{event-found, event-live}
+use Rattle.propagate.proofs.Named.{event-found, event-live}
 use Rattle.train_nodes.specs.Calls.{call_named, has_call}
 use Rattle.train_nodes.proofs.EventLemmas.{event-named}
 use Rattle.conn_scan.specs.Lowered.{lowered, access_of}

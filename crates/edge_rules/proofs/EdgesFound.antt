@@ -1,7 +1,7 @@
 -- The edges that are found at an event are those of the model.
-use Rattle.std.proofs.Common.{◌≡◌, ℕ, Bool, map, filter, get_or, suc, refl, true, false, List, [], ◌∷◌, ◌++◌, Some, subst, arith, All}
+use Rattle.std.proofs.Common.{◌≡◌, ℕ, Bool, map, filter, get_or, suc, refl, true, false, List, [], ◌∷◌, ◌++◌, Option, Some, None, flat_map, subst, arith, All, ap}
 use Rattle.std.specs.List.Sorted.{IsPermutation}
-use Rattle.std.proofs.lemmas.List.Elements.{All-map, All-filter, All-cons, All-nil, All-contains, Contains-append_right}
+use Rattle.std.proofs.lemmas.List.Elements.{filter-append, All-map, All-filter, All-cons, All-nil, All-contains, Contains-append_right}
 use Rattle.std.proofs.lemmas.List.Sorted.{IsPermutation-append_right, IsPermutation-sym, All-permutation}
 use Rattle.std.proofs.lemmas.Option.{slice_get_within, get_or_from_slice_get}
 use Rattle.mt_base.specs.declared.keys.Node.{Node}
@@ -11,22 +11,33 @@ use Rattle.delay_model.specs.declared.state.Train.{Train}
 use Rattle.delay_model.specs.declared.state.State.{State}
 use Rattle.delay_model.specs.declared.state.Event.{Event}
 use Rattle.delay_model.specs.Changes.{is_stop}
-use Rattle.mt_base.specs.Order.{node_of}
+use Rattle.mt_base.specs.Order.{is_same}
 use Rattle.delay_model.specs.Events.{live_events, events, events_at, event_named, arrival_of, departure_of}
 use Rattle.state_laws.proofs.Parts.{events-from_each}
 use Rattle.station_index.specs.Indexed.{Indexed}
-use Rattle.edge_rules.specs.AtEvent.{edges_to, edges_from, along_to, along_from}
+use Rattle.edge_rules.specs.AtEvent.{outgoing, edges_to, edges_from, along_to, along_from}
 use Rattle.edge_rules.specs.AtStops.{AreAtStops, IsAtStop}
 use Rattle.train_nodes.specs.Calls.{has_event}
 use Rattle.mt_base.specs.declared.plans.Entry.{Entry}
 use Rattle.edge_rules.specs.Found.{planned_at, kept_at, AreNames, HaveEvents}
-use Rattle.edge_rules.specs.Held.{HasOwnLabels}
+use Rattle.edge_rules.specs.Held.{HasOwnLabels, IsHeld, seen}
+use Rattle.edge_rules.specs.declared.graph.Graph.TheInside.{Inside}
 use Rattle.edge_rules.specs.Indexing.{IsIndexOf, entry_of}
 use Rattle.edge_rules.specs.Timetabled.{Timetabled}
 use Rattle.edge_rules.proofs.Caps.{there}
-use Rattle.edge_rules.proofs.FoundLemmas.{found-into, found-out}
+use Rattle.edge_rules.proofs.FoundLemmas.{found-into, found-out, found-changing}
+use Rattle.edge_rules.proofs.ShortWaits.{AreWithin}
+use Rattle.edge_rules.specs.Deciding.{may_change}
+use Rattle.edge_rules.specs.Transfers.{transfer_between, transfers_to}
+use Rattle.edge_rules.specs.declared.wanted.Shift.{Shift}
+use Rattle.edge_rules.specs.declared.wanted.Wanted.TheVariants.{Into, From, Changing}
+use Rattle.waiting_rules.specs.WaitTable.{WaitsAt}
+use Rattle.std.specs.Option.{option_map, option_map_or}
+use Rattle.delay_model.specs.declared.state.Edge.{Edge}
+use Rattle.delay_model.specs.Edges.{train_edges}
+use Rattle.delay_model.proofs.Ends.{train_edges-each}
 use Rattle.edge_rules.proofs.Neighbours.{each-named, named-there}
-use Rattle.edge_rules.proofs.TransferLemmas.{edges-to, edges-from}
+use Rattle.edge_rules.proofs.TransferLemmas.{edges-to, edges-from, filter-pieces, filter-whole}
 
 -- the events of calls at stops are at stops
 events-at_stops : (nw : Network) (train route : ℕ) (cs : List Call) → All (IsAtStop nw.stops) cs → All (λ v. is_stop nw.stops v.stop ≡ true) (events_at train route cs)
@@ -43,6 +54,17 @@ all-at_stops nw st h =
     events-from_each (λ v. is_stop nw.stops v.stop ≡ true) 0 st.trains (λ k at t e got.
     events-at_stops nw at t.route t.calls (subst (λ (t : Train). All (IsAtStop nw.stops) t.calls) (get_or_from_slice_get st.trains k t t got) (h k t (slice_get_within st.trains k t got))))
 
+-- edges along trains may always change a time
+along-changes : (g : Timetabled) (n : Node) (shift : Shift) → All (λ e. may_change shift.was shift.is e ≡ true) (along_from g.network.opts g.state n)
+unfolding outgoing
+along-changes g n shift = each (event_named g.state n) where
+  P : Edge → Type 0
+  P = λ e. may_change shift.was shift.is e ≡ true
+
+  each : (o : Option Event) → All P (option_map_or (λ (v : Event). outgoing (train_edges g.network.opts 0 g.state.trains) v.key) o [])
+  each None = All-nil P
+  each (Some v) = All-filter (λ e. is_same e.from v.key) P (train_edges g.network.opts 0 g.state.trains) (train_edges-each g.network.opts g.state P (λ u w h. refl))
+
 module _ (g : Timetabled) (index : Indexed) (n : Node) (v : Event) (labels : All HasOwnLabels g.state.trains) (stops : AreAtStops g.network g.state) (is : IsIndexOf g.state index) (named : event_named g.state n ≡ Some v) where
   at-stop : is_stop g.network.stops v.stop ≡ true
   at-stop =
@@ -50,23 +72,49 @@ module _ (g : Timetabled) (index : Indexed) (n : Node) (v : Event) (labels : All
       let all = subst (All (λ u. is_stop g.network.stops u.stop ≡ true)) r.whole (all-at_stops g.network g.state stops) in
       All-contains (λ u. is_stop g.network.stops u.stop ≡ true) (r.earlier ++ v ∷ r.later) v all (Contains-append_right r.earlier (v ∷ r.later) v (0, omega arith, refl))
 
-  pub edges-to_found : IsPermutation (along_to g.network.opts g.state n ++ (planned_at g index.entries true v ++ kept_at g true v)) (edges_to g n)
-  edges-to_found =
-      rw (edges-to g n v labels named) (IsPermutation-append_right _ _ _ (found-into g index.entries is.entries (each-named g.state labels) (all-at_stops g.network g.state stops) labels v at-stop))
+  pub transfers-to_found : (waits : WaitsAt) → IsPermutation (planned_at g index.entries (Into waits) v ++ kept_at g true v) (transfers_to g v)
+  transfers-to_found waits = found-into g index.entries is.entries (each-named g.state labels) (all-at_stops g.network g.state stops) labels waits v at-stop
 
-  pub edges-from_found : IsPermutation (along_from g.network.opts g.state n ++ (planned_at g index.entries false v ++ kept_at g false v)) (edges_from g n)
+  pub edges-to_found : (waits : WaitsAt) → IsPermutation (along_to g.network.opts g.state n ++ (planned_at g index.entries (Into waits) v ++ kept_at g true v)) (edges_to g n)
+  edges-to_found waits = rw (edges-to g n v labels named) (IsPermutation-append_right _ _ _ (transfers-to_found waits))
+
+  pub edges-from_found : IsPermutation (along_from g.network.opts g.state n ++ (planned_at g index.entries From v ++ kept_at g false v)) (edges_from g n)
   edges-from_found =
       rw (edges-from g n v labels named) (IsPermutation-append_right _ _ _ (found-out g index.entries is.entries (each-named g.state labels) (all-at_stops g.network g.state stops) labels v))
 
+  pub edges-changing_found : (shift : Shift) → AreWithin shift.longest_wait g.network.rules → IsPermutation (along_from g.network.opts g.state n ++ (planned_at g index.entries (Changing shift) v ++ kept_at g false v)) (filter (may_change shift.was shift.is) (edges_from g n))
+  edges-changing_found shift short =
+      let p = may_change shift.was shift.is in
+      let along = along_from g.network.opts g.state n in
+      rw (edges-from g n v labels named, filter-append p along (flat_map (transfer_between g v) (events g.state)), filter-whole p along (along-changes g n shift), filter-pieces p (transfer_between g v) (events g.state))
+      (IsPermutation-append_right _ _ _ (found-changing g index.entries is.entries (each-named g.state labels) (all-at_stops g.network g.state stops) labels shift v short))
+
 -- the names of entries of events are those of events
+entry-there : (st : State) (e : Entry) → option_map (λ (v : Event). v.stop) (event_named st e.node) ≡ Some e.stop → has_event st e.node ≡ true
+entry-there st e h = there-by (event_named st e.node) refl h where
+  there-by : (o : Option Event) → event_named st e.node ≡ o → option_map (λ (v : Event). v.stop) o ≡ Some e.stop → has_event st e.node ≡ true
+  there-by None is h = absurd (cc)
+  there-by (Some v) is h = named-there st e.node v is
+
 pub names-in : (st : State) (es : List Entry) (p : Entry → Bool) → HaveEvents st es → AreNames st (map (λ (e : Entry). e.node) (filter p es))
-names-in st es p h = All-map (λ n. has_event st n ≡ true) (λ (e : Entry). e.node) (filter p es) (All-filter p (λ e. has_event st e.node ≡ true) es h)
+names-in st es p h = All-map (λ n. has_event st n ≡ true) (λ (e : Entry). e.node) (filter p es) (All-filter p (λ e. has_event st e.node ≡ true) es (λ i d l. entry-there st (get_or es i d) (h i d l)))
 
 -- the entries of the index are those of events
 pub index-events : (st : State) (index : Indexed) → All HasOwnLabels st.trains → IsIndexOf st index → HaveEvents st index.entries
 index-events st index labels is =
-    let P : Entry → Type 0 = λ e. has_event st e.node ≡ true in
+    let P : Entry → Type 0 = λ e. option_map (λ (v : Event). v.stop) (event_named st e.node) ≡ Some e.stop in
     let named = each-named st labels in
-    let all : All (λ v. P (entry_of v)) (events st) = λ i d l. let v = get_or (events st) i d in named-there st (node_of v.key) v (named i d l) in
+    let all : All (λ v. P (entry_of v)) (events st) = λ i d l. ap (option_map (λ (v : Event). v.stop)) (named i d l) in
     let live = live_events (events st) in
     All-permutation P (map entry_of live) index.entries (IsPermutation-sym index.entries (map entry_of live) is.entries) (All-map P entry_of live (All-filter (λ (v : Event). v.live) (λ v. P (entry_of v)) (events st) all))
+
+-- what holds of a graph as it is seen
+pub record Holds (a : Inside) (g : Timetabled) : Type 0 where
+  pub labels : All HasOwnLabels g.state.trains
+  pub stops : AreAtStops g.network g.state
+  pub index : IsIndexOf g.state a.index
+  pub entries : HaveEvents g.state a.index.entries
+
+pub holds : (a : Inside) (g : Timetabled) → IsHeld a → seen a ≡ g → Holds a g
+holds a g h is =
+    subst (Holds a) is (record { labels = h.labels; stops = h.at_stops; index = h.index; entries = index-events a.trains a.index h.labels h.index })

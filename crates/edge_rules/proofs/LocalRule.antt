@@ -1,22 +1,28 @@
 -- The local rule at an event.
-use Rattle.std.proofs.Common.{◌≡◌, ℕ, ◌+◌, ◌<◌, ◌^◌, true, List, [], ◌∷◌, length, max, sym, ◌∙◌, ap, subst, arith, Some, unwrap_or}
+use Rattle.std.proofs.Common.{◌≡◌, ℕ, ◌+◌, ◌<◌, ◌^◌, List, [], ◌∷◌, ◌++◌, length, refl, sym, ◌∙◌, ap, subst, arith, true, false, Option, Some, None, is_some, unwrap_or}
 use Rattle.std.specs.List.{All, Contains, fold}
 use Rattle.std.specs.List.Sorted.{IsPermutation}
 use Rattle.std.specs.Option.{option_map, option_map_or}
-use Rattle.std.proofs.lemmas.Bool.{cond_both}
-use Rattle.std.proofs.lemmas.List.Elements.{All-tail, All-head, All-contains_itself}
+use Rattle.std.proofs.lemmas.List.Sums.{fold-append}
+use Rattle.std.proofs.lemmas.List.Elements.{All-tail, All-contains_itself}
+use Rattle.std.proofs.lemmas.List.{length-append}
 use Rattle.std.proofs.lemmas.List.Sorted.{All-permutation, IsPermutation-sym, length_permutation}
 use Rattle.delay_model.proofs.Bounds.{fold-same}
 use Rattle.mt_base.specs.declared.keys.Node.{Node}
-use Rattle.mt_base.specs.Order.{node_of}
 use Rattle.delay_model.specs.declared.state.Event.{Event}
 use Rattle.delay_model.specs.declared.state.Edge.{Edge as ModelEdge}
 use Rattle.delay_model.specs.Events.{events, event_named}
 use Rattle.delay_model.specs.Edges.{edges}
-use Rattle.delay_model.specs.Timing.{incoming, floor_of, counts, later_of, later, capped, local}
-use Rattle.train_nodes.specs.Times.{StoredTimes, time_of, has_time}
+use Rattle.delay_model.specs.Timing.{incoming, floor_of, later, capped, local}
+use Rattle.train_nodes.specs.Times.{StoredTimes}
 use Rattle.train_nodes.specs.Reports.{report_after}
-use Rattle.edge_rules.specs.AtEvent.{edges_to, stored_time, local_at}
+use Rattle.edge_rules.specs.Asking.{IsLater, IsReady}
+use Rattle.edge_rules.specs.Transfers.{transfers_to}
+use Rattle.edge_rules.proofs.TransferLemmas.{edges-to}
+use Rattle.state_laws.proofs.Parts.{All-left, All-right}
+use Rattle.mt_base.specs.Order.{node_of}
+use Rattle.train_nodes.specs.Times.{has_time}
+use Rattle.edge_rules.specs.AtEvent.{along_to, edges_to, stored_time, local_at}
 use Rattle.edge_rules.specs.Held.{HasOwnLabels}
 use Rattle.edge_rules.specs.Timetabled.{Timetabled}
 use Rattle.edge_rules.proofs.Caps.{cap-is}
@@ -31,43 +37,69 @@ rule-at g k n v x t labels named asked is =
     ∙ ap (λ y. Some (unwrap_or v.report (capped (report_after g.state n) y))) (sym asked)
     ∙ ap Some (sym is)
 
--- part of an evaluation: the edges that are left give, from the time so far, what all give from the floor
-pub record IsAhead (k : StoredTimes) (all : List ModelEdge) (floor steps : ℕ) (left : List ModelEdge) (time spent : ℕ) : Type 0 where
-  pub rule : fold (later (stored_time k)) time left ≡ fold (later (stored_time k)) floor all
-  pub cost : spent + length left ≡ steps + length all
-  pub held : All (λ (e : ModelEdge). has_time k (node_of e.from) ≡ true) left
-  pub fits : All (λ (e : ModelEdge). stored_time k e.from + e.weight < 2 ^ 25) left
-  pub small : time < 2 ^ 25
+-- no list is as an empty one
+pub none-there : {X : Type 0} (o : Option (List X)) → is_some o ≡ false → unwrap_or o [] ≡ []
+none-there None h = refl
+none-there (Some xs) h = absurd (cc)
 
--- before the first edge, in any order
-pub ahead-first : (k : StoredTimes) (all found : List ModelEdge) (floor steps : ℕ) → IsPermutation found all → All (λ (e : ModelEdge). has_time k (node_of e.from) ≡ true) all → All (λ (e : ModelEdge). stored_time k e.from + e.weight < 2 ^ 25) all → floor < 2 ^ 25 → IsAhead k all floor steps found floor steps
-ahead-first k all found floor steps p held fits small =
-    let back = IsPermutation-sym found all p in
-    let long = length_permutation found all p in
-    record {
-      rule = fold-same (stored_time k) floor found all (All-permutation (Contains all) all found back (All-contains_itself all)) (All-permutation (Contains found) found all p (All-contains_itself found));
-      cost = omega arith;
-      held = All-permutation (λ (e : ModelEdge). has_time k (node_of e.from) ≡ true) all found back held;
-      fits = All-permutation (λ (e : ModelEdge). stored_time k e.from + e.weight < 2 ^ 25) all found back fits;
-      small = small;
-    }
+module _ (k : StoredTimes) where
+  -- no edge
+  pub later-none : (so_far steps : ℕ) → so_far < 2 ^ 25 → IsLater k so_far steps [] so_far steps
+  later-none so_far steps small = record { value = refl; small = small; cost = omega arith }
 
--- one edge more
-pub ahead-more : (k : StoredTimes) (all : List ModelEdge) (floor steps : ℕ) (left : List ModelEdge) (time spent : ℕ) (e : ModelEdge) (rest : List ModelEdge) (n : Node) (x new more : ℕ) → IsAhead k all floor steps left time spent → left ≡ e ∷ rest → n ≡ node_of e.from → time_of k n ≡ Some x → new ≡ later_of e time (x + e.weight) → more ≡ spent + 1 → IsAhead k all floor steps rest new more
-ahead-more k all floor steps left time spent e rest n x new more part is name read next cost =
-    let Has : ModelEdge → Type 0 = λ e. has_time k (node_of e.from) ≡ true in
-    let Fits : ModelEdge → Type 0 = λ e. stored_time k e.from + e.weight < 2 ^ 25 in
-    let fits = subst (All Fits) is part.fits in
-    let kept : stored_time k e.from ≡ x = ap (λ m. unwrap_or (time_of k m) 0) (sym name) ∙ ap (λ o. unwrap_or o 0) read in
-    let asked : x + e.weight < 2 ^ 25 = subst (λ y. y + e.weight < 2 ^ 25) kept (All-head Fits e rest fits) in
-    let small = part.small in
-    let count = sym (ap (λ es. spent + length es) is) ∙ part.cost in
-    record {
-      rule = ap (λ y. fold (later (stored_time k)) y rest) (next ∙ ap (λ y. later_of e time (y + e.weight)) (sym kept))
-          ∙ sym (ap (fold (later (stored_time k)) time) is)
-          ∙ part.rule;
-      cost = omega arith;
-      held = All-tail Has e rest (subst (All Has) is part.held);
-      fits = All-tail Fits e rest fits;
-      small = subst (λ y. y < 2 ^ 25) (sym next) (cond_both (counts e.kind e.to.time (x + e.weight)) (max time (x + e.weight)) time (λ y. y < 2 ^ 25) (λ _. omega arith) (λ _. small));
-    }
+  -- edges, and then others
+  pub later-append : (so_far steps : ℕ) (xs : List ModelEdge) (time spent : ℕ) (ys : List ModelEdge) (last total : ℕ) → IsLater k so_far steps xs time spent → IsLater k time spent ys last total → IsLater k so_far steps (xs ++ ys) last total
+  later-append so_far steps xs time spent ys last total x y =
+      let long = length-append xs ys in
+      record {
+        value = y.value ∙ ap (λ t. fold (later (stored_time k)) t ys) x.value ∙ sym (fold-append (later (stored_time k)) so_far xs ys);
+        small = y.small;
+        cost = omega arith;
+      }
+
+  -- in another order
+  pub later-permuted : (so_far steps : ℕ) (xs ys : List ModelEdge) (time spent : ℕ) → IsPermutation xs ys → IsLater k so_far steps xs time spent → IsLater k so_far steps ys time spent
+  later-permuted so_far steps xs ys time spent p x =
+      let long = length_permutation xs ys p in
+      record {
+        value = x.value ∙ fold-same (stored_time k) so_far xs ys (All-permutation (Contains ys) ys xs (IsPermutation-sym xs ys p) (All-contains_itself ys)) (All-permutation (Contains xs) xs ys p (All-contains_itself xs));
+        small = x.small;
+        cost = omega arith;
+      }
+
+  -- part of an evaluation: the edges that are left give, from the time so far, what all give from the first time
+  pub record IsAhead (so_far steps : ℕ) (all left : List ModelEdge) (time spent : ℕ) : Type 0 where
+    pub rule : fold (later (stored_time k)) time left ≡ fold (later (stored_time k)) so_far all
+    pub cost : spent + length left ≡ steps + length all
+    pub ready : All (IsReady k) left
+    pub small : time < 2 ^ 25
+
+  -- one edge more
+  pub ahead-more : (so_far steps : ℕ) (all left : List ModelEdge) (time spent : ℕ) (e : ModelEdge) (rest : List ModelEdge) (new more : ℕ) → IsAhead so_far steps all left time spent → left ≡ e ∷ rest → IsLater k time spent (e ∷ []) new more → IsAhead so_far steps all rest new more
+  ahead-more so_far steps all left time spent e rest new more part is next =
+      let count = sym (ap (λ es. spent + length es) is) ∙ part.cost in
+      record {
+        rule = ap (λ y. fold (later (stored_time k)) y rest) next.value ∙ sym (ap (fold (later (stored_time k)) time) is) ∙ part.rule;
+        cost = omega arith;
+        ready = All-tail (IsReady k) e rest (subst (All (IsReady k)) is part.ready);
+        small = next.small;
+      }
+
+  -- the edges to an event: along its train, and those between trains
+  module _ (g : Timetabled) (n : Node) (v : Event) (labels : All HasOwnLabels g.state.trains) (is : node_of v.key ≡ n) (named : event_named g.state (node_of v.key) ≡ Some v) where
+    abbrev along : List ModelEdge
+    along = along_to g.network.opts g.state (node_of v.key)
+
+    both : edges_to g n ≡ along ++ transfers_to g v
+    both = rw (← is) (edges-to g (node_of v.key) v labels named)
+
+    -- what each of the two needs
+    pub ready-parts : All (λ (e : ModelEdge). has_time k (node_of e.from) ≡ true) (edges_to g n) → All (λ (e : ModelEdge). stored_time k e.from + e.weight < 2 ^ 25) (edges_to g n) → All (IsReady k) along × All (IsReady k) (transfers_to g v)
+    ready-parts held fits =
+        let each : All (IsReady k) (edges_to g n) = λ i d l. record { has = held i d l; fits = fits i d l } in
+        let all = rw both at each in
+        (All-left (IsReady k) along (transfers_to g v) all, All-right (IsReady k) along (transfers_to g v) all)
+
+    -- the one after the other
+    pub later-parts : (so_far steps time spent last total : ℕ) → IsLater k so_far steps along time spent → IsLater k time spent (transfers_to g v) last total → IsLater k so_far steps (edges_to g n) last total
+    later-parts so_far steps time spent last total x y = rw both (later-append so_far steps along time spent (transfers_to g v) last total x y)

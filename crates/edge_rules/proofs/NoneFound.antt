@@ -1,9 +1,9 @@
 -- Where no edge between trains is found.
-use Rattle.std.proofs.Common.{◌≡◌, ℕ, Bool, true, false, not, nat_eq, List, [], ◌∷◌, flat_map, length, get_or, Option, Some, None, refl, ◌∙◌, ap, arith, Contains}
+use Rattle.std.proofs.Common.{◌≡◌, ◌<◌, ℕ, Bool, cond, filter, map, inl, inr, true, false, not, nat_eq, List, [], ◌∷◌, flat_map, length, get_or, Option, Some, None, refl, ◌∙◌, ap, arith, Contains}
 use mathlib.Core.Bool.{beq}
 use Rattle.std.specs.FinMap as finmap
 use Rattle.std.specs.FinMap.{FinMap, get-empty, empty_of_len}
-use Rattle.std.specs.Option.{option_map_or}
+use Rattle.std.specs.Option.{option_map, option_map_or}
 use Rattle.std.proofs.lemmas.Bool.Decides.{nat_tests}
 use Rattle.mt_base.specs.declared.keys.Node.{Node}
 use Rattle.mt_base.specs.declared.plans.Entry.{Entry}
@@ -21,10 +21,17 @@ use Rattle.delay_model.specs.Waits.{wait}
 use Rattle.train_nodes.specs.Calls.{has_call}
 use Rattle.train_nodes.proofs.KeepLemmas.{into-each, from-each}
 use Rattle.train_nodes.proofs.Numbered.{nat_eq-from}
-use Rattle.edge_rules.specs.Found.{planned_with, planned_by, planned_at, kept_with, kept_names, kept_at, of_name, joined_stops, names_near, tables_in}
+use Rattle.edge_rules.specs.Found.{are_into, can_be_at, first_near, last_near, HaveEvents, planned_with, planned_by, planned_at, kept_with, kept_names, kept_at, of_name, joined_stops, names_near, tables_in}
 use Rattle.edge_rules.specs.Timetabled.{Timetabled}
+use Rattle.edge_rules.specs.declared.wanted.Wanted.{Wanted}
+use Rattle.edge_rules.specs.declared.wanted.Wanted.TheVariants.{Into, From, Changing}
+use Rattle.waiting_rules.specs.WaitTable.{WaitsAt}
 use Rattle.edge_rules.proofs.Neighbours.{named-there}
-use Rattle.edge_rules.proofs.PieceLemmas.{pieces-none}
+use Rattle.edge_rules.proofs.InLine.{filter-none}
+use Rattle.edge_rules.proofs.PieceLemmas.{pieces-filter, pieces-map, pieces-none}
+use Rattle.change_times.specs.declared.change.Change.{Change}
+use Rattle.station_index.specs.Indexed.{is_in_range}
+use Rattle.std.proofs.lemmas.Bool.{cases_Bool}
 
 -- what no event makes no name makes
 of-none : (f : Event → List Edge) → ((u : Event) → f u ≡ []) → (o : Option Event) → option_map_or f o [] ≡ []
@@ -34,27 +41,61 @@ of-none f none (Some u) = none u
 names-none : (st : State) (f : Event → List Edge) → ((u : Event) → f u ≡ []) → (ns : List Node) → flat_map (of_name st f) ns ≡ []
 names-none st f none ns = pieces-none (of_name st f) ns (λ i d l. of-none f none (event_named st (get_or ns i d)))
 
-planned-none : (g : Timetabled) (es : List Entry) (into : Bool) (v : Event) → ((w : ℕ) (u : Event) → planned_with g into v w u ≡ []) → planned_at g es into v ≡ []
-planned-none g es into v none =
-    let cs = joined_stops (tables_in g.network) into v.stop in
-    pieces-none (planned_by g es into v) cs (λ i d l.
-    let c = get_or cs i d in names-none g.state (planned_with g into v c.seconds) (none c.seconds) (names_near g.network.opts.window es into v.key.time c))
+planned-none : (g : Timetabled) (es : List Entry) (wanted : Wanted) (v : Event) → ((w : ℕ) (u : Event) → planned_with g wanted v w u ≡ []) → planned_at g es wanted v ≡ []
+planned-none g es wanted v none =
+    let cs = joined_stops (tables_in g.network) (are_into wanted) v.stop in
+    pieces-none (planned_by g es wanted v) cs (λ i d l.
+    let c = get_or cs i d in names-none g.state (planned_with g wanted v c.seconds) (none c.seconds) (names_near g.network.opts.window es wanted v.key.time c))
 
--- edges between trains lead to departures and leave arrivals
-pub planned-to_arrival : (g : Timetabled) (es : List Entry) (v : Event) → v.key.dep ≡ false → planned_at g es true v ≡ []
-planned-to_arrival g es v at = planned-none g es true v (λ w u. grind arith)
-
-pub planned-from_departure : (g : Timetabled) (es : List Entry) (v : Event) → v.key.dep ≡ true → planned_at g es false v ≡ []
-planned-from_departure g es v at = planned-none g es false v (λ w u. grind arith)
+-- edges between trains lead to departures and leave arrivals, and change nothing by a time that is not after the schedule
+pub planned-cannot : (g : Timetabled) (es : List Entry) (wanted : Wanted) (v : Event) → can_be_at wanted v ≡ false → planned_at g es wanted v ≡ []
+planned-cannot g es wanted v h = planned-none g es wanted v (λ w u. none wanted h w u) where
+  none : (wanted : Wanted) → can_be_at wanted v ≡ false → (w : ℕ) (u : Event) → planned_with g wanted v w u ≡ []
+  none (Into waits) h w u = grind arith
+  none From h w u = grind arith
+  none (Changing shift) h w u = grind (arith, nat_tests)
 
 pub kept-other : (g : Timetabled) (into : Bool) (v : Event) → not (beq v.key.dep into) ≡ true → kept_at g into v ≡ []
 unfolding transfer
 kept-other g true v other = names-none g.state (kept_with g true v) (λ u. grind arith) (kept_names g.state true (node_of v.key))
 kept-other g false v other = names-none g.state (kept_with g false v) (λ u. grind arith) (kept_names g.state false (node_of v.key))
 
+-- where the one train does not wait for the other
+no-wait-piece : (g : Timetabled) (wanted : Wanted) (v : Event) (w : ℕ) (u : Event) → (are_into wanted ≡ true → wait_between g.network u v ≡ 0) → (are_into wanted ≡ false → wait_between g.network v u ≡ 0) → planned_with g wanted v w u ≡ []
+no-wait-piece g (Into waits) v w u into from = let zero = into refl in grind (arith, nat_tests)
+no-wait-piece g From v w u into from = let zero = from refl in grind (arith, nat_tests)
+no-wait-piece g (Changing shift) v w u into from = let zero = from refl in grind (arith, nat_tests)
+
+-- where no train waits at the stop of a change
+pub planned-unwaited : (g : Timetabled) (es : List Entry) (wanted : Wanted) (v : Event) (c : Change) → HaveEvents g.state es → are_into wanted ≡ false → ((feeder connecting : ℕ) → wait g.network.stops g.network.rules feeder connecting c.stop ≡ 0) → planned_by g es wanted v c ≡ []
+planned-unwaited g es wanted v c h from none =
+    let window = g.network.opts.window in
+    let f = planned_with g wanted v c.seconds in
+    let p = is_in_range c.stop (not (are_into wanted)) (first_near window wanted v.key.time c.seconds) (last_near window wanted v.key.time c.seconds) in
+    pieces-map (of_name g.state f) (λ (e : Entry). e.node) (filter p es)
+    ∙ pieces-filter (λ (e : Entry). of_name g.state f e.node) p es
+    ∙ pieces-none (λ (e : Entry). cond (p e) (of_name g.state f e.node) []) es (λ i d l. let e = get_or es i d in one e (event_named g.state e.node) (h i d l)) where
+      one : (e : Entry) (o : Option Event) → option_map (λ (u : Event). u.stop) o ≡ Some e.stop → cond (is_in_range c.stop (not (are_into wanted)) (first_near g.network.opts.window wanted v.key.time c.seconds) (last_near g.network.opts.window wanted v.key.time c.seconds) e) (option_map_or (planned_with g wanted v c.seconds) o []) [] ≡ []
+      one e None is = absurd (cc)
+      one e (Some u) is =
+          elim (cases_Bool (is_in_range c.stop (not (are_into wanted)) (first_near g.network.opts.window wanted v.key.time c.seconds) (last_near g.network.opts.window wanted v.key.time c.seconds) e)) [
+            | inl hit ↦
+                let at : u.stop ≡ c.stop = grind (arith, nat_tests) in
+                rw hit (no-wait-piece g wanted v c.seconds u (λ into. absurd (cc)) (λ _. rw at (none v.route u.route)))
+            | inr miss ↦ rw miss refl
+          ]
+
+-- where the range that is searched is empty
+pub names-none_near : (window : ℕ) (es : List Entry) (wanted : Wanted) (time : ℕ) (c : Change) → last_near window wanted time c.seconds < first_near window wanted time c.seconds → names_near window es wanted time c ≡ []
+names-none_near window es wanted time c empty =
+    let p = is_in_range c.stop (not (are_into wanted)) (first_near window wanted time c.seconds) (last_near window wanted time c.seconds) in
+    ap (map (λ (e : Entry). e.node)) (filter-none p es (λ i d l. past (get_or es i d) (first_near window wanted time c.seconds) (last_near window wanted time c.seconds) empty)) where
+      past : (e : Entry) (first last : ℕ) → last < first → is_in_range c.stop (not (are_into wanted)) first last e ≡ false
+      past e first last empty = grind (arith, nat_tests)
+
 -- a departure whose train waits for none
-pub planned-no_wait : (g : Timetabled) (es : List Entry) (v : Event) → ((u : Event) → wait_between g.network u v ≡ 0) → planned_at g es true v ≡ []
-planned-no_wait g es v h = planned-none g es true v (λ w u. let zero = h u in grind (arith, nat_tests))
+pub planned-no_wait : (g : Timetabled) (es : List Entry) (waits : WaitsAt) (v : Event) → ((u : Event) → wait_between g.network u v ≡ 0) → planned_at g es (Into waits) v ≡ []
+planned-no_wait g es waits v h = planned-none g es (Into waits) v (λ w u. let zero = h u in grind (arith, nat_tests))
 
 -- no train waits where there is no rule
 no-wait : (nw : Network) (u v : Event) (rows : List RuleRow) → nat_eq (length rows) 0 ≡ true → wait nw.stops rows u.route v.route v.stop ≡ 0
@@ -62,8 +103,8 @@ unfolding wait
 no-wait nw u v [] h = refl
 no-wait nw u v (row ∷ rows) h = absurd (let e = nat_eq-from _ _ h in omega arith)
 
-pub planned-no_rules : (g : Timetabled) (es : List Entry) (v : Event) → nat_eq (length g.network.rules) 0 ≡ true → planned_at g es false v ≡ []
-planned-no_rules g es v h = planned-none g es false v (λ w u. let zero = no-wait g.network v u g.network.rules h in grind (arith, nat_tests))
+pub planned-no_rules : (g : Timetabled) (es : List Entry) (wanted : Wanted) (v : Event) → nat_eq (length g.network.rules) 0 ≡ true → planned_at g es wanted v ≡ []
+planned-no_rules g es wanted v h = planned-none g es wanted v (λ w u. no-wait-piece g wanted v w u (λ _. no-wait g.network u v g.network.rules h) (λ _. no-wait g.network v u g.network.rules h))
 
 -- nothing is kept or dropped where there is no override
 pub not-chosen : (m : FinMap connection_cmp Override) (a b : Node) → nat_eq (finmap.len m) 0 ≡ true → finmap.get m (connection a b) ≡ None

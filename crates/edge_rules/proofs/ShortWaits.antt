@@ -24,21 +24,25 @@ use Rattle.edge_rules.specs.Timetabled.{Timetabled}
 abbrev pub IsShort : Edge → Type 0
 IsShort e = wait_of e.kind ≤ 86400
 
+-- no rule makes a train wait longer
+abbrev pub AreWithin : ℕ → List RuleRow → Type 0
+AreWithin longest rules = All (λ (rule : RuleRow). rule.max_wait ≤ longest) rules
+
 abbrev AreShort : List RuleRow → Type 0
-AreShort rules = All (λ (rule : RuleRow). rule.max_wait ≤ 86400) rules
+AreShort = AreWithin 86400
 
-found-short : (p : RuleRow → Bool) (rules : List RuleRow) → AreShort rules → option_map_or (λ (rule : RuleRow). rule.max_wait) (find p rules) 0 ≤ 86400
-found-short p [] h = omega arith
-found-short p (r ∷ rs) h =
-    elim (cases_Bool (p r)) [ inl hit ↦ rw hit (h 0 r (omega arith)) | inr miss ↦ rw miss (found-short p rs (λ k d l. h (suc k) d (omega arith))) ]
+found-within : (longest : ℕ) (p : RuleRow → Bool) (rules : List RuleRow) → AreWithin longest rules → option_map_or (λ (rule : RuleRow). rule.max_wait) (find p rules) 0 ≤ longest
+found-within longest p [] h = omega arith
+found-within longest p (r ∷ rs) h =
+    elim (cases_Bool (p r)) [ inl hit ↦ rw hit (h 0 r (omega arith)) | inr miss ↦ rw miss (found-within longest p rs (λ k d l. h (suc k) d (omega arith))) ]
 
-wait-short : (nw : Network) (u v : Event) → AreShort nw.rules → wait_between nw u v ≤ 86400
+pub wait-within : (longest : ℕ) (nw : Network) (u v : Event) → AreWithin longest nw.rules → wait_between nw u v ≤ longest
 unfolding wait
-wait-short nw u v h = found-short (is_rule_for nw.stops u.route v.route v.stop) nw.rules h
+wait-within longest nw u v h = found-within longest (is_rule_for nw.stops u.route v.route v.stop) nw.rules h
 
 transfer-short : (nw : Network) (choice : Option Override) (u v : Event) → AreShort nw.rules → All IsShort (transfer nw choice u v)
 unfolding transfer
-transfer-short nw choice u v h = let short = wait-short nw u v h in grind (arith, All-cons IsShort, All-nil IsShort)
+transfer-short nw choice u v h = let short = wait-within 86400 nw u v h in grind (arith, All-cons IsShort, All-nil IsShort)
 
 on-short : (o : Opts) (u : Event) (vs : List Event) → All IsShort (edge_on o u vs)
 on-short o u vs = grind (arith, All-cons IsShort, All-nil IsShort)

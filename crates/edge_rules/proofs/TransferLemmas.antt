@@ -23,11 +23,13 @@ use Rattle.edge_rules.proofs.InLine.{filter-none, append-none, AllPairs-before, 
 use Rattle.edge_rules.proofs.Caps.{IsThere, there}
 use Rattle.edge_rules.proofs.PieceLemmas.{pieces-none, pieces-same}
 
-filter-pieces : {X Y : Type 0} (p : Y → Bool) (f : X → List Y) (xs : List X) → filter p (flat_map f xs) ≡ flat_map (λ x. filter p (f x)) xs
+-- what passes a test, of pieces
+pub filter-pieces : {X Y : Type 0} (p : Y → Bool) (f : X → List Y) (xs : List X) → filter p (flat_map f xs) ≡ flat_map (λ x. filter p (f x)) xs
 filter-pieces p f [] = refl
 filter-pieces p f (x ∷ xs) = filter-append p (f x) (flat_map f xs) ∙ ap (λ ys. filter p (f x) ++ ys) (filter-pieces p f xs)
 
-filter-whole : {X : Type 0} (p : X → Bool) (xs : List X) → All (λ x. p x ≡ true) xs → filter p xs ≡ xs
+-- a filter keeps all where all pass
+pub filter-whole : {X : Type 0} (p : X → Bool) (xs : List X) → All (λ x. p x ≡ true) xs → filter p xs ≡ xs
 filter-whole p [] h = refl
 filter-whole p (x ∷ xs) h =
     cond-true (p x) (x ∷ filter p xs) (filter p xs) (All-head (λ x. p x ≡ true) x xs h)

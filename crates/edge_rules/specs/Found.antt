@@ -1,7 +1,8 @@
 -- The edges between trains at an event, as they are found: the planned ones by ranges of an index
 -- of events, and the kept ones by what was chosen.
-use Rattle.std.specs.Prelude.{All, ℕ, ◌≡◌, IfSome, ◌+◌, ◌-◌, List, [], true, false, Bool, ◌&&◌, is_none, if◌then◌else◌, Some, None, flat_map, Option}
-use Rattle.std.specs.Option.{option_map_or}
+use Rattle.std.specs.Prelude.{All, ℕ, ◌≡◌, ◌+◌, ◌-◌, min, max, List, [], true, false, Bool, not}
+use Rattle.std.specs.Prelude.{◌&&◌, nat_lt, is_none, if◌then◌else◌, Some, None, filter, flat_map}
+use Rattle.std.specs.Option.{option_map, option_map_or}
 use Rattle.mt_base.specs.declared.keys.Node.{Node}
 use Rattle.mt_base.specs.declared.plans.Entry.{Entry}
 use Rattle.mt_base.specs.Order.{node_of}
@@ -11,7 +12,8 @@ use Rattle.delay_model.specs.declared.state.State.{State}
 use Rattle.delay_model.specs.declared.state.Event.{Event}
 use Rattle.delay_model.specs.declared.state.Edge.{Edge}
 use Rattle.delay_model.specs.declared.state.EdgeKind.{EdgeKind}
-use Rattle.delay_model.specs.declared.state.EdgeKind.TheVariants.{Train as AlongTrain, Planned, Kept}
+use Rattle.delay_model.specs.declared.state.EdgeKind.TheVariants.{Train as AlongTrain, Planned}
+use Rattle.delay_model.specs.declared.state.EdgeKind.TheVariants.{Kept}
 use Rattle.delay_model.specs.Edges.{transfer, may_connect, override_of, edge_by_change}
 use Rattle.delay_model.specs.Events.{event_named}
 use Rattle.change_times.specs.declared.change.Change.{Change}
@@ -21,31 +23,65 @@ use Rattle.train_nodes.specs.Calls.{has_event}
 use Rattle.train_nodes.specs.Keeps.{kept_into, kept_from}
 use Rattle.station_index.specs.Indexed.{nodes_in}
 use Rattle.waiting_rules.specs.WaitTable.{WaitsAt, wait_table}
+use Rattle.edge_rules.specs.Deciding.{may_change}
 use Rattle.edge_rules.specs.Timetabled.{Timetabled}
+use Rattle.edge_rules.specs.declared.wanted.Wanted.{Wanted}
+use Rattle.edge_rules.specs.declared.wanted.Wanted.TheVariants.{Into, From, Changing}
 
 -- what the change times of a network follow from
 abbrev pub tables_in : Network → ChangeTables
 tables_in nw = record { stops = nw.stops; transfers = nw.transfers; default = nw.opts.change }
 
+-- the edges lead to the event
+abbrev pub are_into : Wanted → Bool
+are_into (Into waits) = true
+are_into From = false
+are_into (Changing shift) = false
+
+-- there can be planned edges: they lead to departures and leave arrivals, and one that asks for no
+-- more than the schedules changes nothing
+abbrev pub can_be_at : Wanted → Event → Bool
+can_be_at (Into waits) v = v.key.dep
+can_be_at From v = not v.key.dep
+can_be_at (Changing shift) v = not v.key.dep && nat_lt v.key.time (max shift.was shift.is)
+
 -- the stops from which one can change to a stop (into), or to which one can change from it
 abbrev pub joined_stops : ChangeTables → Bool → ℕ → List Change
 joined_stops t into stop = if into then reached_back t stop else reached t stop
 
--- the arrivals at a stop that are in time for a change to a departure at a time (into), or the
--- departures that are in time for a change from an arrival; both may lie apart by the window
-abbrev pub names_near : ℕ → List Entry → Bool → ℕ → Change → List Node
-names_near window es into time c =
-    if into then nodes_in c.stop false (time - c.seconds - window) (time - c.seconds) es
-    else nodes_in c.stop true (time + c.seconds) (time + c.seconds + window) es
+-- from which time on the other events are scheduled that are looked for from an event at a time, by
+-- a change of w seconds: they may lie apart by the window, and after a change of times only those
+-- matter whose wait can reach the earlier one
+abbrev pub first_near : ℕ → Wanted → ℕ → ℕ → ℕ
+first_near window (Into waits) time w = time - w - window
+first_near window From time w = time + w
+first_near window (Changing shift) time w =
+    max (time + w) (min shift.was shift.is + w - shift.longest_wait)
+
+-- up to which time they are scheduled: after a change of times before the later one
+abbrev pub last_near : ℕ → Wanted → ℕ → ℕ → ℕ
+last_near window (Into waits) time w = time - w
+last_near window From time w = time + w + window
+last_near window (Changing shift) time w =
+    min (time + w + window) (max shift.was shift.is + w - 1)
+
+-- the arrivals at a stop that are in time for a change to a departure at a time, or the departures
+-- that are in time for a change from an arrival
+abbrev pub names_near : ℕ → List Entry → Wanted → ℕ → Change → List Node
+names_near window es wanted time c = nodes_in c.stop (not (are_into wanted))
+    (first_near window wanted time c.seconds) (last_near window wanted time c.seconds) es
 
 -- the edge that is planned from u to v by a change of w seconds, where nothing was chosen for it
 abbrev pub planned_between : Timetabled → ℕ → Event → Event → List Edge
 planned_between g w u v = if may_connect u v && is_none (override_of g.state u v)
     then edge_by_change g.network None u v (Some w) else []
 
--- the planned edge from another event to v (into), or from v to the other
-abbrev pub planned_with : Timetabled → Bool → Event → ℕ → Event → List Edge
-planned_with g into v w u = if into then planned_between g w u v else planned_between g w v u
+-- the planned edge from another event to v, or from v to the other, if it is wanted
+abbrev pub planned_with : Timetabled → Wanted → Event → ℕ → Event → List Edge
+planned_with g (Into waits) v w u = planned_between g w u v
+planned_with g From v w u = planned_between g w v u
+planned_with g (Changing shift) v w u =
+    filter (may_change shift.was shift.is) (planned_between g w v u)
 
 -- the edge from another event to v (into), or from v to the other, where the connection is kept
 abbrev pub kept_with : Timetabled → Bool → Event → Event → List Edge
@@ -56,15 +92,15 @@ kept_with g into v u = if into then transfer g.network (Some Keep) u v
 abbrev pub of_name : State → (Event → List Edge) → Node → List Edge
 of_name st f n = option_map_or f (event_named st n) []
 
--- the planned edges to v (into), or from v, by a change from or to one stop
-abbrev pub planned_by : Timetabled → List Entry → Bool → Event → Change → List Edge
-planned_by g es into v c = flat_map (of_name g.state (planned_with g into v c.seconds))
-    (names_near g.network.opts.window es into v.key.time c)
+-- the planned edges to v, or from v, by a change from or to one stop
+abbrev pub planned_by : Timetabled → List Entry → Wanted → Event → Change → List Edge
+planned_by g es wanted v c = flat_map (of_name g.state (planned_with g wanted v c.seconds))
+    (names_near g.network.opts.window es wanted v.key.time c)
 
--- the planned edges to v (into), or from v
-abbrev pub planned_at : Timetabled → List Entry → Bool → Event → List Edge
-planned_at g es into v = flat_map (planned_by g es into v)
-    (joined_stops (tables_in g.network) into v.stop)
+-- the planned edges to v, or from v
+abbrev pub planned_at : Timetabled → List Entry → Wanted → Event → List Edge
+planned_at g es wanted v = flat_map (planned_by g es wanted v)
+    (joined_stops (tables_in g.network) (are_into wanted) v.stop)
 
 -- the events whose connections to an event (into), or from it, are kept
 abbrev pub kept_names : State → Bool → Node → List Node
@@ -79,9 +115,9 @@ kept_at g into v = flat_map (of_name g.state (kept_with g into v))
 abbrev pub AreNames : State → List Node → Type 0
 AreNames st ns = All (λ n. has_event st n ≡ true) ns
 
--- each of these entries is that of an event
+-- each of these entries is that of an event at its stop
 abbrev pub HaveEvents : State → List Entry → Type 0
-HaveEvents st es = All (λ e. has_event st e.node ≡ true) es
+HaveEvents st es = All (λ e. option_map (λ v. v.stop) (event_named st e.node) ≡ Some e.stop) es
 
 -- how long the train of a departure waits, by the routes of late feeders
 abbrev pub waits_at : Timetabled → Event → WaitsAt
@@ -91,9 +127,11 @@ waits_at g v = record {
   stop = v.stop;
 }
 
--- if these are waits, they are those of a departure
-abbrev pub AreWaitsAt : Timetabled → Event → Option WaitsAt → Type 0
-AreWaitsAt g v waits = IfSome waits (λ w. w ≡ waits_at g v)
+-- the waits by which edges to an event are looked for are those of it
+abbrev pub AreWaitsAt : Timetabled → Event → Wanted → Type 0
+AreWaitsAt g v (Into waits) = waits ≡ waits_at g v
+AreWaitsAt g v From = Unit {0}
+AreWaitsAt g v (Changing shift) = Unit {0}
 
 -- the longest wait of an edge in seconds, or 0
 abbrev pub wait_of : EdgeKind → ℕ

@@ -2,8 +2,10 @@ pub mod AtStops
 pub mod Indexing
 pub mod Timetabled
 pub mod AtEvent
+pub mod Asking
 pub mod Held
 pub mod Neighbours
 pub mod Transfers
+pub mod Deciding
 pub mod Found
 pub mod HeldPlanned

@@ -11,7 +11,12 @@ pub record Timetabled : Type 0 where
   pub network : Network
   pub state : State
 
+-- with another state of the trains
+abbrev pub with_state : State → Timetabled → Timetabled
+with_state st g = record g { state = st }
+
 -- a graph is stored as the pair of its fields
 abbrev pub timetabled_code : Coded Timetabled
 timetabled_code =
-    code_by (Network × State) (coded× network_row.coded state_row.coded) (λ g. (g.network, g.state)) (λ p. record { network = p.0; state = p.1 }) (λ _. refl)
+    code_by (Network × State) (coded× network_row.coded state_row.coded)
+    (λ g. (g.network, g.state)) (λ p. record { network = p.0; state = p.1 }) (λ _. refl)

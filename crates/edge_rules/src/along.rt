@@ -16,6 +16,7 @@ use mt_base::options::Opts;
 use train_nodes::Trains;
 
 /// The event before this one on its train. None exactly at the arrival of the first call.
+#[inline(always)]
 fn previous(trains: &Trains, n: &Node) -> Option<Node>
     requires { IsTrue (has_event trains.now n.now) }
     ensures { result ≡ previous_of trains.now n.now }
@@ -45,6 +46,7 @@ fn next(trains: &Trains, n: &Node) -> Option<Node>
 
 /// The least time in seconds from an event of a train to the next one, by the times at which the
 /// two are scheduled.
+#[inline(always)]
 fn minimum(opts: &Opts, from: &Event, to: &Event) -> u32
     ensures { result ≡ minimum_between opts.now from.now to.now }
 {
@@ -62,6 +64,7 @@ fn minimum(opts: &Opts, from: &Event, to: &Event) -> u32
 }
 
 /// The edge from an event to the next one of its train, if both are live.
+#[inline(always)]
 pub(crate) fn edge_between(opts: &Opts, from: &Event, to: &Event) -> Option<Edge>
     ensures { option_to_list result ≡ edge_on opts.now from.now (to.now ∷ []) }
 {
@@ -77,6 +80,7 @@ pub(crate) fn edge_between(opts: &Opts, from: &Event, to: &Event) -> Option<Edge
 }
 
 /// The edge along its train that leads to an event, if there is one.
+#[inline(always)]
 pub(crate) fn edge_into(trains: &Trains, opts: &Opts, at: &Event) -> Option<Edge>
     requires labels { All HasOwnLabels trains.now.trains }
     requires there { event_named trains.now (node_of at.now.key) ≡ Some at.now }

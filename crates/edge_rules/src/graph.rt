@@ -1,40 +1,49 @@
 //! The graph over the trains.
 
-ghost use Rattle.std.specs.Prelude.{◌≡◌, ◌+◌, ◌++◌, [], ◌∷◌, ◌&&◌, nat_eq, ◌<◌, ◌≤◌, ◌^◌, true, false, IsTrue, Some, None, All, IfOk, map, length, is_some};
+ghost use Rattle.std.specs.Prelude.{◌≡◌, ℕ, ◌+◌, [], ◌∷◌, nat_eq, ◌<◌, ◌≤◌, ◌^◌, true, false};
+ghost use Rattle.std.specs.Prelude.{IsTrue, Some, None, All, IfOk, IfSome, filter, map, length};
+ghost use Rattle.std.specs.Prelude.{is_some};
 ghost use Rattle.std.specs.Option.{option_to_list};
-ghost use Rattle.std.specs.FinMap as finmap;
 ghost use Rattle.std.specs.List.{AllPairs};
 ghost use Rattle.std.specs.List.Sorted.{IsPermutation};
 ghost use Rattle.mt_base.specs.Options.{IsInRange};
 ghost use Rattle.mt_base.specs.Order.{node_of};
 ghost use Rattle.mt_base.specs.declared.keys.Node.{Node as ANode};
 ghost use Rattle.delay_model.specs.declared.state.Event.{Event as AnEvent};
-ghost use Rattle.delay_model.specs.Edges.{DifferInEnds, edge_on, override_of, transfer, wait_between};
+ghost use Rattle.delay_model.specs.Edges.{DifferInEnds, edge_on, override_of, transfer};
+ghost use Rattle.delay_model.specs.Edges.{wait_between};
 ghost use Rattle.delay_model.specs.declared.overrides.Override.TheVariants as overrides;
-ghost use Rattle.delay_model.specs.Effect.{effect, with_event, forecasted, reported, has_override, with_override, without_override};
-ghost use Rattle.delay_model.specs.Events.{calls_of, events, event_named, is_live};
+ghost use Rattle.delay_model.specs.Effect.{effect, with_event, forecasted, reported, has_override};
+ghost use Rattle.delay_model.specs.Effect.{with_override, without_override};
+ghost use Rattle.delay_model.specs.Events.{calls_of, event_named, is_live};
 ghost use Rattle.delay_model.specs.Overrides.{connection};
 ghost use Rattle.delay_model.specs.Refusals.{are_at_stops, stands_before};
+ghost use Rattle.delay_model.specs.Waits.{wait};
 ghost use Rattle.delay_model.specs.declared.messages.Message.TheVariants as messages;
 ghost use Rattle.train_nodes.specs.Times.{has_time};
 ghost use Rattle.waiting_rules.specs.WaitTable.{parent_station};
-ghost use Rattle.edge_rules.specs.AtEvent.{edges_to, edges_from, stored_time, local_at};
+ghost use Rattle.edge_rules.specs.Asking.{IsLater, IsReady};
+ghost use Rattle.edge_rules.specs.AtEvent.{along_to, edges_to, edges_from, stored_time, local_at};
 ghost use Rattle.edge_rules.specs.AtStops.{AreAtStops};
+ghost use Rattle.edge_rules.specs.Deciding.{may_change};
 ghost use Rattle.edge_rules.specs.Held.{network_of, HasOwnLabels};
-ghost use Rattle.edge_rules.specs.Found.{AreWaitsAt, planned_between, wait_of};
+ghost use Rattle.edge_rules.specs.Found.{AreWaitsAt, planned_between, wait_of, waits_at};
+ghost use Rattle.edge_rules.specs.Timetabled.{with_state};
+ghost use Rattle.edge_rules.specs.Transfers.{transfers_to};
 
 use crate::along::{edge_between, edge_into, edge_out};
 use crate::connections::{is_planned, may_connect};
 use crate::edges::Edges;
 use crate::indexing::{index_of, insert_calls, insert_train, remove_between, remove_stretch};
-use crate::rule::{by_reports, floor, later};
-use crate::transfers::{kept_edges, planned_from, planned_to};
+use crate::rule::{by_reports, floor, later_by, later_by_each};
+use crate::transfers::{kept_edges, planned_edges, planned_to};
+use crate::wanted::{Shift, Wanted};
 use change_times::Changes;
 use delay_model::overrides::Override;
 use delay_model::state::{Edge, EdgeKind, Event};
 use mt_base::keys::Node;
 use mt_base::memory::OutOfMemory;
-use mt_base::numbers::{Day, Label, RouteNo, Time, TrainNo};
+use mt_base::numbers::{Day, Label, RouteNo, StopNo, Time, TrainNo};
 use mt_base::options::Opts;
 use mt_base::plans::NewCall;
 use station_index::StationIndex;
@@ -149,8 +158,12 @@ impl Graph {
         ensures edges { IsPermutation result (edges_to self.now n) }
         ensures once { AllPairs DifferInEnds result }
     {
-        let _ = &self.trains;
-        self.edges_to(&self.live_event(&n))
+        let at = self.live_event(&n);
+        Edges {
+            along: edge_into(&self.trains, &self.opts, &at),
+            planned: planned_to(self, &self.index, &at),
+            kept: kept_edges(self, true, &at),
+        }
     }
 
     /// The edges that leave an event, each once, in no order that is promised.
@@ -159,8 +172,32 @@ impl Graph {
         ensures edges { IsPermutation result (edges_from self.now n) }
         ensures once { AllPairs DifferInEnds result }
     {
-        let _ = &self.trains;
-        self.edges_from(&self.live_event(&n))
+        let at = self.live_event(&n);
+        Edges {
+            along: edge_out(&self.trains, &self.opts, &at),
+            planned: planned_edges(self, &self.index, Wanted::From, &at),
+            kept: kept_edges(self, false, &at),
+        }
+    }
+
+    /// The edges that leave an event and may change the time of the event to which they lead, where
+    /// this one gets the time `is` in place of `was`; each once, in no order that is promised.
+    pub fn changing(&self, n: Node, was: Time, is: Time) -> Edges<'_>
+        requires { IsTrue (is_live self.now.state n) }
+        ensures edges { IsPermutation result (filter (may_change was is) (edges_from self.now n)) }
+        ensures once { AllPairs DifferInEnds result }
+    {
+        let at = self.live_event(&n);
+        let shift = Shift {
+            was,
+            is,
+            longest_wait: self.waits.longest_wait(),
+        };
+        Edges {
+            along: edge_out(&self.trains, &self.opts, &at),
+            planned: planned_edges(self, &self.index, Wanted::Changing(shift), &at),
+            kept: kept_edges(self, false, &at),
+        }
     }
 
     /// The time of an event by the rule, in seconds from the base of day 0, from the stored times
@@ -175,22 +212,17 @@ impl Graph {
         ensures rule { local_at self.now times.now n ≡ Some result }
         ensures cost { steps.new ≡ steps.old + length (edges_to self.now n) }
     {
-        let event = self.live_event(&n);
-        let mut time = floor(&event);
-        for edge in self.edges_to(&event) {
-            let asked = times.read(edge.from.node(), steps).seconds() + edge.weight;
-            time = later(&edge, time, asked);
-        }
-        by_reports(&self.trains, &event, time)
+        let trains = self.trains();
+        let at = self.live_event(&n);
+        let along = self.later_along(&at, floor(&at), times, steps);
+        let time = self.later_by_transfers(&at, along, times, steps);
+        by_reports(trains, &at, time)
     }
 
     /// Sets the forecast of an event, in seconds from the base of day 0.
     pub fn set_forecast(&mut self, n: Node, t: Time)
         requires { IsTrue (is_live self.old.state n) }
-        ensures { self.new ≡ record self.old {
-          state = with_event n
-              (forecasted t) self.old.state;
-        } }
+        ensures { self.new ≡ with_state (with_event n (forecasted t) self.old.state) self.old }
     {
         self.trains.set_forecast(n, t);
         self.trains.labels_are_distinct();
@@ -199,7 +231,7 @@ impl Graph {
     /// Sets the report of an event, in seconds from the base of day 0.
     pub fn set_report(&mut self, n: Node, t: Time)
         requires { IsTrue (is_live self.old.state n) }
-        ensures { self.new ≡ record self.old { state = with_event n (reported t) self.old.state } }
+        ensures { self.new ≡ with_state (with_event n (reported t) self.old.state) self.old }
     {
         self.trains.set_report(n, t);
         self.trains.labels_are_distinct();
@@ -209,20 +241,16 @@ impl Graph {
     pub fn set_override(&mut self, feeder: Node, train: Node, choice: Override)
         requires spare { has_override self.old.state (connection feeder train) ≡ false
             → 0 < self.old.state.spare_overrides }
-        ensures { self.new ≡ record self.old {
-          state = with_override
-              (connection feeder train) choice self.old.state;
-        } }
+        ensures { self.new ≡ with_state
+            (with_override (connection feeder train) choice self.old.state) self.old }
     {
         self.trains.set_override(feeder, train, choice);
     }
 
     /// Takes back what was chosen for a connection.
     pub fn clear_override(&mut self, feeder: Node, train: Node)
-        ensures { self.new ≡ record self.old {
-          state = without_override
-              (connection feeder train) self.old.state;
-        } }
+        ensures { self.new ≡ with_state
+            (without_override (connection feeder train) self.old.state) self.old }
     {
         self.trains.clear_override(feeder, train);
     }
@@ -231,10 +259,8 @@ impl Graph {
     /// was chosen for connections that name one of these events goes.
     pub fn cancel(&mut self, t: TrainNo, from: Label, to: Label)
         requires { stands_before from to (calls_of self.old.state t) ≡ true }
-        ensures { self.new ≡ record self.old {
-          state = effect self.old.state
-              (messages.Cancel t from to);
-        } }
+        ensures { self.new ≡ with_state
+            (effect self.old.state (messages.Cancel t from to)) self.old }
     {
         remove_stretch(&mut self.index, &self.trains, t, from, to);
         self.trains.cancel(t, from, to);
@@ -247,10 +273,8 @@ impl Graph {
         requires stand { stands_before from to (calls_of self.old.state t) ≡ true }
         requires spare { length via.now ≤ self.old.state.spare_calls }
         requires stops { are_at_stops self.old.network via.now ≡ true }
-        ensures { self.new ≡ record self.old {
-          state = effect self.old.state
-              (messages.Reroute t from to via.now);
-        } }
+        ensures { self.new ≡ with_state
+            (effect self.old.state (messages.Reroute t from to via.now)) self.old }
     {
         remove_between(&mut self.index, &self.trains, t, from, to);
         self.trains.reroute(t, from, to, via);
@@ -266,10 +290,8 @@ impl Graph {
         requires two_calls { 2 ≤ length calls.now }
         requires stops { are_at_stops self.old.network calls.now ≡ true }
         ensures number { result ≡ length self.old.state.trains }
-        ensures train { self.new ≡ record self.old {
-          state = effect self.old.state
-              (messages.Extra (length self.old.state.trains) day route calls.now);
-        } }
+        ensures train { self.new ≡ with_state (effect self.old.state
+            (messages.Extra (length self.old.state.trains) day route calls.now)) self.old }
     {
         let number = self.trains.add_train(day, route, calls);
         self.trains.labels_are_distinct();
@@ -285,6 +307,7 @@ impl Graph {
     }
 
     /// A live event by its name.
+    #[inline(always)]
     fn live_event(&self, n: &Node) -> Event
         requires { IsTrue (is_live self.now.state n.now) }
         ensures named { node_of result.key ≡ n.now }
@@ -293,28 +316,59 @@ impl Graph {
         self.trains.event(*n)
     }
 
-    /// The edges that lead to an event.
-    fn edges_to(&self, at: &Event) -> Edges<'_>
+    /// The later of a time and of what the edge along its train asks for that leads to an event.
+    #[inline(always)]
+    fn later_along<L: Ledger>(
+        &self,
+        at: &Event,
+        so_far: u32,
+        times: &NodeTimes,
+        steps: &mut Steps<L>,
+    ) -> u32
         requires there { event_named self.now.state (node_of at.now.key) ≡ Some at.now }
-        ensures { IsPermutation result (edges_to self.now (node_of at.now.key)) }
+        requires ready { All (IsReady times.now)
+            (along_to self.now.network.opts self.now.state (node_of at.now.key)) }
+        requires small { so_far < 2 ^ 25 }
+        ensures { IsLater times.now so_far steps.old
+            (along_to self.now.network.opts self.now.state (node_of at.now.key)) result steps.new }
     {
-        Edges {
-            along: edge_into(&self.trains, &self.opts, at),
-            planned: planned_to(self, &self.index, at),
-            kept: kept_edges(self, true, at),
+        match edge_into(&self.trains, &self.opts, at) {
+            None => so_far,
+            Some(edge) => later_by(&edge, so_far, times, steps),
         }
     }
 
-    /// The edges that leave an event.
-    fn edges_from(&self, at: &Event) -> Edges<'_>
+    /// The latest of a time and of what the edges from other trains ask for that lead to an event.
+    #[inline(always)]
+    fn later_by_transfers<L: Ledger>(
+        &self,
+        at: &Event,
+        so_far: u32,
+        times: &NodeTimes,
+        steps: &mut Steps<L>,
+    ) -> u32
         requires there { event_named self.now.state (node_of at.now.key) ≡ Some at.now }
-        ensures { IsPermutation result (edges_from self.now (node_of at.now.key)) }
+        requires ready { All (IsReady times.now) (transfers_to self.now at.now) }
+        requires small { so_far < 2 ^ 25 }
+        ensures { IsLater times.now so_far steps.old (transfers_to self.now at.now) result
+            steps.new }
     {
-        Edges {
-            along: edge_out(&self.trains, &self.opts, at),
-            planned: planned_from(self, &self.index, at),
-            kept: kept_edges(self, false, at),
+        let along = None;
+        let planned = planned_to(self, &self.index, at);
+        let kept = kept_edges(self, true, at);
+        if planned.is_none() && kept.is_none() {
+            return so_far;
         }
+        later_by_each(
+            Edges {
+                along,
+                planned,
+                kept,
+            },
+            so_far,
+            times,
+            steps,
+        )
     }
 
     /// Whether there is no waiting rule.
@@ -322,6 +376,14 @@ impl Graph {
         ensures { result ≡ nat_eq (length self.now.network.rules) 0 }
     {
         self.waits.is_empty()
+    }
+
+    /// Whether trains may wait at a stop: false only where none does.
+    pub(crate) fn may_wait_at(&self, stop: StopNo) -> bool
+        ensures { result ≡ false → (feeder connecting : ℕ) → wait self.now.network.stops
+            self.now.network.rules feeder connecting stop ≡ 0 }
+    {
+        self.waits.may_wait_at(stop)
     }
 
     /// How long after a change a departure may lie that is planned to be reached, in seconds.
@@ -344,41 +406,41 @@ impl Graph {
     /// How long the train of a departure waits, by the routes of late feeders. None only if it
     /// waits for none.
     pub(crate) fn class(&self, at: &Event) -> Option<WaitClass<'_>>
-        ensures class { AreWaitsAt self.now at.now result }
+        ensures class { IfSome result (λ waits. waits ≡ waits_at self.now at.now) }
         ensures none { result ≡ None → (u : AnEvent) → wait_between self.now.network u at.now ≡ 0 }
     {
         self.waits.class(at.route, at.stop)
     }
 
-    /// How many seconds the train of `to` waits for that of `from`: by these waits of it, if they
-    /// were looked up.
-    pub(crate) fn wait_by(&self, class: &Option<WaitClass<'_>>, from: &Event, to: &Event) -> u32
-        requires { AreWaitsAt self.now to.now class.now }
+    /// How many seconds the train of `to` waits for that of `from`: by the waits of the one train
+    /// where edges to an event are looked for, and else by a look at all rules.
+    fn wait_by(&self, wanted: &Wanted<'_>, from: &Event, to: &Event) -> u32
+        requires { AreWaitsAt self.now to.now wanted.now }
         ensures { result ≡ wait_between self.now.network from.now to.now }
     {
-        match class {
-            Some(class) => class.wait(from.route),
-            None => self.wait(from, to),
+        match wanted {
+            Wanted::Into(class) => class.wait(from.route),
+            Wanted::From | Wanted::Changing(_) => self.waits.wait(from.route, to.route, to.stop),
         }
     }
 
-    /// How many seconds the train of `to` waits for that of `from`.
-    pub(crate) fn wait(&self, from: &Event, to: &Event) -> u32
-        ensures { result ≡ wait_between self.now.network from.now to.now }
-    {
-        self.waits.wait(from.route, to.route, to.stop)
-    }
-
-    /// The edge that is planned from one event to another by a change of so many seconds and a wait
-    /// of so many, if nothing was chosen for the connection.
-    pub(crate) fn planned(&self, seconds: u32, wait: u32, from: &Event, to: &Event) -> Option<Edge>
-        requires { wait ≡ wait_between self.now.network from.now to.now }
+    /// The edge that is planned from one event to another by a change of so many seconds, if
+    /// nothing was chosen for the connection.
+    pub(crate) fn planned(
+        &self,
+        wanted: &Wanted<'_>,
+        seconds: u32,
+        from: &Event,
+        to: &Event,
+    ) -> Option<Edge>
+        requires { AreWaitsAt self.now to.now wanted.now }
         ensures { option_to_list result ≡ planned_between self.now seconds from.now to.now }
     {
-        if !may_connect(from, to) || !is_planned(&self.opts, seconds, wait, from, to) {
+        if !may_connect(from, to) {
             return None;
         }
-        if self.is_chosen(from, to) {
+        let wait = self.wait_by(wanted, from, to);
+        if !is_planned(&self.opts, seconds, wait, from, to) || self.is_chosen(from, to) {
             return None;
         }
         Some(Edge {

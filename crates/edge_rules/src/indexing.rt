@@ -4,7 +4,8 @@ ghost use Rattle.std.specs.Prelude.{◌≡◌, ◌+◌, ◌++◌, ◌<◌, ◌^�
 ghost use Rattle.delay_model.specs.Effect.{events_between, stretch};
 ghost use Rattle.delay_model.specs.Events.{events, train_events};
 ghost use Rattle.edge_rules.specs.Held.{HasOwnLabels};
-ghost use Rattle.edge_rules.specs.Indexing.{AreNew, AreThere, IsIndexOf, entries_of, entry_of, new_entries, with_entries, without_entries};
+ghost use Rattle.edge_rules.specs.Indexing.{AreNew, AreThere, IsIndexOf, entries_of, entry_of};
+ghost use Rattle.edge_rules.specs.Indexing.{new_entries, with_entries, without_entries};
 
 use delay_model::state::Event;
 use mt_base::keys::Node;

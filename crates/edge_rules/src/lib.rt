@@ -11,6 +11,7 @@ pub mod graph;
 mod indexing;
 mod rule;
 mod transfers;
+mod wanted;
 
 pub use edges::Edges;
 pub use graph::Graph;

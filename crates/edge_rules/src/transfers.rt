@@ -1,15 +1,17 @@
 //! The edges between trains at an event, found one after another: the planned ones in the index of
 //! events, and the kept ones by what was chosen.
 
-ghost use Rattle.std.specs.Prelude.{◌≡◌, [], true, false, IsTrue, flat_map, unwrap_or};
+ghost use Rattle.std.specs.Prelude.{◌≡◌, [], IsTrue, flat_map, unwrap_or};
 ghost use Rattle.std.specs.Option.{option_to_list};
 ghost use Rattle.std.specs.Iterator.{YieldsFirst, item_count};
-ghost use Rattle.mt_base.specs.Order.{node_of};
-ghost use Rattle.delay_model.specs.declared.state.State.{State as AState};
 ghost use Rattle.train_nodes.specs.Calls.{has_event};
-ghost use Rattle.edge_rules.specs.Found.{AreNames, AreWaitsAt, HaveEvents, joined_stops, kept_at, kept_with, names_near, of_name, planned_at, planned_with};
+ghost use Rattle.edge_rules.specs.Found.{AreNames, AreWaitsAt, HaveEvents, first_near};
+ghost use Rattle.edge_rules.specs.Found.{joined_stops, kept_at, kept_with, last_near, of_name};
+ghost use Rattle.edge_rules.specs.Found.{planned_at, planned_by, planned_with, waits_at};
+ghost use Rattle.edge_rules.specs.declared.wanted.Wanted.TheVariants as Wants;
 
 use crate::graph::Graph;
+use crate::wanted::Wanted;
 use change_times::{Change, Changes};
 use delay_model::state::{Edge, Event};
 use mt_base::keys::Node;
@@ -17,7 +19,6 @@ use mt_base::numbers::{StopNo, Time};
 use station_index::{Range, StationIndex};
 use std::marker::Model;
 use train_nodes::Keeps;
-use waiting_rules::WaitClass;
 
 /// The planned edges that lead to an event or leave it, stop by stop. It is seen as the list of
 /// those that are still to come.
@@ -25,29 +26,26 @@ use waiting_rules::WaitClass;
 pub(crate) struct PlannedEdges<'a> {
     graph: &'a Graph,
     index: &'a StationIndex,
-    /// Whether the edges lead to the event.
-    into: bool,
+    wanted: Wanted<'a>,
     at: Event,
-    /// How long the event's train waits, if it is a departure.
-    class: Option<WaitClass<'a>>,
     /// The stops at the other end that are still to come.
     changes: &'a [Change],
     /// How long the change takes that joins the stop that is looked at, in seconds.
     seconds: u32,
-    /// The events at that stop that are still to come.
-    near: Range<'a>,
+    /// The events at that stop that are still to come, if a stop is looked at.
+    near: Option<Range<'a>>,
 }
 
 impl<'a> Model for PlannedEdges<'a> {
-    ghost use Rattle.std.specs.Prelude.{List, ◌++◌, flat_map};
+    ghost use Rattle.std.specs.Prelude.{List, [], ◌++◌, flat_map, unwrap_or};
     ghost use Rattle.delay_model.specs.declared.state.Edge.{Edge};
     ghost use Rattle.edge_rules.specs.Found.{of_name, planned_by, planned_with};
 
     ghost Value = { List Edge };
 
-    ghost view = { λ a. flat_map (of_name a.graph.now.state (planned_with a.graph.now a.into a.at
-        a.seconds)) a.near
-        ++ flat_map (planned_by a.graph.now a.index.now.entries a.into a.at) a.changes.now };
+    ghost view = { λ a. flat_map (of_name a.graph.now.state (planned_with a.graph.now a.wanted a.at
+        a.seconds)) (unwrap_or a.near [])
+        ++ flat_map (planned_by a.graph.now a.index.now.entries a.wanted a.at) a.changes.now };
 
     ghost use Rattle.edge_rules.specs.HeldPlanned.{IsHeldPlanned};
 
@@ -64,9 +62,8 @@ impl<'a> Iterator for PlannedEdges<'a> {
     fn next(&mut self) -> Option<Edge> {
         let mut edge = next_planned(
             self.graph,
-            self.into,
+            &self.wanted,
             &self.at,
-            &self.class,
             self.seconds,
             &mut self.near,
         );
@@ -74,13 +71,11 @@ impl<'a> Iterator for PlannedEdges<'a> {
             let change = self.changes[0];
             self.changes = &self.changes[1..];
             self.seconds = change.seconds;
-            let window = self.graph.window();
-            self.near = names_near(self.index, window, self.into, self.at.key.time, &change);
+            self.near = names_near(self.graph, self.index, &self.wanted, &self.at, &change);
             edge = next_planned(
                 self.graph,
-                self.into,
+                &self.wanted,
                 &self.at,
-                &self.class,
                 self.seconds,
                 &mut self.near,
             );
@@ -125,69 +120,53 @@ impl<'a> Iterator for KeptEdges<'a> {
 }
 
 /// The planned edges that lead to an event, if there can be any: only if its train waits there.
+#[inline(always)]
 pub(crate) fn planned_to<'a>(
     graph: &'a Graph,
     index: &'a StationIndex,
     at: &Event,
 ) -> Option<PlannedEdges<'a>>
     requires { HaveEvents graph.now.state index.now.entries }
-    ensures { unwrap_or result [] ≡ planned_at graph.now index.now.entries true at.now }
+    ensures { unwrap_or result []
+        ≡ planned_at graph.now index.now.entries (Wants.Into (waits_at graph.now at.now)) at.now }
 {
     if !at.key.dep {
         return None;
     }
     match graph.class(at) {
         None => None,
-        Some(class) => planned_edges(graph, index, true, at, Some(class)),
+        Some(class) => planned_edges(graph, index, Wanted::Into(class), at),
     }
 }
 
-/// The planned edges that leave an event, if there can be any.
-pub(crate) fn planned_from<'a>(
+/// The planned edges that are wanted at an event, if there can be any.
+pub(crate) fn planned_edges<'a>(
     graph: &'a Graph,
     index: &'a StationIndex,
+    wanted: Wanted<'a>,
     at: &Event,
 ) -> Option<PlannedEdges<'a>>
-    requires { HaveEvents graph.now.state index.now.entries }
-    ensures { unwrap_or result [] ≡ planned_at graph.now index.now.entries false at.now }
-{
-    if at.key.dep {
-        return None;
-    }
-    if graph.has_no_rules() {
-        return None;
-    }
-    planned_edges(graph, index, false, at, None)
-}
-
-/// The planned edges that lead to an event (`into`) or leave it, if there is a stop to which or
-/// from which one can change.
-fn planned_edges<'a>(
-    graph: &'a Graph,
-    index: &'a StationIndex,
-    into: bool,
-    at: &Event,
-    class: Option<WaitClass<'a>>,
-) -> Option<PlannedEdges<'a>>
-    requires waits { AreWaitsAt graph.now at.now class }
+    requires waits { AreWaitsAt graph.now at.now wanted }
     requires entries { HaveEvents graph.now.state index.now.entries }
-    ensures { unwrap_or result [] ≡ planned_at graph.now index.now.entries into at.now }
+    ensures { unwrap_or result [] ≡ planned_at graph.now index.now.entries wanted.entry at.now }
 {
-    let (change, changes) = joined_stops(graph.changes(), into, at.stop).split_first()?;
-    let window = graph.window();
+    if !wanted.can_be_at(at) || graph.has_no_rules() {
+        return None;
+    }
+    let changes = joined_stops(graph.changes(), wanted.are_into(), at.stop);
     Some(PlannedEdges {
         graph,
         index,
-        into,
+        wanted,
         at: *at,
-        class,
         changes,
-        seconds: change.seconds,
-        near: names_near(index, window, into, at.key.time, change),
+        seconds: 0,
+        near: None,
     })
 }
 
 /// The kept edges that lead to an event (`into`) or leave it, if there can be any.
+#[inline(always)]
 pub(crate) fn kept_edges<'a>(graph: &'a Graph, into: bool, at: &Event) -> Option<KeptEdges<'a>>
     ensures { unwrap_or result [] ≡ kept_at graph.now into at.now }
 {
@@ -215,47 +194,47 @@ pub(crate) fn kept_edges<'a>(graph: &'a Graph, into: bool, at: &Event) -> Option
 /// that one.
 fn next_planned(
     graph: &Graph,
-    into: bool,
+    wanted: &Wanted<'_>,
     at: &Event,
-    class: &Option<WaitClass<'_>>,
     seconds: u32,
-    names: &mut Range<'_>,
+    names: &mut Option<Range<'_>>,
 ) -> Option<Edge>
-    requires waits { AreWaitsAt graph.now at.now class.now }
-    requires there { AreNames graph.now.state names.old }
+    requires waits { AreWaitsAt graph.now at.now wanted.now }
+    requires there { AreNames graph.now.state (unwrap_or names.old []) }
     ensures first { YieldsFirst (flat_map (of_name graph.now.state
-        (planned_with graph.now into at.now seconds))) names.old result names.new }
-    ensures left { AreNames graph.now.state names.new }
+        (planned_with graph.now wanted.now at.now seconds)))
+        (unwrap_or names.old []) result (unwrap_or names.new []) }
+    ensures left { AreNames graph.now.state (unwrap_or names.new []) }
 {
+    let Some(names) = names else {
+        return None;
+    };
     while let Some(name) = names.next() {
-        if let Some(edge) = planned_edge(graph, into, at, class, seconds, name) {
+        if let Some(edge) = planned_edge(graph, wanted, at, seconds, name) {
             return Some(edge);
         }
     }
     None
 }
 
-/// The planned edge between an event and that of a name, if there is one.
+/// The planned edge between an event and that of a name, if there is one and it is wanted.
 fn planned_edge(
     graph: &Graph,
-    into: bool,
+    wanted: &Wanted<'_>,
     at: &Event,
-    class: &Option<WaitClass<'_>>,
     seconds: u32,
     name: Node,
 ) -> Option<Edge>
-    requires waits { AreWaitsAt graph.now at.now class.now }
+    requires waits { AreWaitsAt graph.now at.now wanted.now }
     requires there { IsTrue (has_event graph.now.state name) }
     ensures { option_to_list result
-        ≡ of_name graph.now.state (planned_with graph.now into at.now seconds) name }
+        ≡ of_name graph.now.state (planned_with graph.now wanted.now at.now seconds) name }
 {
     let other = graph.trains().event(name);
-    if into {
-        let wait = graph.wait_by(class, &other, at);
-        graph.planned(seconds, wait, &other, at)
-    } else {
-        let wait = graph.wait(at, &other);
-        graph.planned(seconds, wait, at, &other)
+    match wanted {
+        Wanted::Into(_) => graph.planned(wanted, seconds, &other, at),
+        Wanted::From => graph.planned(wanted, seconds, at, &other),
+        Wanted::Changing(shift) => shift.changing(graph.planned(wanted, seconds, at, &other)),
     }
 }
 
@@ -296,26 +275,55 @@ fn joined_stops<'a>(changes: &'a Changes, into: bool, stop: StopNo) -> &'a [Chan
     }
 }
 
-/// The arrivals at a stop that are in time for a change to a departure (`into`), or the departures
-/// that are in time for a change from an arrival, by at most the window.
+/// The events at the other end of a change by which those edges lead that are wanted at an event:
+/// arrivals for edges to it, departures for edges from it. None only if there are no such edges.
 fn names_near<'a>(
+    graph: &Graph,
     index: &'a StationIndex,
-    window: u32,
-    into: bool,
-    time: Time,
+    wanted: &Wanted<'_>,
+    at: &Event,
     change: &Change,
-) -> Range<'a>
-    ensures names { result ≡ names_near window index.now.entries into time change.now }
-    ensures there { (st : AState) → HaveEvents st index.now.entries → AreNames st result }
+) -> Option<Range<'a>>
+    requires { HaveEvents graph.now.state index.now.entries }
+    ensures edges { flat_map (of_name graph.now.state (planned_with graph.now wanted.now at.now
+        change.now.seconds)) (unwrap_or result [])
+        ≡ planned_by graph.now index.now.entries wanted.now at.now change.now }
+    ensures there { AreNames graph.now.state (unwrap_or result []) }
 {
+    let (first, last) = times_near(graph.window(), wanted, at.key.time, change.seconds);
+    if first > last {
+        return None;
+    }
+    let into = wanted.are_into();
+    if !into && !graph.may_wait_at(change.stop) {
+        return None;
+    }
+    Some(index.range(change.stop, !into, first, last))
+}
+
+/// From when to when the events are scheduled, both times included, that are looked for from an
+/// event at a time by a change of so many seconds.
+fn times_near(window: u32, wanted: &Wanted<'_>, time: Time, seconds: u32) -> (u64, u64)
+    ensures first { result.0 ≡ first_near window wanted.now time seconds }
+    ensures last { result.1 ≡ last_near window wanted.now time seconds }
+{
+    let window = u64::from(window);
+    let seconds = u64::from(seconds);
     let time = u64::from(time.seconds());
-    let seconds = u64::from(change.seconds);
-    if into {
-        let latest = time.saturating_sub(seconds);
-        let earliest = latest.saturating_sub(u64::from(window));
-        index.range(change.stop, false, earliest, latest)
-    } else {
-        let earliest = time + seconds;
-        index.range(change.stop, true, earliest, earliest + u64::from(window))
+    match wanted {
+        Wanted::Into(_) => {
+            let last = time.saturating_sub(seconds);
+            (last.saturating_sub(window), last)
+        }
+        Wanted::From => (time + seconds, time + seconds + window),
+        Wanted::Changing(shift) => {
+            let earlier = u64::from(shift.earlier()) + seconds;
+            let later = u64::from(shift.later()) + seconds;
+            let least = earlier.saturating_sub(u64::from(shift.longest_wait));
+            (
+                least.max(time + seconds),
+                later.saturating_sub(1).min(time + seconds + window),
+            )
+        }
     }
 }

@@ -1,6 +1,6 @@
 -- The calls of a trip by the first and the last of them.
 use Rattle.std.proofs.Common.{◌≡◌, ◌≤◌, ◌+◌, ◌∷◌, [], ℕ, suc, arith, List, length, get_or, refl}
-use Rattle.gtfs_tables.specs.declared.calls.CallTimes.{CallTimes}
+use Rattle.gtfs_tables.specs.declared.keyed_calls.CallTimes.{CallTimes}
 use Rattle.gtfs_tables.specs.declared.faults.Cause.TheVariants.{UntimedEnd}
 use Rattle.gtfs_tables.specs.Checks.{check, fault, ◌>>=◌}
 use Rattle.gtfs_tables.specs.StopTimes.{last_call, is_timed, check_order, check_trip}

@@ -6,7 +6,7 @@ use Rattle.std.proofs.lemmas.List.Elements.{All-nil, All-cons, All-head, All-tai
 use Rattle.std.specs.List.{filter}
 use Rattle.std.specs.BTreeMap.{insert_entry, is_at}
 use Rattle.std.specs.Map.{lookup}
-use Rattle.gtfs_tables.specs.declared.calls.CallTimes.{CallTimes}
+use Rattle.gtfs_tables.specs.declared.keyed_calls.CallTimes.{CallTimes}
 use Rattle.gtfs_tables.specs.StopTimes.{Key, key_cmp}
 use Rattle.feed_tables.specs.Calls.{put, in_order}
 use Rattle.feed_tables.specs.Lawful.{AreDistinct}

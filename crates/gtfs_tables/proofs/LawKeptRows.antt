@@ -7,7 +7,7 @@ use Rattle.std.proofs.lemmas.List.Elements.{filter-append}
 use Rattle.std.specs.BTreeMap.{insert_entry, is_at}
 use Rattle.std.specs.Map.{lookup}
 use Rattle.mt_base.specs.declared.tables.CallRow.{CallRow}
-use Rattle.gtfs_tables.specs.declared.calls.CallTimes.{CallTimes}
+use Rattle.gtfs_tables.specs.declared.keyed_calls.CallTimes.{CallTimes}
 use Rattle.gtfs_tables.specs.StopTimes.{Key, key_cmp}
 use Rattle.feed_tables.specs.Calls.{rows_of, in_order, sequence}
 use Rattle.feed_tables.specs.Lawful.{AreDistinct}

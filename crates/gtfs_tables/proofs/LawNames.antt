@@ -1,5 +1,5 @@
 -- Names by number: each number is below the number of names, and no name stands there twice.
-use Rattle.std.proofs.Common.{◌≡◌, ◌≢◌, ℕ, ◌+◌, ◌<◌, ◌≤◌, List, [], ◌∷◌, ◌++◌, true, Some, All, is_none, length, map, arith}
+use Rattle.std.proofs.Common.{◌≡◌, ◌≢◌, ℕ, ◌+◌, ◌<◌, ◌≤◌, List, [], ◌∷◌, ◌++◌, true, Some, None, All, is_none, length, map, arith}
 use Rattle.std.proofs.lemmas.Grind.{common_steps}
 use Rattle.std.proofs.lemmas.List.{map_push}
 use Rattle.std.proofs.lemmas.List.Elements.{All-nil, All-cons, All-head, All-tail, All-push}
@@ -18,6 +18,10 @@ distinct-push (y ∷ ys) x h none =
 not-there : (at : ℕ) (name : List ℕ) (names : List (List ℕ)) → is_none (number_from at name names) ≡ true → All (λ other. other ≢ name) names
 not-there at name [] h = All-nil (λ other. other ≢ name)
 not-there at name (first ∷ names) h = grind (arith, bytes_eq-Decides name first, not-there (at + 1) name names, All-cons (λ other. other ≢ name) first names)
+
+-- a name more that has no number yet
+pub distinct-more : (name : List ℕ) (names : List (List ℕ)) → AreDistinct names → number_from 0 name names ≡ None → AreDistinct (names ++ name ∷ [])
+distinct-more name names h none = distinct-push names name h (not-there 0 name names (grind arith))
 
 -- a row more whose id no earlier row has
 pub ids-push : {X : Type 0} (id : X → List ℕ) (rows : List X) (row : X) → AreDistinct (map id rows) → is_none (number_from 0 (id row) (map id rows)) ≡ true → AreDistinct (map id (rows ++ row ∷ []))

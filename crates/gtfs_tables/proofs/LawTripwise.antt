@@ -6,7 +6,7 @@ use Rattle.mt_base.specs.declared.tables.CallRow.{CallRow}
 use Rattle.feed_tables.specs.Calls.{calls_of, sequence, times_of, DoNotFall}
 use Rattle.feed_tables.specs.Lawful.{AreDistinct, HasTimedEnds, IsTimed, IsTripwise, last_row}
 use Rattle.feed_tables.proofs.OrderLemmas.{Rises}
-use Rattle.gtfs_tables.specs.declared.calls.CallTimes.{CallTimes}
+use Rattle.gtfs_tables.specs.declared.keyed_calls.CallTimes.{CallTimes}
 use Rattle.gtfs_tables.specs.StopTimes.{is_timed, last_call, check_order, check_trip, check_trips}
 use Rattle.gtfs_tables.proofs.LawByTrip.{Entry, entry_trip, entry_sequence, entries_of, entries-none}
 use Rattle.gtfs_tables.proofs.LawKeptRows.{Facts, row_facts, entry_facts, IsAlike}

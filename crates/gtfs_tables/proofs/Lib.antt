@@ -5,6 +5,7 @@ pub mod NumberLemmas
 pub mod RowLemmas
 pub mod CallLemmas
 pub mod KeyLemmas
+pub mod KeyedLemmas
 pub mod FrequencyLemmas
 pub mod IdLemmas
 pub mod TextRecords

@@ -1,10 +1,12 @@
 -- Fields without blanks round them are text where the fields are.
-use Rattle.std.proofs.Common.{◌≡◌, ◌<◌, ◌++◌, ◌∷◌, [], ℕ, zero, suc, List, Option, Some, None, true, length, reverse, get_or, inl, inr, arith}
+use Rattle.std.proofs.Common.{◌≡◌, ◌<◌, ◌++◌, ◌∷◌, [], ℕ, zero, suc, List, Option, Some, None, true, length, reverse, get_or, inl, inr, ◌-◌, drop, refl, arith}
 use Rattle.std.proofs.Math.Seq.{take-append_seam, get_or-append_seam}
 use Rattle.std.proofs.lemmas.Bool.{cases_Bool}
 use Rattle.std.proofs.lemmas.List.{reverse-append, reverse-reverse, length-append}
-use Rattle.std.proofs.lemmas.Str.{IsUtf8-nil, IsUtf8-drop, IsUtf8-take, IsUtf8-from_is_utf8, IsCharBoundary-after_ascii, IsCharBoundary-before_ascii}
+use Rattle.std.proofs.lemmas.Str.{IsUtf8-nil, IsUtf8-drop, IsUtf8-take, IsUtf8-from_is_utf8, IsUtf8-from_ascii, IsAscii-drop, IsAscii-take, is_utf8-from_IsUtf8, IsCharBoundary-after_ascii, IsCharBoundary-before_ascii}
 use Rattle.std.specs.Prelude.{IsUtf8}
+use Rattle.std.specs.Str.{IsAscii}
+use Rattle.csv.specs.Records.{cut_from}
 use Rattle.gtfs_tables.specs.Checks.{all_utf8}
 use Rattle.gtfs_tables.specs.Columns.{field_at_place}
 use Rattle.gtfs_tables.specs.Fields.{is_blank, trim_start, trimmed}
@@ -46,3 +48,11 @@ field_text (field ∷ fields) (suc i) good = grind (arith, field_text fields i)
 pub cell_text : (fields : List (List ℕ)) (place : Option ℕ) → all_utf8 fields ≡ true → IsUtf8 (field_at_place fields place)
 cell_text fields None good = IsUtf8-nil
 cell_text fields (Some at) good = trimmed_text (get_or fields at []) (field_text fields at good)
+
+-- fields of ASCII bytes are text
+pub ascii-cut : (start : ℕ) (ends bytes : List ℕ) → IsAscii bytes → all_utf8 (cut_from start ends bytes) ≡ true
+unfolding cut_from
+ascii-cut start [] bytes ascii = refl
+ascii-cut start (end ∷ ends) bytes ascii =
+    let field = is_utf8-from_IsUtf8 _ (IsUtf8-from_ascii _ (IsAscii-take (drop start bytes) (end - start) (IsAscii-drop bytes start ascii))) in
+    rw (field, ascii-cut end ends bytes ascii) refl

@@ -29,7 +29,7 @@ IsStopTable t = AreIds t.ids (line_ids t.lines.items)
 
 -- what the rows of stop_times.txt made
 abbrev pub calls_view : CallTable → Calls
-calls_view t = record { rows = t.rows.items; by_key = t.by_key.entries }
+calls_view t = record { rows = t.rows.items; by_key = t.by_key }
 
 -- what the rows of stop_times.txt may name
 abbrev pub named_of : CallTable → Named

@@ -1,11 +1,13 @@
 -- What the rows of `stop_times.txt` mean, or the first fault in them (GTFS Schedule,
 -- stop_times.txt).
-use Rattle.std.specs.Prelude.{ℕ, ◌==◌, ◌&&◌, ◌||◌, not, List, [], ◌∷◌, ◌++◌, Bool, false, nat_le, if◌then◌else◌, Some, None, Result, Ok, Err, is_none, is_some, unwrap_or, slice_get, option_and_then}
+use Rattle.std.specs.Prelude.{ℕ, ◌≡◌, ◌==◌, ◌&&◌, ◌||◌, not, List, [], ◌∷◌, ◌++◌, Bool, false, nat_le, if◌then◌else◌, Some, None, Result, Ok, Err, is_none, is_some, unwrap_or, slice_get, option_and_then}
 use Rattle.std.specs.declared.option.Option.{Option}
 use Rattle.std.specs.Option.{option_map_or}
 use Rattle.std.specs.declared.cmp.Ordering.{Ordering}
+use Rattle.std.specs.declared.cmp.Ordering.TheVariants.{Greater}
 use Rattle.std.specs.Ordering.{nat_cmp, ordering_then}
 use Rattle.std.specs.BTreeMap.{insert_entry, is_at}
+use Rattle.std.specs.List.{AllByRecursion}
 use Rattle.std.specs.Map.{lookup}
 use Rattle.mt_base.specs.declared.tables.CallRow.{CallRow}
 use Rattle.mt_base.specs.declared.tables.StopRow.{StopRow}
@@ -14,7 +16,7 @@ use Rattle.gtfs_tables.specs.declared.columns.Column.{Column}
 use Rattle.gtfs_tables.specs.declared.columns.Column.TheVariants.{TripId, ArrivalTime, DepartureTime, StopId, StopSequence, PickupType, DropOffType}
 use Rattle.gtfs_tables.specs.declared.faults.Cause.TheVariants.{BadTime, BadNumber, UnknownReference, DuplicateKey, TooFewCalls, UntimedEnd, BackwardsTimes}
 use Rattle.gtfs_tables.specs.declared.faults.Fault.{Fault}
-use Rattle.gtfs_tables.specs.declared.calls.CallTimes.{CallTimes}
+use Rattle.gtfs_tables.specs.declared.keyed_calls.CallTimes.{CallTimes}
 use Rattle.gtfs_tables.specs.Checks.{Step, fault, need, check, table_from, ◌>>=◌}
 use Rattle.gtfs_tables.specs.Fields.{time_of, number_of, number_or_zero}
 use Rattle.gtfs_tables.specs.Numbers.{number_from}
@@ -74,6 +76,10 @@ Key = ℕ × ℕ
 -- calls by trip, and the calls of a trip by stop_sequence
 abbrev pub key_cmp : Key → Key → Ordering
 key_cmp a b = ordering_then (nat_cmp a.0 b.0) (nat_cmp a.1 b.1)
+
+-- the keys of entries are below a key
+abbrev pub AreBelow : Key → List (Key × CallTimes) → Type 0
+AreBelow key es = AllByRecursion (λ e. key_cmp key e.0 ≡ Greater) es
 
 -- what the rows so far made: the rows, and the times of the calls in the order of their keys
 pub record Calls : Type 0 where

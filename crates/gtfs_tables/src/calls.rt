@@ -4,7 +4,9 @@ ghost use Rattle.std.specs.Prelude.{⊤, ◌≡◌, ◌++◌, length, true};
 ghost use Rattle.csv.specs.Records.{fields_of};
 ghost use Rattle.gtfs_tables.specs.Builders.{calls_view, named_of};
 ghost use Rattle.gtfs_tables.specs.Checks.{Gives, all_utf8};
+ghost use Rattle.gtfs_tables.specs.Numbers.{number_from};
 ghost use Rattle.gtfs_tables.specs.Sheets.{cell};
+ghost use Rattle.gtfs_tables.specs.Stops.{stop_ids};
 ghost use Rattle.gtfs_tables.specs.StopTimes.{Calls, Named, needed_columns, other_columns, call_of, call_step, is_stop, stop_named, with_call};
 ghost use Rattle.gtfs_tables.specs.Trips.{trip_ids};
 
@@ -12,28 +14,20 @@ use crate::builders::TableBuilder;
 use crate::cells::need;
 use crate::faults::{Cause, Fault, TableError};
 use crate::fields::{number, number_or_zero, time};
+use crate::guesses::Guess;
+use crate::keyed_calls::{CallTimes, KeyedCalls};
 use crate::sheets::Sheet;
 use crate::stops::Stops;
 use crate::trips::Trips;
 use mt_base::numbers::StopNo;
 use mt_base::tables::CallRow;
 use std::alloc::Global;
-use std::collections::BTreeMap;
-
-/// The times of a call, and the row that it stands in.
-#[derive(Clone, Copy, Debug, PartialEq, Eq)]
-pub(crate) struct CallTimes {
-    /// The number of the row.
-    pub row: u64,
-    /// The arrival, in seconds from the base of the service day.
-    pub arr: Option<u32>,
-    /// The departure, in seconds from the base of the service day.
-    pub dep: Option<u32>,
-}
 
 /// What the rows so far made. After an error it is of no more use.
 #[derive(Drop)]
 pub(crate) struct CallTable<'a> {
+    /// Where the trip and the stop of the next row are looked for first.
+    pub guess: Guess,
     /// The trips that a row may name.
     pub trips: &'a Trips,
     /// The locations, of which a row may name a stop or platform.
@@ -41,7 +35,7 @@ pub(crate) struct CallTable<'a> {
     /// The rows in order.
     pub rows: Vec<CallRow>,
     /// The times of the calls, by the number of the trip and the stop_sequence.
-    pub by_key: BTreeMap<(u32, u32), CallTimes>,
+    pub by_key: KeyedCalls,
 }
 
 fn is_stop(stops: &Stops, number: StopNo) -> bool
@@ -53,10 +47,44 @@ fn is_stop(stops: &Stops, number: StopNo) -> bool
     }
 }
 
-fn find_stop(stops: &Stops, id: &str) -> Option<StopNo>
-    ensures { result ≡ stop_named stops.now id.now }
+fn find_trip(trips: &Trips, guess: &Guess, sheet: &Sheet<'_>) -> Option<u32>
+    requires columns { length sheet.now.places.items ≡ 7 }
+    requires text { all_utf8 (fields_of sheet.now.current) ≡ true }
+    ensures { result ≡ number_from 0 (cell sheet.now 0) (trip_ids trips.now.rows) }
 {
-    let number = stops.find(id)?;
+    let id = sheet.field(0);
+    let (last, next) = guess.trips();
+    if trips.has_id(last, id) {
+        return Some(last);
+    }
+    if trips.has_id(next, id) {
+        return Some(next);
+    }
+    trips.find(sheet.text(0))
+}
+
+fn find_location(stops: &Stops, guess: &Guess, sheet: &Sheet<'_>) -> Option<StopNo>
+    requires columns { length sheet.now.places.items ≡ 7 }
+    requires text { all_utf8 (fields_of sheet.now.current) ≡ true }
+    ensures { result ≡ number_from 0 (cell sheet.now 3) (stop_ids stops.now) }
+{
+    let id = sheet.field(3);
+    let (first, second) = guess.stops();
+    if stops.has_id(first, id) {
+        return Some(first);
+    }
+    if stops.has_id(second, id) {
+        return Some(second);
+    }
+    stops.find(sheet.text(3))
+}
+
+fn find_stop(stops: &Stops, guess: &Guess, sheet: &Sheet<'_>) -> Option<StopNo>
+    requires columns { length sheet.now.places.items ≡ 7 }
+    requires text { all_utf8 (fields_of sheet.now.current) ≡ true }
+    ensures { result ≡ stop_named stops.now (cell sheet.now 3) }
+{
+    let number = find_location(stops, guess, sheet)?;
     if is_stop(stops, number) {
         Some(number)
     } else {
@@ -68,6 +96,7 @@ fn find_stop(stops: &Stops, id: &str) -> Option<StopNo>
 fn read_call(
     trips: &Trips,
     stops: &Stops,
+    guess: &Guess,
     sheet: &Sheet<'_>,
     row: u64,
 ) -> Result<CallRow, TableError>
@@ -79,14 +108,10 @@ fn read_call(
         (cell sheet.now 2) (cell sheet.now 3) (cell sheet.now 4) (cell sheet.now 5)
         (cell sheet.now 6)) }
 {
-    let trip = need(row, Cause::UnknownReference, trips.find(sheet.text(0)))?;
+    let trip = need(row, Cause::UnknownReference, find_trip(trips, guess, sheet))?;
     let arr = need(row, Cause::BadTime, time(sheet.field(1)))?;
     let dep = need(row, Cause::BadTime, time(sheet.field(2)))?;
-    let stop = need(
-        row,
-        Cause::UnknownReference,
-        find_stop(stops, sheet.text(3)),
-    )?;
+    let stop = need(row, Cause::UnknownReference, find_stop(stops, guess, sheet))?;
     let seq = need(row, Cause::BadNumber, number(sheet.field(4)))?;
     let pickup = need(row, Cause::BadNumber, number_or_zero(sheet.field(5)))?;
     let drop_off = need(row, Cause::BadNumber, number_or_zero(sheet.field(6)))?;
@@ -114,7 +139,7 @@ impl CallTable<'_> {
             arr: call.arr,
             dep: call.dep,
         };
-        if self.by_key.insert((call.trip, call.seq), times)?.is_some() {
+        if !self.by_key.insert((call.trip, call.seq), times)? {
             return Err(TableError::Bad(Fault {
                 row,
                 cause: Cause::DuplicateKey,
@@ -143,7 +168,8 @@ impl TableBuilder for CallTable<'_> {
     ghost step = { call_step };
 
     fn add_row(&mut self, _alloc: Global, row: u64, sheet: &Sheet<'_>) -> Result<(), TableError> {
-        let call = read_call(self.trips, self.stops, sheet, row)?;
+        let call = read_call(self.trips, self.stops, &self.guess, sheet, row)?;
+        self.guess.note(&call);
         self.add(row, &call)
     }
 }

@@ -15,6 +15,7 @@ pub(crate) struct Ids {
 
 impl Ids {
     /// No id.
+    #[tactic(auto, unfolding(feed_tables::specs::Lawful::AreDistinct))]
     pub fn new(alloc: Global) -> Ids
         ensures { AreIds result [] }
     {

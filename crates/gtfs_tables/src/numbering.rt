@@ -2,7 +2,7 @@
 
 ghost use Rattle.std.specs.Prelude.{◌≡◌, [], IfOk, IfErr, OnOk};
 ghost use Rattle.gtfs_tables.specs.declared.faults.TableError.TheVariants.{OutOfMemory};
-ghost use Rattle.gtfs_tables.specs.Numbers.{number_in, names_with};
+ghost use Rattle.gtfs_tables.specs.Numbers.{number_from, number_in, names_with};
 
 use crate::faults::TableError;
 use mt_base::names::Name;
@@ -14,12 +14,15 @@ use std::collections::BTreeMap;
 pub(crate) struct Numbering {
     names: Vec<Name>,
     numbers: BTreeMap<String, u32>,
+    // The number that was found or given last, since rows of one name mostly follow one another.
+    last: u32,
 }
 
 impl Numbering {
     ghost use Rattle.gtfs_tables.specs.Numberings.{IsNumbered, names_of};
 
     /// No name.
+    #[tactic(auto, unfolding(feed_tables::specs::Lawful::AreDistinct))]
     pub fn new(alloc: Global) -> Numbering
         ensures names { names_of result ≡ [] }
         ensures numbered { IsNumbered result }
@@ -27,6 +30,18 @@ impl Numbering {
         Numbering {
             names: Vec::new(alloc),
             numbers: BTreeMap::new(alloc),
+            last: 0,
+        }
+    }
+
+    // The number of a name that is there.
+    fn find(&self, name: &str) -> Option<u32>
+        requires { IsNumbered self.now }
+        ensures { result ≡ number_from 0 name.now (names_of self.now) }
+    {
+        match self.names.get(self.last as usize) {
+            Some(last) if last.text() == name => Some(self.last),
+            _ => self.numbers.get(name).copied(),
         }
     }
 
@@ -38,8 +53,9 @@ impl Numbering {
         ensures numbered { OnOk result (IsNumbered self.new) }
         ensures memory { IfErr result (λ e. e ≡ OutOfMemory) }
     {
-        if let Some(number) = self.numbers.get(name) {
-            return Ok(*number);
+        if let Some(number) = self.find(name) {
+            self.last = number;
+            return Ok(number);
         }
         let Ok(number) = u32::try_from(self.names.len()) else {
             return Err(TableError::OutOfMemory);
@@ -48,6 +64,7 @@ impl Numbering {
         let text = Name::build(alloc, name)?;
         self.numbers.insert(key, number)?;
         self.names.push(text)?;
+        self.last = number;
         Ok(number)
     }
 

@@ -85,7 +85,7 @@ fn is_text(bytes: &[u8]) -> bool
     }
 }
 
-fn all_utf8(fields: &ByteRecord) -> bool
+fn each_utf8(fields: &ByteRecord) -> bool
     ensures { result ≡ all_utf8 (fields_of fields.now) }
 {
     for at in 0..fields.len() {
@@ -94,6 +94,12 @@ fn all_utf8(fields: &ByteRecord) -> bool
         }
     }
     true
+}
+
+fn all_utf8(fields: &ByteRecord) -> bool
+    ensures { result ≡ all_utf8 (fields_of fields.now) }
+{
+    fields.as_slice().is_ascii() || each_utf8(fields)
 }
 
 fn check_header(header: &ByteRecord, needed: &[Column]) -> Result<(), TableError>

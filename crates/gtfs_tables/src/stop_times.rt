@@ -8,15 +8,16 @@ ghost use Rattle.gtfs_tables.specs.Texts.{AreRecordsOf};
 ghost use Rattle.gtfs_tables.specs.Trips.{trip_ids};
 
 use crate::builders::build_table;
-use crate::calls::{CallTable, CallTimes};
+use crate::calls::CallTable;
 use crate::columns::Column;
 use crate::faults::{Cause, Fault, TableError};
+use crate::guesses::Guess;
+use crate::keyed_calls::{CallTimes, KeyedCalls};
 use crate::stops::Stops;
 use crate::trips::Trips;
 use mt_base::rows::Rows;
 use mt_base::tables::CallRow;
 use std::alloc::Global;
-use std::collections::BTreeMap;
 
 fn is_timed(call: &CallTimes) -> bool
     ensures { result ≡ is_timed call.now }
@@ -87,12 +88,12 @@ fn check_trip(calls: &[CallTimes]) -> Result<(), TableError>
 
 // The keys are in order, so the calls of a trip stand together by stop_sequence.
 #[tactic(auto, unfolding(crate::specs::StopTimes::check_trips))]
-fn check_trips(alloc: Global, by_key: &BTreeMap<(u32, u32), CallTimes>) -> Result<(), TableError>
-    ensures { Gives (λ u. u) result (check_trips 0 [] by_key.now.entries) }
+fn check_trips(alloc: Global, by_key: &[((u32, u32), CallTimes)]) -> Result<(), TableError>
+    ensures { Gives (λ u. u) result (check_trips 0 [] by_key.now) }
 {
     let mut trip = 0;
     let mut passed = Vec::new(alloc);
-    for (key, call) in by_key.iter() {
+    for (key, call) in by_key {
         if key.0 != trip {
             check_trip(&passed)?;
             passed.clear();
@@ -130,12 +131,14 @@ pub(crate) fn read_stop_times(
     ];
     let others = [Column::PickupType, Column::DropOffType];
     let mut table = CallTable {
+        guess: Guess::build(alloc, stops.rows().len())?,
         trips,
         stops,
         rows: Vec::new(alloc),
-        by_key: BTreeMap::new(alloc),
+        by_key: KeyedCalls::new(alloc),
     };
     build_table(alloc, text, &needed, &others, &mut table)?;
-    check_trips(alloc, &table.by_key)?;
-    Ok(Rows::build(table.rows))
+    let CallTable { rows, by_key, .. } = table;
+    check_trips(alloc, &by_key.into_entries()?)?;
+    Ok(Rows::build(rows))
 }

@@ -1,6 +1,6 @@
 //! `stops.txt` read by itself.
 
-ghost use Rattle.std.specs.Prelude.{◌≡◌, ◌++◌, ℕ, List, [], length, true, OnOk, IfOk};
+ghost use Rattle.std.specs.Prelude.{◌≡◌, ◌++◌, ℕ, List, [], length, true, Some, IsTrue, OnOk, IfOk};
 ghost use Rattle.csv.specs.Records.{fields_of};
 ghost use Rattle.gtfs_tables.specs.Builders.{lines_view, IsStopTable};
 ghost use Rattle.gtfs_tables.specs.Checks.{Gives, all_utf8};
@@ -173,6 +173,16 @@ impl Stops {
         ensures { result ≡ number_from 0 id.now (stop_ids self.now) }
     {
         Some(StopNo::new(self.ids.find(id)?))
+    }
+
+    /// Whether the stop with this number has this `stop_id`. No other stop has it then.
+    pub fn has_id(&self, number: StopNo, id: &[u8]) -> bool
+        ensures { IsTrue result → number_from 0 id.now (stop_ids self.now) ≡ Some number }
+    {
+        match self.rows.get(number.get() as usize) {
+            Some(row) => row.id.text().as_bytes() == id,
+            None => false,
+        }
     }
 
     /// The rows of `stops.txt`, as the tables of a feed hold them.

@@ -1,6 +1,6 @@
 //! `trips.txt` read by itself.
 
-ghost use Rattle.std.specs.Prelude.{◌≡◌, ℕ, List, OnOk};
+ghost use Rattle.std.specs.Prelude.{◌≡◌, ℕ, List, Some, IsTrue, OnOk};
 ghost use Rattle.gtfs_tables.specs.Checks.{Gives};
 ghost use Rattle.gtfs_tables.specs.Numberings.{IsNumbered, names_of};
 ghost use Rattle.gtfs_tables.specs.Numbers.{number_from};
@@ -119,6 +119,16 @@ impl Trips {
         ensures { result ≡ number_from 0 id.now (trip_ids self.now.rows) }
     {
         self.table.ids.find(id)
+    }
+
+    /// Whether the trip with this number has this `trip_id`. No other trip has it then.
+    pub fn has_id(&self, number: u32, id: &[u8]) -> bool
+        ensures { IsTrue result → number_from 0 id.now (trip_ids self.now.rows) ≡ Some number }
+    {
+        match self.table.rows.get(number as usize) {
+            Some(row) => row.id.text().as_bytes() == id,
+            None => false,
+        }
     }
 
     /// The trips, and the names of routes and services, which later tables number on.

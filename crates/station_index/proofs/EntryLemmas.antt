@@ -3,10 +3,8 @@ use Rattle.std.proofs.Common.{◌≡◌, ℕ, ◌≤◌, Bool, true, false, not,
 use Rattle.std.specs.declared.cmp.Ordering.TheVariants.{Less, Equal, Greater}
 use Rattle.std.specs.Cmp.{IsTotalOrder, bool_cmp_total}
 use Rattle.std.specs.Ordering.{nat_cmp, bool_cmp, ordering_then, is_lt, is_le, is_gt}
-use Rattle.std.proofs.lemmas.Bool.{and_parts, and_from, eqb-true, eq-eqb}
 use Rattle.std.proofs.lemmas.Cmp.{then_total, on_total, nat_cmp_total}
 use mathlib.Core.Bool.{beq}
-use Rattle.mt_base.specs.declared.keys.Node.{Node}
 use Rattle.mt_base.specs.declared.plans.Entry.{Entry}
 use Rattle.mt_base.specs.Order.{is_before_entry, node_cmp}
 use Rattle.mt_base.proofs.KeyLemmas.{entries_total, exact_entries, before_entry-itself, same_node-is, same_node-itself}
@@ -43,25 +41,15 @@ pub beq-itself : (a : Bool) → beq a a ≡ true
 beq-itself true = refl
 beq-itself false = refl
 
-entry_by : ℕ → Bool → ℕ → Node → Entry
-entry_by stop dep time node = record { stop = stop; dep = dep; time = time; node = node }
-
-entry_by-agree : (s r : ℕ) (d e : Bool) (t u : ℕ) (n m : Node) → s ≡ r → d ≡ e → t ≡ u → n ≡ m → entry_by s d t n ≡ entry_by r e u m
-entry_by-agree s r d e t u n m p q v w = cc
-
 -- entries that are the same are one
 pub same_entry-is : (a b : Entry) → is_same_entry a b ≡ true → a ≡ b
-unfolding is_same_entry entry_by
-same_entry-is a b h =
-    let stop = and_parts _ _ h in
-    let dep = and_parts _ _ stop.1 in
-    let time = and_parts _ _ dep.1 in
-    entry_by-agree a.stop b.stop a.dep b.dep a.time b.time a.node b.node (eqb-true _ _ stop.0) (beq-true _ _ dep.0) (eqb-true _ _ time.0) (same_node-is a.node b.node time.1)
+unfolding is_same_entry
+same_entry-is a b h = grind (arith, h, beq-true a.dep b.dep, same_node-is a.node b.node)
 
 -- an entry is the same as itself
 pub same_entry-itself : (a : Entry) → is_same_entry a a ≡ true
 unfolding is_same_entry
-same_entry-itself a = and_from _ _ (eq-eqb a.stop a.stop refl) (and_from _ _ (beq-itself a.dep) (and_from _ _ (eq-eqb a.time a.time refl) (same_node-itself a.node)))
+same_entry-itself a = grind (arith, beq-itself a.dep, same_node-itself a.node)
 
 from-not : (b : Bool) → (b ≡ true → false ≡ true) → not b ≡ true
 from-not true h = h refl

@@ -13,7 +13,7 @@ use Rattle.station_index.specs.Places.{IsRangeAt}
 use Rattle.station_index.specs.Slots.{entry_of}
 use Rattle.station_index.proofs.EntryLemmas.{IsBefore, before_entry-connected, beq-itself, same_entry-is}
 use Rattle.station_index.proofs.PartLemmas.{some_event}
-use Rattle.station_index.proofs.RowLemmas.{AreInOrder-drop, AreInOrder-take, IsPlace, all-differ, parted}
+use Rattle.station_index.proofs.PlaceLemmas.{AreInOrder-drop, AreInOrder-take, IsPlace, all-differ, parted}
 
 pub not-true : (b : Bool) → not b ≡ true → b ≡ false
 not-true true h = cc

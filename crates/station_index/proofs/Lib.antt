@@ -1,5 +1,5 @@
 pub mod EntryLemmas
-pub mod RowLemmas
+pub mod PlaceLemmas
 pub mod OrderLemmas
 pub mod KeptLemmas
 pub mod MergeLemmas
@@ -7,4 +7,5 @@ pub mod RangeLemmas
 pub mod SlotLemmas
 pub mod PartLemmas
 pub mod FindLemmas
-pub mod TouchedLemmas
+pub mod AddedLemmas
+pub mod NumberLemmas

@@ -11,7 +11,7 @@ use Rattle.station_index.specs.Ranged.{IsRange, loaded_left}
 use Rattle.station_index.specs.Slots.{entry_of}
 use Rattle.station_index.specs.Merged.{comes_first, kept, merged}
 use Rattle.station_index.proofs.OrderLemmas.{AreInOrder-tail}
-use Rattle.station_index.proofs.RowLemmas.{AreInOrder-drop}
+use Rattle.station_index.proofs.PlaceLemmas.{AreInOrder-drop}
 use Rattle.station_index.proofs.KeptLemmas.{kept-holds, kept-dead}
 use Rattle.station_index.proofs.MergeLemmas.{IsNotBefore, first-before-all, merged-all, merged-first, none-before, with-first}
 

@@ -1,6 +1,7 @@
 pub mod Indexed
 pub mod Loaded
 pub mod Merged
+pub mod Numbers
 pub mod Places
 pub mod Ranged
 pub mod Slots

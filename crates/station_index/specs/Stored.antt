@@ -22,6 +22,7 @@ pub record IsStored (a : Inside) : Type 0 where
   pub flags : length a.live.items ≡ length a.loaded
   pub added : AreInOrder a.added.items
   pub ordered : AreInOrder (all_entries a)
-  pub touched : All (λ e. slice_index_or a.touched.items (slot_of e) true ≡ true) a.added.items
+  pub ever_added : All (λ e. slice_index_or a.ever_added.items (slot_of e) true ≡ true)
+      a.added.items
   pub room : length a.added.items + a.spare ≤ vec_capacity a.added
   pub small : length a.added.items + a.spare < 2 ^ 32

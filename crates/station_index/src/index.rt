@@ -6,13 +6,14 @@ ghost use Rattle.std.specs.List.Sorted.{IsPermutation};
 ghost use Rattle.station_index.specs.Indexed.{AreInOrder, entry_at, nodes_in, with_entry};
 ghost use Rattle.station_index.specs.Indexed.{without_entry};
 
+use crate::entries::{put, take_out};
+use crate::ever_added::{added_part, none_added, note_added};
 use crate::live::{all_live, clear};
 use crate::loaded::LoadedEntries;
 use crate::range::Range;
-use crate::rows::{copy_with_room, put, take_out};
-use crate::touched::{added_part, touch, untouched};
+use crate::sorting::sort_entries;
 use mt_base::keys::Node;
-use mt_base::memory::OutOfMemory;
+use mt_base::memory::{OutOfMemory, copy_with_room};
 use mt_base::numbers::{StopNo, Time};
 use mt_base::plans::Entry;
 use std::alloc::Global;
@@ -29,7 +30,8 @@ pub struct StationIndex {
     /// The entries that were put in later and are live, in order.
     added: Vec<Entry>,
     /// For each stop and kind of event whether an entry was ever added there.
-    touched: Vec<bool>,
+    ever_added: Vec<bool>,
+    /// For how many more entries there is room.
     spare: u32,
 }
 
@@ -58,10 +60,10 @@ impl StationIndex {
         ensures room { IfOk result (λ index. index.spare ≡ room) }
     {
         let mut sorted = entries;
-        sorted.sort_unstable();
+        sort_entries(alloc, &mut sorted)?;
         Ok(StationIndex {
             loaded: LoadedEntries::build(alloc, &sorted)?,
-            touched: untouched(alloc, &sorted)?,
+            ever_added: none_added(alloc, &sorted)?,
             live: all_live(alloc, sorted.len())?,
             added: Vec::with_capacity(alloc, room as usize)?,
             spare: room,
@@ -76,16 +78,9 @@ impl StationIndex {
             loaded: self.loaded.copy(alloc)?,
             live: Vec::from_slice(alloc, &self.live)?,
             added: copy_with_room(alloc, &self.added, self.spare)?,
-            touched: Vec::from_slice(alloc, &self.touched)?,
+            ever_added: Vec::from_slice(alloc, &self.ever_added)?,
             spare: self.spare,
         })
-    }
-
-    /// For how many more entries there is room.
-    pub fn spare(&self) -> u32
-        ensures { result ≡ self.now.spare }
-    {
-        self.spare
     }
 
     /// Puts in an event at a stop, scheduled at a time in seconds from the base of day 0. It takes
@@ -99,7 +94,7 @@ impl StationIndex {
         } }
     {
         let entry = entry(stop, time, &n);
-        touch(&mut self.touched, &entry);
+        note_added(&mut self.ever_added, &entry);
         put(&mut self.added, entry);
         self.spare -= 1;
     }
@@ -128,7 +123,7 @@ impl StationIndex {
             dep,
             loaded: events,
             live: &self.live[first..first + events.len()],
-            added: added_part(&self.added, &self.touched, stop, dep, lo, hi),
+            added: added_part(&self.added, &self.ever_added, stop, dep, lo, hi),
         }
     }
 

@@ -19,7 +19,7 @@ use std::marker::Model;
 
 /// Entries in their order, seen as the list of them.
 #[derive(Drop)]
-pub struct LoadedEntries {
+pub(crate) struct LoadedEntries {
     /// For each stop, where its arrivals and where its departures end among the events, but for
     /// the last of these.
     ends: Vec<u32>,

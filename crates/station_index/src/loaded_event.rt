@@ -9,7 +9,7 @@ use mt_base::plans::Entry;
 
 /// An event that was given when the index was built, in twelve bytes.
 #[derive(Clone, Copy, Debug, PartialEq, Eq)]
-pub struct LoadedEvent {
+pub(crate) struct LoadedEvent {
     /// The scheduled time of the event.
     pub time: Time,
 

@@ -4,15 +4,16 @@ use Rattle.timetable.proofs.Words.{Contains, filter, and_from, length-map, All-c
 use Rattle.timetable.proofs.Words.{Contains-permutation, length-filter, Key, Node, is_before, is_same, node_of, same-itself, Network, ℕ, Option, Some, None}
 use Rattle.timetable.proofs.Words.{EventValues, State, Event, effect, reported, forecasted, change_calls, change_labelled, change_event, with_event, events, live_events}
 use Rattle.timetable.proofs.Words.{event_time, is_live_key, live_only, retimed, changed, names_of, IsTrain, IsLiveAt, Contains-filter, Contains-map, contains-unmap, mapping-events}
-use Rattle.timetable.proofs.Words.{IsSetting, set_at, set-shape, put_report, put_forecast, filter-none, StoredTimes, message_by_choice, message_by_kind, is_changed, changed_nodes, in_order, live_keys, IsOrderOf, HasItsTime}
-use Rattle.timetable.proofs.Words.{has_another, next_labels, suc}
+use Rattle.timetable.proofs.Words.{IsSetting, set_at, set-shape, put_report, put_forecast, filter-none, StoredTimes, message_by_choice, message_by_kind, is_changed, changed_nodes, in_order, live_keys}
+use Rattle.timetable.proofs.Words.{next_labels, suc}
 use Rattle.delay_model.specs.declared.overrides.Override.{Override}
 use Rattle.delay_model.specs.declared.overrides.Override.TheVariants.{Keep, Drop}
 use Rattle.train_nodes.specs.declared.kinds.ValueKind.{ValueKind}
 use Rattle.train_nodes.specs.declared.kinds.ValueKind.TheVariants as Values
 use Rattle.state_laws.proofs.Settings.{set-mapping}
 use Rattle.timetable.proofs.Words.{IsChangedEvent, AreInOrder, IsValid, AllPairs-filter, All-filter, All-permutation, filter_passes, cases_Bool, IsPermutation-sym, keys_total, exact_keys}
-use Rattle.timetable.proofs.{Named.any-from, Ordered.filtered, Ordered.key-live, Sized.labels-kept, Sorted.in_order-moves, Sorted.order-is, Sorted.in_order-ascends, Sorted.keys-differ}
+use Rattle.propagate.proofs.{Named.any-from, Ordered.filtered, Sorted.in_order-moves, Sorted.in_order-ascends, Sorted.keys-differ}
+use Rattle.timetable.proofs.{Sized.labels-kept}
 
 -- the live keys stay where each event keeps its key and whether it is live
 keys-stay : (h : Event → Event) → ((v : Event) → (h v).key ≡ v.key) → ((v : Event) → (h v).live ≡ v.live) → (es : List Event) → live_keys (map h es) ≡ live_keys es
@@ -50,10 +51,6 @@ chosen-alike st (Some Keep) f t = record { keys = refl; labels = refl; spare_tra
 chosen-alike st (Some Drop) f t = record { keys = refl; labels = refl; spare_trains = refl; spare_calls = refl }
 chosen-alike st None f t = record { keys = refl; labels = refl; spare_trains = refl; spare_calls = refl }
 
--- so the order stays
-pub order-stays : (es fs : List Event) (order : List Key) → live_keys fs ≡ live_keys es → IsOrderOf es order → IsOrderOf fs order
-order-stays es fs order same is = record { moved = rw same is.moved; ascends = is.ascends }
-
 pub filter-same : {X : Type 0} (p q : X → Bool) (xs : List X) → All (λ x. p x ≡ q x) xs → filter p xs ≡ filter q xs
 filter-same p q [] h = refl
 filter-same p q (x ∷ xs) h = rw (h 0 x (omega arith), filter-same p q xs (λ i d l. h (suc i) d (omega arith))) refl
@@ -74,16 +71,6 @@ none-only es fs same =
     let r = contains-unmap (λ (v : Event). v.key) (live_events fs) v.key (rw same at there) in
     let w = filtered (λ (v : Event). v.live) fs r.0 r.1 in
     rw (live-key fs v.key (r.0, w.0, r.2, w.1)) refl)
-
--- where the times kept were those of the old state, an evaluation in the new one lists the changed events
-pub lists-changed : (nw : Network) (st new : State) (times : StoredTimes) (order : List Key) → IsAlike st new → All IsTrain new.trains → IsOrderOf (events st) order → All (HasItsTime nw st times) order → map node_of (filter (has_another nw new times) order) ≡ changed_nodes nw st new
-unfolding changed_nodes
-lists-changed nw st new times order alike trains is h =
-    let same = alike.keys in
-    rw (order-is new order trains (order-stays (events st) (events new) order same is), none-only (events st) (events new) (sym same))
-    (ap (map node_of) (filter-same (has_another nw new times) (is_changed nw st new) order (λ i d l.
-    let k = get_or order i d in
-    rw (h i d l, live-key (events st) k (key-live (events st) order is k (All-contains_itself order i d l))) refl)))
 
 -- what is not a or is b, in two parts
 either-length : {X : Type 0} (a b : X → Bool) (xs : List X) → length (filter (λ x. not (a x) || b x) xs) ≡ length (filter (λ x. not (a x)) xs) + length (filter (λ x. a x && b x) xs)

@@ -1,14 +1,14 @@
 -- The live departures of a state in the order of their times.
 use Rattle.timetable.proofs.Words.{rules, ◌≡◌, ◌≢◌, ℕ, zero, suc, ◌+◌, ◌-◌, ◌<◌, ◌≤◌, Bool, true, false, nat_le, List, [], ◌∷◌, ◌++◌, map, filter, length, take, drop, get_or, Vec, Global}
 use Rattle.timetable.proofs.Words.{vec_len, vec_capacity, refl, sym, ◌∙◌, ap, subst, arith, ltb, IsTotalOrder, All, AllPairs, Contains, IsNonDecreasingBy, IsPartitionPoint, nat_cmp}
-use Rattle.timetable.proofs.Words.{ordering_then, is_lt, Ordering, Equal, Greater, leb-true, ltb-true, ltb-false, take_all, length-drop, All-weaker, All-filter, All-contains}
-use Rattle.timetable.proofs.Words.{All-contains_itself, filter_passes, AllPairs-filter, All-permutation, IsPermutation-sym, Contains-permutation, Key, is_before, keys_total, exact_keys}
-use Rattle.timetable.proofs.Words.{before-itself, Network, State, Event, events, live_events, event_time, IsTrain, Contains-filter, Contains-map, contains-unmap, StoredTimes, Departure}
+use Rattle.timetable.proofs.Words.{ordering_then, is_lt, Ordering, Equal, Greater, leb-true, ltb-true, ltb-false, take_all, length-drop, All-weaker, All-filter}
+use Rattle.timetable.proofs.Words.{All-contains_itself, filter_passes, AllPairs-filter, All-permutation, IsPermutation-sym, Contains-permutation, Key, keys_total, exact_keys}
+use Rattle.timetable.proofs.Words.{Network, State, Event, events, live_events, event_time, IsTrain, Contains-filter, Contains-map, contains-unmap, StoredTimes, has_time, time_of, node_of, Departure, Some, All-tail, append-nil, append_assoc}
 use Rattle.timetable.proofs.Words.{departure_cmp, leaves_before, departing, stored_departure, is_departure, live_departures, departures_from, AreListed, IsDeparture, live_keys, IsSettled}
-use Rattle.timetable.proofs.Words.{HasItsTime, in_order, All-map}
+use Rattle.timetable.proofs.Words.{HasItsTime}
 use Rattle.std.proofs.lemmas.Cmp.{then_total, on_total, nat_cmp_total}
 use Rattle.std.proofs.lemmas.Map.Lookups.{exact_unsigned}
-use Rattle.timetable.proofs.{Ordered.filtered, Sorted.AllPairs-map, Sorted.keys-differ, Sorted.in_order-moves, Sorted.in_order-ascends, Sorted.order-of}
+use Rattle.propagate.proofs.{Ordered.filtered, Sorted.AllPairs-map, Sorted.keys-differ, Sorted.in_order-moves, Sorted.in_order-ascends, Sorted.order-of}
 
 pub departures_total : IsTotalOrder departure_cmp
 departures_total = then_total (on_total (λ d. d.time) nat_cmp_total) (on_total (λ d. d.key) keys_total)
@@ -16,22 +16,14 @@ departures_total = then_total (on_total (λ d. d.time) nat_cmp_total) (on_total 
 pub exact_departures : (a b : Departure) → departure_cmp a b ≡ Equal → a ≡ b
 exact_departures a b h = grind (arith, exact_unsigned a.time b.time, exact_keys a.key b.key)
 
--- departures of the keys among these that pass are departures of those of more keys
-picked : (g : Key → Departure) (ks qs : List Key) → All (Contains qs) ks → All (Contains (map g (filter is_departure qs))) (map g (filter is_departure ks))
-picked g ks qs h =
-    All-map (Contains (map g (filter is_departure qs))) g (filter is_departure ks) (λ i d l.
-    let own = filtered is_departure ks (get_or (filter is_departure ks) i d) (All-contains_itself (filter is_departure ks) i d l) in
-    Contains-map g (filter is_departure qs) _ (Contains-filter is_departure qs _ (All-contains (Contains qs) ks _ h own.0) own.1))
-
 -- departures of different keys differ
 differ : (g : Key → Departure) → ((k : Key) → (g k).key ≡ k) → (ks : List Key) → AllPairs (λ a b. a ≢ b) ks → AllPairs (λ a b. a ≢ b) (map g (filter is_departure ks))
 differ g own ks h =
     AllPairs-map (λ a b. a ≢ b) g (filter is_departure ks)
     (λ i j d l m e. AllPairs-filter (λ a b. a ≢ b) is_departure ks h i j d l m (sym (own (get_or (filter is_departure ks) i d)) ∙ ap (λ (x : Departure). x.key) e ∙ own (get_or (filter is_departure ks) j d)))
 
-pub kept-differ : (times : StoredTimes) (order : List Key) → AllPairs (λ a b. is_before a b ≡ true) order → AllPairs (λ a b. a ≢ b) (map (stored_departure times) (filter is_departure order))
-kept-differ times order up =
-    differ (stored_departure times) (λ k. refl) order (λ i j d l m e. let less = up i j d l m in let none = before-itself (get_or order j d) in let same = ap (λ k. is_before k (get_or order j d)) e in absurd (cc))
+pub stored-differ : (st : State) (times : StoredTimes) → All IsTrain st.trains → AllPairs (λ a b. a ≢ b) (map (stored_departure times) (filter is_departure (live_keys (events st))))
+stored-differ st times trains = differ (stored_departure times) (λ k. refl) (live_keys (events st)) (keys-differ st trains)
 
 -- the times kept for settled events are their times
 kept-are : (nw : Network) (st : State) (times : StoredTimes) (ks : List Key) → All (HasItsTime nw st times) ks → map (stored_departure times) (filter is_departure ks) ≡ map (departing nw st) (filter is_departure ks)
@@ -41,27 +33,14 @@ kept-are nw st times (k ∷ ks) h =
     grind (arith, own, kept-are nw st times ks (λ i d l. h (suc i) d (omega arith)))
 
 -- the departures of settled events, once they are sorted
-pub listed-are : (nw : Network) (st : State) (times : StoredTimes) (order : List Key) (list : List Departure) → IsSettled nw st times order → AreListed times order list → list ≡ live_departures nw st
+pub listed-are : (nw : Network) (st : State) (times : StoredTimes) (list : List Departure) → IsSettled nw st times → AreListed times (live_keys (events st)) list → list ≡ live_departures nw st
 unfolding live_departures
-listed-are nw st times order list is listed =
+listed-are nw st times list is listed =
     let keys = live_keys (events st) in
-    let g = departing nw st in
-    let xs = map g (filter is_departure keys) in
-    let ys = map g (filter is_departure order) in
-    let own = rw (kept-are nw st times order is.times) at listed.moved in
-    let into = picked g keys order (All-permutation (Contains order) order keys (IsPermutation-sym _ _ is.order.moved) (All-contains_itself order)) in
-    let back = picked g order keys (All-permutation (Contains keys) keys order is.order.moved (All-contains_itself keys)) in
-    sym (order-of departures_total exact_departures xs list (differ g (λ k. refl) keys (keys-differ st is.valid.trains)) listed.ascends
-    (All-weaker (Contains ys) (Contains list) (λ d. Contains-permutation ys list d own) xs into)
-    (All-permutation (Contains xs) ys list own back))
-
--- and the other way round
-pub are-listed : (nw : Network) (st : State) (times : StoredTimes) (order : List Key) (list : List Departure) → IsSettled nw st times order → list ≡ live_departures nw st → AreListed times order list
-are-listed nw st times order list is same =
-    let xs = map (stored_departure times) (filter is_departure order) in
-    let up = in_order-ascends departures_total exact_departures xs (kept-differ times order is.order.ascends) in
-    let listed : AreListed times order (in_order leaves_before xs) = record { moved = in_order-moves leaves_before xs; ascends = up } in
-    rw (same, ← listed-are nw st times order (in_order leaves_before xs) is listed) listed
+    let xs = map (departing nw st) (filter is_departure keys) in
+    let own = rw (kept-are nw st times keys is.times) at listed.moved in
+    sym (order-of departures_total exact_departures xs list (differ (departing nw st) (λ k. refl) keys (keys-differ st is.valid.trains)) listed.ascends
+    (All-permutation (Contains list) list xs (IsPermutation-sym xs list own) (All-contains_itself list)) (All-permutation (Contains xs) xs list own (All-contains_itself xs)))
 
 -- every live departure of the state is listed
 pub departs-in : (nw : Network) (st : State) (v : Event) → Contains (events st) v → v.live ≡ true → v.key.dep ≡ true → Contains (live_departures nw st) (departing nw st v.key)
@@ -130,8 +109,37 @@ later-are from start ds at =
     (λ i d l m. let a = ltb-true (get_or ds i d).time from (at.0 i d (omega arith) l) in search rules)
     (λ i d l m. let a = ltb-false (get_or ds i d).time from (at.1 i d l m) in search rules)
 
--- the departures among the events so far are listed
-pub record IsListedTo (before : Vec Departure Global) (order : List Key) (times : StoredTimes) (i : ℕ) (now : Vec Departure Global) : Type 0 where
-  pub rest : now.items ++ map (stored_departure times) (filter is_departure (drop i order)) ≡ before.items ++ map (stored_departure times) (filter is_departure order)
-  pub room : vec_len now + length order ≤ vec_capacity now + i
+-- part of a listing: with the events that are left all departures are listed, and there is room
+pub record IsListedTo (times : StoredTimes) (all left : List Key) (before now : Vec Departure Global) : Type 0 where
+  pub whole : now.items ++ map (stored_departure times) (filter is_departure left) ≡ map (stored_departure times) (filter is_departure all)
+  pub held : All (λ k. has_time times (node_of k) ≡ true) left
+  pub room : vec_len now + length left ≤ vec_capacity now
   pub capacity : vec_capacity now ≡ vec_capacity before
+
+pub filter-first : {X : Type 0} (p : X → Bool) (x : X) (xs : List X) → p x ≡ true → filter p (x ∷ xs) ≡ x ∷ filter p xs
+filter-first p x xs h = rw h refl
+
+filter-next : {X : Type 0} (p : X → Bool) (x : X) (xs : List X) → p x ≡ false → filter p (x ∷ xs) ≡ filter p xs
+filter-next p x xs h = rw h refl
+
+module _ {times : StoredTimes} {all left : List Key} {before now : Vec Departure Global} {k : Key} (h : IsListedTo times all (k ∷ left) before now) where
+  pub listed-one : k.dep ≡ true → (time : ℕ) → time_of times (node_of k) ≡ Some time → (next : Vec Departure Global) → next.items ≡ now.items ++ record { time = time; key = k } ∷ [] → vec_len next ≡ vec_len now + 1 → vec_capacity next ≡ vec_capacity now → IsListedTo times all left before next
+  listed-one departs time stored next pushed long same =
+      let is : stored_departure times k ≡ record { time = time; key = k } = rw stored refl in
+      record {
+        whole = rw (pushed, append_assoc) (rw (filter-first is_departure k left departs, is) at h.whole);
+        held = All-tail (λ k. has_time times (node_of k) ≡ true) k left h.held;
+        room = let room = h.room in omega arith;
+        capacity = same ∙ h.capacity;
+      }
+
+  pub listed-pass : k.dep ≡ false → IsListedTo times all left before now
+  listed-pass arrives = record {
+    whole = rw (filter-next is_departure k left arrives) at h.whole;
+    held = All-tail (λ k. has_time times (node_of k) ≡ true) k left h.held;
+    room = let room = h.room in omega arith;
+    capacity = h.capacity;
+  }
+
+pub listed-all : {times : StoredTimes} {all : List Key} {before now : Vec Departure Global} → IsListedTo times all [] before now → now.items ≡ map (stored_departure times) (filter is_departure all)
+listed-all {now = now} h = sym (append-nil now.items) ∙ h.whole

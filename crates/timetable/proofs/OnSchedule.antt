@@ -1,7 +1,7 @@
 -- Where nothing but the schedule is known, each event takes place as scheduled.
-use Rattle.timetable.proofs.Words.{◌≡◌, ◌+◌, ℕ, true, List, [], ◌∷◌, None, refl, sym, ◌∙◌, ap, arith, All, All-contains, Contains, get_or, and_parts}
-use Rattle.timetable.proofs.Words.{suc, elements, false, Bool, ◌&&◌, ◌<◌, drop, length, Some, is_some, Option, events_from, train_events, Node, node_of, is_same_node, same_node-itself}
-use Rattle.timetable.proofs.Words.{StoredTimes, time_of, has_time, Timetabled, IsOrderOf}
+use Rattle.timetable.proofs.Words.{◌≡◌, ◌+◌, ℕ, true, List, [], ◌∷◌, None, refl, sym, ◌∙◌, ap, arith, inl, inr, ◌⊎◌, All, All-contains, All-contains_itself, All-tail, Contains, Contains-cases, cases_Bool, get_or, and_parts}
+use Rattle.timetable.proofs.Words.{suc, elements, false, Bool, ◌&&◌, ◌<◌, drop, length, Some, events-unique, events_from, train_events, Node, node_of, is_same_node, same_node-is, same_node-itself}
+use Rattle.timetable.proofs.Words.{StoredTimes, time_of, has_time, Timetabled, HasItsTime, HasTimesFor, live_keys}
 use Rattle.timetable.proofs.Words.{Key, Event, State, Network, events, edges, incoming, event_time, IsValid, valid-graph, incoming-leads}
 use Rattle.std.specs.List.{list_all}
 use Rattle.std.specs.Bool.{if◌then◌else◌}
@@ -12,8 +12,8 @@ use Rattle.state_laws.proofs.Caps.{All-after_key}
 use Rattle.std.proofs.lemmas.List.Folds.{list_all-append}
 use Rattle.train_nodes.specs.Times.{with_time}
 use Rattle.timetable.specs.Scheduled.{has_schedule_alone}
-use Rattle.timetable.proofs.{Listing.train-first, Ordered.key-live, Sized.write-fits}
-use Rattle.timetable.proofs.Settling.{IsTimedPart, part-has, part-local, more-timed}
+use Rattle.propagate.proofs.{Ordered.keyed-live, Sized.write-fits}
+use Rattle.timetable.proofs.{Listing.train-first}
 
 -- the event has neither a forecast nor a report
 record IsPlain (v : Event) : Type 0 where
@@ -56,26 +56,50 @@ module _ (nw : Network) (st : State) (valid : IsValid nw st) (alone : list_all h
   time-scheduled v h live =
       ap (λ t. t v.key) (event_time-is nw st) ∙ sym (timing-unique (events st) (edges nw st) (valid-graph nw st valid) scheduled obeys v h live)
 
-  pub key-scheduled : (order : List Key) → IsOrderOf (events st) order → (k : Key) → Contains order k → event_time nw st k ≡ k.time
-  key-scheduled order is k h =
-      let at = key-live (events st) order is k h in
+  pub key-scheduled : (k : Key) → Contains (live_keys (events st)) k → event_time nw st k ≡ k.time
+  key-scheduled k h =
+      let at = keyed-live (events st) k h in
       rw (← at.2) (time-scheduled at.0 at.1 at.3)
 
-some-time : (o : Option ℕ) → is_some o ≡ true → (x : ℕ) × (o ≡ Some x)
-some-time None h = absurd (cc)
-some-time (Some x) h = (x, refl)
+-- part of a walk: for these events a scheduled time is still to be stored, and for all other live ones it is stored
+pub record IsScheduledBut (g : Timetabled) (old times : StoredTimes) (left : List Key) : Type 0 where
+  pub stored : (k : Key) → Contains (live_keys (events g.state)) k → Contains left k ⊎ (time_of times (node_of k) ≡ Some k.time)
+  pub known : All (Contains (live_keys (events g.state))) left
+  pub held : All (λ k. has_time times (node_of k) ≡ true) left
+  pub has_times : (st : State) → HasTimesFor st old → HasTimesFor st times
 
--- one event more has its scheduled time stored
-pub scheduled-more : {g : Timetabled} (valid : IsValid g.network g.state) {order : List Key} (is : IsOrderOf (events g.state) order) {old : StoredTimes} (held : All (λ k. has_time old (node_of k) ≡ true) order) {i : ℕ} {times : StoredTimes} (timed : IsTimedPart g order old i times) {k : Key} (l : i < length order) (at : k ≡ get_or order i k) {n : Node} (name : n ≡ node_of k)
-    → list_all has_schedule_alone (events g.state) ≡ true → (new : StoredTimes) → new ≡ with_time n k.time times → ((m : Node) → time_of new m ≡ (if is_same_node n m then Some k.time else time_of times m)) → IsTimedPart g order old (i + 1) new
-scheduled-more {g} valid {order} is held {i} {times} timed {k} l at {n} name alone new stored time =
-    let had = some-time (time_of times n) (part-has valid is held timed l at name) in
-    let due = key-scheduled g.network g.state valid alone order is k (i, l, sym at) in
-    more-timed valid is held timed l at name had.0 had.1 new k.time
-    (part-local valid is held timed l at name ∙ ap Some due)
-    (rw (time n, same_node-itself n) refl)
-    (λ m other. rw (time m, other) refl)
-    (λ st h. rw stored (write-fits st times n k.time h))
+pub none-scheduled : {g : Timetabled} {old : StoredTimes} (keys : List Key) → keys ≡ live_keys (events g.state) → All (λ k. has_time old (node_of k) ≡ true) (live_keys (events g.state)) → IsScheduledBut g old old keys
+none-scheduled {g} keys is held = rw is (record { stored = λ k h. inl h; known = All-contains_itself (live_keys (events g.state)); held = held; has_times = λ st h. h })
+
+module _ {g : Timetabled} (valid : IsValid g.network g.state) {old times : StoredTimes} where
+  -- one event more
+  pub scheduled-more : {k : Key} {left : List Key} → IsScheduledBut g old times (k ∷ left) → (new : StoredTimes) → new ≡ with_time (node_of k) k.time times → ((m : Node) → time_of new m ≡ (if is_same_node (node_of k) m then Some k.time else time_of times m)) → IsScheduledBut g old new left
+  scheduled-more {k} {left} h new is time =
+      let es = events g.state in
+      let own = keyed-live es k (h.known 0 k (omega arith)) in
+      record {
+        stored = λ q hq. elim (cases_Bool (is_same_node (node_of k) (node_of q))) [
+          | inl same ↦
+              let at = keyed-live es q hq in
+              let one = events-unique g.state valid.trains own.0 at.0 own.1 at.1 (ap node_of own.2 ∙ same_node-is _ _ same ∙ ap node_of (sym at.2)) in
+              let keys : k ≡ q = sym own.2 ∙ ap (λ (v : Event). v.key) one ∙ at.2 in
+              inr (rw (time (node_of q), same) (ap (λ (x : Key). Some x.time) keys))
+          | inr other ↦ elim (h.stored q hq) [
+            | inl there ↦ elim (Contains-cases k left q there) [ inl is ↦ absurd (let own = same_node-itself (node_of k) in let other = rw (← is) at other in cc) | inr later ↦ inl later ]
+            | inr done ↦ inr (rw (time (node_of q), other) done)
+          ]
+        ];
+        known = All-tail (Contains (live_keys es)) k left h.known;
+        held = λ i d l. rw (time (node_of (get_or left i d))) (let held = h.held (suc i) d (omega arith) in grind arith);
+        has_times = λ st hs. rw is (write-fits st times (node_of k) k.time (h.has_times st hs));
+      }
+
+  pub all-scheduled : IsScheduledBut g old times [] → list_all has_schedule_alone (events g.state) ≡ true → All (HasItsTime g.network g.state times) (live_keys (events g.state))
+  all-scheduled h alone = λ i d l.
+      let keys = live_keys (events g.state) in
+      let k = get_or keys i d in
+      let there = All-contains_itself keys i d l in
+      elim (h.stored k there) [ inl none ↦ absurd (let l = none.1 in omega arith) | inr done ↦ done ∙ ap Some (sym (key-scheduled g.network g.state valid alone k there)) ]
 
 -- ---- the events train by train
 

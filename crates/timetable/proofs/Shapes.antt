@@ -1,6 +1,6 @@
 -- What a message leaves of the events that changes the calls of a train, or which of its events take place.
 use Rattle.timetable.proofs.Words.{◌≡◌, ℕ, suc, ◌+◌, ◌*◌, ◌<◌, ◌≤◌, true, nat_eq, nat_le, nat_lt, List, [], ◌∷◌, ◌++◌, Option, Some, None, map, length, length-append, slice_get}
-use Rattle.timetable.proofs.Words.{Vec, Global, vec_len, vec_capacity, refl, sym, ◌∙◌, ap, arith, inl, inr, ◌⊎◌, ◌≢◌, option_map_or, All, Contains, and_parts, not-false}
+use Rattle.timetable.proofs.Words.{refl, sym, ◌∙◌, ap, arith, inl, inr, ◌⊎◌, ◌≢◌, option_map_or, All, Contains, and_parts, not-false}
 use Rattle.timetable.proofs.Words.{ltb-false, leb-true, map-append, append-nil, All-contains, Contains-append_left, Contains-append_right, Contains-append_cases, filter-append}
 use Rattle.timetable.proofs.Words.{length-filter, count_by-le-length, slice_get_within, Node, NewCall, node_of, Network, Cancel, Reroute, Extra}
 use Rattle.timetable.proofs.Words.{Call, Train, State, Event, effect, change_train, change_calls, kill_in, stretch, new_calls, new_train, rerouted, begin_run, end_run, events}
@@ -19,7 +19,7 @@ use Rattle.state_laws.proofs.Cancels.{kill_at}
 use Rattle.state_laws.proofs.Extras.{IsFreshCall, made, new-fresh}
 use Rattle.state_laws.proofs.Swapped.{swap-of}
 use Rattle.train_nodes.proofs.TimeLemmas.{pushed-old, pushed-new, added-old, added-new}
-use Rattle.timetable.proofs.Sized.{next_of, sized-trains, sized-at, sized-push, sized-more, labels-kept}
+use Rattle.timetable.proofs.{Sized.next_of, Sized.sized-trains, Sized.sized-at, Sized.sized-push, Sized.sized-more, Sized.labels-kept}
 
 -- an event that a message makes: there was none of its name, and a time that no event has is kept for it
 pub record IsMade (es : List Event) (times : StoredTimes) (w : Event) : Type 0 where
@@ -222,9 +222,3 @@ room-for nw st (Shapes.Extra n day route calls) times well h has =
     let train = eqb-false st.spare_trains 0 (refused-none (nat_eq st.spare_trains 0) (Full Trains) both.0) in
     let enough = spare-of st.spare_calls (length calls.now) both.1 in
     (omega (arith, has.spare_trains), omega (arith, well.0), omega (arith, has.spare_calls))
-
--- part of a listing of live events
-pub record IsLiveListed (room : ℕ) (all left : List Event) (list : Vec Node Global) : Type 0 where
-  pub whole : list.items ++ map node_of (live_keys left) ≡ map node_of (live_keys all)
-  pub fits : vec_len list + length (live_keys left) ≤ vec_capacity list
-  pub capacity : vec_capacity list ≡ room

@@ -23,15 +23,6 @@ sized-trains st k sized =
 pub sized-at : (st : State) (k : StoredTimes) (n : ℕ) (t : Train) → AreSized (next_labels st) k → slice_get st.trains n ≡ Some t → option_map length (slice_get k.trains n) ≡ Some (2 * t.next_label)
 sized-at st k n t sized got = grind (arith, slice_get-map length k.trains n, slice_get-map twice (next_labels st) n, slice_get-map next_of st.trains n)
 
--- a write of one time changes no number of times
-lengths-set : (n p x : ℕ) (xss : List (List ℕ)) → map length (change_at n (λ xs. set xs p x) xss) ≡ map length xss
-lengths-set n p x [] = refl
-lengths-set zero p x (xs ∷ xss) = rw length-set refl
-lengths-set (suc n) p x (xs ∷ xss) = rw (lengths-set n p x xss) refl
-
-pub write-fits : (st : State) (k : StoredTimes) (n : Node) (x : ℕ) → HasTimesFor st k → HasTimesFor st (with_time n x k)
-write-fits st k n x h = record { sized = lengths-set n.train (place_of n) x k.trains ∙ h.sized; spare_trains = h.spare_trains; spare_calls = h.spare_calls }
-
 -- a train more, or labels more of a train
 pub sized-push : (labels : List ℕ) (k : StoredTimes) (more : ℕ) → AreSized labels k → AreSized (labels ++ more ∷ []) (with_train_times more k)
 sized-push labels k more sized = rw (map-append, sized, length-blank, map-append) refl

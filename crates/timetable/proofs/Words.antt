@@ -45,11 +45,19 @@ pub use Rattle.edge_rules.specs.AtStops.{AreAtStops, IsAtStop}
 unfoldable pub use Rattle.timetable.specs.Changed.{changed_nodes}
 pub use Rattle.timetable.specs.Changed.{AreInOrder, IsChangedEvent, is_changed}
 unfoldable pub use Rattle.timetable.specs.Departures.{live_departures}
-pub use Rattle.timetable.specs.Departures.{AreListed, IsDeparture, IsRetimed, departing, departing_at, departure_cmp, departures_from, is_departure, stored_departure}
+pub use Rattle.timetable.specs.Departures.{AreListed, IsDeparture, departing, departing_at, departure_cmp, departures_from, is_departure, stored_departure}
 pub use Rattle.timetable.specs.Departures.{leaves_before}
+unfoldable pub use Rattle.timetable.specs.Moved.{with_times}
+pub use Rattle.timetable.specs.Moved.{AreRetimed, departing_then, departs, is_live_departure, is_of_one, retimed_events}
 pub use Rattle.timetable.specs.LiveTimes.{live_event, live_keys, live_time}
 pub use Rattle.timetable.specs.Running.{Running}
-pub use Rattle.timetable.specs.Settled.{HasItsTime, HasTimesFor, IsOrderOf, IsRoomy, IsSettled, has_another, next_labels}
+pub use Rattle.timetable.specs.Settled.{HasItsTime, HasTimesFor, IsRoomy, IsSettled, most_live}
 pub use Rattle.timetable.specs.Shapes.{HasRoomFor, IsPrepared, with_made}
-pub use Rattle.timetable.specs.Sorted.{in_order, placed}
+pub use Rattle.propagate.specs.Sorted.{in_order, placed}
 pub use Rattle.timetable.specs.declared.departure_list.Departure.{Departure}
+pub use Rattle.propagate.specs.LiveKeys.{IsOrderOf, has_another, key_order, retimed_at}
+pub use Rattle.propagate.specs.TimesFor.{next_labels}
+pub use Rattle.rank_order.specs.Marked.{Marked, is_marked}
+pub use Rattle.timetable.specs.Marking.{AreMarksOf, AreUnsettled, IsMarkedBefore, IsStep, IsStepped}
+pub use Rattle.propagate.specs.Unsettled.{AreStored}
+pub use Rattle.propagate.specs.declared.retimed.Retimed.{Retimed}

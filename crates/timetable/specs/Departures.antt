@@ -1,5 +1,5 @@
 -- The live departures of a state, each with its time, in the order of their times.
-use Rattle.std.specs.Prelude.{◌≡◌, ℕ, List, ◌∷◌, ◌++◌, Bool, true, nat_le, Contains, filter, map}
+use Rattle.std.specs.Prelude.{◌≡◌, ℕ, List, Bool, true, nat_le, Contains, filter, map}
 use Rattle.std.specs.List.{AllPairs}
 use Rattle.std.specs.List.Sorted.{IsPermutation}
 use Rattle.std.specs.declared.cmp.Ordering.{Ordering}
@@ -15,7 +15,7 @@ use Rattle.train_nodes.specs.Times.{StoredTimes}
 use Rattle.edge_rules.specs.AtEvent.{stored_time}
 use Rattle.timetable.specs.declared.departure_list.Departure.{Departure}
 use Rattle.timetable.specs.LiveTimes.{live_keys}
-use Rattle.timetable.specs.Sorted.{in_order}
+use Rattle.propagate.specs.Sorted.{in_order}
 
 -- departures are ordered by their times, and at one time by their keys
 abbrev pub departure_cmp : Departure → Departure → Ordering
@@ -48,14 +48,6 @@ is_departure k = k.dep
 pub record AreListed (times : StoredTimes) (keys : List Key) (ds : List Departure) : Type 0 where
   pub moved : IsPermutation (map (stored_departure times) (filter is_departure keys)) ds
   pub ascends : AreInOrder ds
-
--- a departure took another's place among departures, and then its own in their order
-pub record IsRetimed (was is : Departure) (old new : List Departure) : Type 0 where
-  pub before : List Departure
-  pub after : List Departure
-  pub whole : old ≡ before ++ was ∷ after
-  pub moved : IsPermutation (before ++ is ∷ after) new
-  pub ascends : AreInOrder new
 
 -- the live departures of a state, in their order
 unfoldable pub live_departures : Network → State → List Departure

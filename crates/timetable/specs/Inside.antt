@@ -1,9 +1,9 @@
 -- How a timetable is seen, and what holds of it.
-use Rattle.std.specs.Prelude.{◌≡◌, ◌+◌, ◌*◌, ◌≤◌, length, vec_capacity}
+use Rattle.std.specs.Prelude.{◌≡◌, [], vec_capacity}
 use Rattle.timetable.specs.declared.timetable.Timetable.TheInside.{Inside}
 use Rattle.timetable.specs.Departures.{live_departures}
 use Rattle.timetable.specs.Running.{Running}
-use Rattle.timetable.specs.Settled.{IsSettled, IsRoomy}
+use Rattle.timetable.specs.Settled.{IsSettled, IsRoomy, most_live}
 
 abbrev pub seen : Inside → Running
 seen a = record {
@@ -13,11 +13,11 @@ seen a = record {
   changed = a.changed.items;
 }
 
--- the times of the live events are stored, the live departures are listed, and there is room for the
--- events that messages may add
+-- the times of the live events are stored, the live departures are listed, no event is marked, and
+-- there is room for all events that can be live
 pub record IsTimed (a : Inside) : Type 0 where
-  pub settled : IsSettled a.graph.network a.graph.state a.times a.order.items
-  pub roomy : IsRoomy (length a.order.items) a.graph.state.spare_calls (vec_capacity a.order)
-      (vec_capacity a.changed)
+  pub settled : IsSettled a.graph.network a.graph.state a.times
   pub departures : a.departures.items ≡ live_departures a.graph.network a.graph.state
-  pub room : length a.order.items + 2 * a.graph.state.spare_calls ≤ vec_capacity a.departures
+  pub unmarked : a.marks.keys ≡ []
+  pub roomy : IsRoomy (most_live a.graph.state) (vec_capacity a.changed) a.marks.room
+      (vec_capacity a.retimed) (vec_capacity a.departures)

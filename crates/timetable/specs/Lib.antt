@@ -1,9 +1,11 @@
 pub mod Running
 pub mod LiveTimes
-pub mod Sorted
 pub mod Changed
 pub mod Departures
+pub mod Moved
 pub mod Settled
 pub mod Inside
 pub mod Shapes
 pub mod Scheduled
+pub mod Marking
+pub mod Emptied

@@ -1,18 +1,22 @@
 //! The live departures in the order of their times.
 
-ghost use Rattle.std.specs.Prelude.{◌≡◌, ◌+◌, ◌≤◌, ◌++◌, ◌∷◌, [], true, None, IsTrue, All, drop, filter, length, map, nat_le, vec_len, vec_capacity};
+ghost use Rattle.std.specs.Prelude.{◌≡◌, ◌≤◌, [], IsTrue, All, filter, length, nat_le, vec_capacity};
 ghost use Rattle.std.specs.Iterator.{YieldsFirst, item_count};
-ghost use Rattle.std.specs.List.{AllPairs};
 ghost use Rattle.std.specs.List.Sorted.{IsNonDecreasingBy};
-ghost use Rattle.mt_base.specs.Order.{is_before, node_of};
+ghost use Rattle.mt_base.specs.Order.{node_of};
+ghost use Rattle.delay_model.specs.Events.{events};
+ghost use Rattle.delay_model.specs.Valid.{IsTrain};
 ghost use Rattle.train_nodes.specs.Times.{has_time};
-ghost use Rattle.timetable.specs.Departures.{AreListed, is_departure, stored_departure, leaves_before};
+ghost use Rattle.timetable.specs.Departures.{AreListed, leaves_before};
+ghost use Rattle.timetable.specs.LiveTimes.{live_keys};
+ghost use Rattle.timetable.specs.Moved.{is_live_departure};
 
-use mt_base::keys::Key;
+use crate::events::live_keys;
+use mt_base::keys::{Key, Node};
 use mt_base::numbers::Time;
 use std::marker::Model;
 use std::sync::ledger::Ledger;
-use train_nodes::{NodeTimes, Steps};
+use train_nodes::{NodeTimes, Steps, Trains};
 
 /// A live departure with its time. Departures are ordered by their times, and at one time by their
 /// keys.
@@ -76,42 +80,40 @@ pub(crate) fn departures_from(departures: &[Departure], from: Time) -> Departure
     }
 }
 
-/// Adds the departures among these events, each at the time that is stored for it.
-fn push_departures<L: Ledger>(
+/// Lists the live departures, each at the time that is stored for it, in their order. None were
+/// listed.
+pub(crate) fn list_departures<L: Ledger>(
     departures: &mut Vec<Departure>,
-    order: &[Key],
+    trains: &Trains,
     times: &NodeTimes,
     steps: &mut Steps<L>,
 )
-    requires held { All (λ k. IsTrue (has_time times.now (node_of k))) order.now }
-    requires room { vec_len departures.old + length order.now ≤ vec_capacity departures.old }
-    ensures departures { departures.new.items ≡ departures.old.items
-        ++ map (stored_departure times.now) (filter is_departure order.now) }
-    ensures capacity { vec_capacity departures.new ≡ vec_capacity departures.old }
-{
-    for k in order {
-        if k.dep {
-            let time = times.read(k.node(), steps);
-            departures.push_reserved(Departure { time, key: *k });
-        }
-    }
-}
-
-/// Puts the departures among these events, which are in the order of their keys, in place of those
-/// that were listed.
-pub(crate) fn renew_departures<L: Ledger>(
-    departures: &mut Vec<Departure>,
-    order: &[Key],
-    times: &NodeTimes,
-    steps: &mut Steps<L>,
-)
-    requires held { All (λ k. IsTrue (has_time times.now (node_of k))) order.now }
-    requires order { AllPairs (λ a b. is_before a b ≡ true) order.now }
-    requires room { length order.now ≤ vec_capacity departures.old }
-    ensures departures { AreListed times.now order.now departures.new.items }
+    requires trains { All IsTrain trains.now.trains }
+    requires held { All (λ k. IsTrue (has_time times.now (node_of k)))
+        (live_keys (events trains.now)) }
+    requires none { departures.old.items ≡ [] }
+    requires room { length (live_keys (events trains.now)) ≤ vec_capacity departures.old }
+    ensures departures { AreListed times.now (live_keys (events trains.now)) departures.new.items }
     ensures capacity { vec_capacity departures.old ≤ vec_capacity departures.new }
 {
-    departures.clear();
-    push_departures(departures, order, times, steps);
+    for k in live_keys(trains) {
+        if k.dep {
+            let time = times.read(k.node(), steps);
+            departures.push_reserved(Departure { time, key: k });
+        }
+    }
     departures.sort_unstable();
+}
+
+/// Takes the departures off that are live no longer. There are none where no event is gone.
+pub(crate) fn leave_live(departures: &mut Vec<Departure>, gone: &[Node], trains: &Trains)
+    requires { gone.now ≡ [] → All (λ d. IsTrue (is_live_departure trains.now d))
+        departures.old.items }
+    ensures live { departures.new.items ≡ filter (is_live_departure trains.now)
+        departures.old.items }
+    ensures capacity { vec_capacity departures.new ≡ vec_capacity departures.old }
+{
+    if !gone.is_empty() {
+        departures.retain(|d| trains.live(d.key.node()));
+    }
 }

@@ -1,89 +1,102 @@
-//! The live events of trains in the order of their keys.
+//! The keys of the live events of trains.
 
-ghost use Rattle.std.specs.Prelude.{◌≡◌, ◌+◌, ◌*◌, ◌<◌, ◌≤◌, ◌++◌, All, IfOk, OnOk, OnErr, length, vec_len, vec_capacity};
-ghost use Rattle.delay_model.specs.Events.{events, train_events};
-ghost use Rattle.delay_model.specs.Valid.{IsTrain};
+ghost use Rattle.std.specs.Prelude.{◌≡◌, ◌≤◌, IfOk, IfSome, IfNone, [], ◌∷◌, length};
+ghost use Rattle.std.specs.Iterator.{YieldsFirst, item_count};
+ghost use Rattle.delay_model.specs.Events.{events};
 ghost use Rattle.timetable.specs.LiveTimes.{live_keys};
-ghost use Rattle.timetable.specs.Settled.{IsOrderOf};
 
 use mt_base::keys::Key;
 use mt_base::memory::OutOfMemory;
 use mt_base::numbers::TrainNo;
 use std::alloc::Global;
-use train_nodes::Trains;
+use std::marker::Model;
+use train_nodes::{TrainEvents, Trains};
 
-/// Adds the keys of a train's live events, in the train's order. It fails only where there is no
-/// room for them.
-pub(crate) fn push_keys(
-    keys: &mut Vec<Key>,
-    trains: &Trains,
-    train: TrainNo,
-) -> Result<(), OutOfMemory>
-    ensures keys { OnOk result (keys.new.items ≡ keys.old.items ++ live_keys
-        (train_events trains.now train)) }
-    ensures full { OnErr result (vec_capacity keys.old < vec_len keys.old
-        + length (live_keys (train_events trains.now train))) }
-    ensures capacity { vec_capacity keys.old ≤ vec_capacity keys.new }
+/// The keys of the live events, train by train. It is seen as the list of those that are still to
+/// come.
+#[derive(Drop)]
+pub(crate) struct LiveKeys<'a> {
+    trains: &'a Trains,
+    /// The events of a train that are still to come.
+    events: TrainEvents<'a>,
+    /// The number of the train after that one.
+    next: u32,
+}
+
+impl<'a> Model for LiveKeys<'a> {
+    ghost use Rattle.std.specs.Prelude.{List, ◌++◌, drop};
+    ghost use Rattle.mt_base.specs.declared.keys.Key.{Key as AKey};
+    ghost use Rattle.delay_model.specs.Events.{events_from};
+    ghost use Rattle.timetable.specs.LiveTimes.{live_keys};
+
+    ghost Value = { List AKey };
+
+    ghost view = { λ a. live_keys a.events
+        ++ live_keys (events_from a.next (drop a.next a.trains.now.trains)) };
+}
+
+impl<'a> Iterator for LiveKeys<'a> {
+    type Item = Key;
+
+    ghost next_gives = { YieldsFirst (λ s. s) };
+
+    ghost remaining = { item_count (λ s. s) };
+
+    fn next(&mut self) -> Option<Key> {
+        let mut key = next_live(&mut self.events);
+        while key.is_none() && self.next < self.trains.count() {
+            self.events = self.trains.events(TrainNo::new(self.next));
+            self.next += 1;
+            key = next_live(&mut self.events);
+        }
+        key
+    }
+}
+
+/// The key of the first live event among these, which are then those after it.
+fn next_live(events: &mut TrainEvents<'_>) -> Option<Key>
+    ensures some { IfSome result (λ k. live_keys events.old ≡ k ∷ live_keys events.new) }
+    ensures none { IfNone result (live_keys events.old ≡ []) }
+    ensures left { IfNone result (live_keys events.new ≡ []) }
 {
-    for event in trains.events(train) {
+    while let Some(event) = events.next() {
         if event.live {
-            keys.push(event.key)?;
+            return Some(event.key);
         }
     }
-    Ok(())
+    None
 }
 
-/// Adds the keys of all live events, train by train. It fails only where there is no room for them.
-fn list_keys(keys: &mut Vec<Key>, trains: &Trains) -> Result<(), OutOfMemory>
-    ensures keys { OnOk result (keys.new.items ≡ keys.old.items ++ live_keys (events trains.now)) }
-    ensures full { OnErr result (vec_capacity keys.old < vec_len keys.old
-        + length (live_keys (events trains.now))) }
-    ensures capacity { vec_capacity keys.old ≤ vec_capacity keys.new }
+/// The keys of all live events, train by train.
+pub(crate) fn live_keys(trains: &Trains) -> LiveKeys<'_>
+    ensures { result ≡ live_keys (events trains.now) }
 {
-    for number in 0..trains.count() {
-        push_keys(keys, trains, TrainNo::new(number))?;
+    LiveKeys {
+        trains,
+        events: trains.events(TrainNo::new(0)),
+        next: 1,
     }
-    Ok(())
 }
 
-/// How many events the trains have, counted by their labels: room for so many keys is taken at
-/// once, and not by doubling.
-fn event_room(trains: &Trains) -> usize {
-    let mut room: usize = 0;
-    for number in 0..trains.count() {
-        let labels = trains.next_label(TrainNo::new(number));
-        room = room.saturating_add(2 * labels.get() as usize);
+/// How many events are live.
+pub(crate) fn count_live(trains: &Trains) -> u32
+    requires { length (events trains.now) ≤ 2097152 }
+    ensures { result ≡ length (live_keys (events trains.now)) }
+{
+    let mut count: u32 = 0;
+    for _ in live_keys(trains) {
+        count += 1;
     }
-    room
+    count
 }
 
-/// The keys of the live events, in the order in which they are settled, with room for those that
-/// the spare calls may add.
-pub(crate) fn key_order(alloc: Global, trains: &Trains) -> Result<Vec<Key>, OutOfMemory>
-    requires trains { All IsTrain trains.now.trains }
-    ensures order { IfOk result (λ order. IsOrderOf (events trains.now) order.items) }
-    ensures room { IfOk result (λ order. length order.items + 2 * trains.now.spare_calls
-        ≤ vec_capacity order) }
+/// A list of the keys of all live events, train by train.
+pub(crate) fn list_keys(alloc: Global, trains: &Trains) -> Result<Vec<Key>, OutOfMemory>
+    ensures { IfOk result (λ keys. keys.items ≡ live_keys (events trains.now)) }
 {
-    let spare = 2 * trains.spare_calls() as usize;
-    let mut order = Vec::with_capacity(alloc, event_room(trains).saturating_add(spare))?;
-    list_keys(&mut order, trains)?;
-    order.sort_unstable();
-    order.reserve(spare)?;
-    Ok(order)
-}
-
-/// Puts the keys of the live events in place of those that were in an order, which has room for
-/// them.
-pub(crate) fn renew_order(order: &mut Vec<Key>, trains: &Trains)
-    requires trains { All IsTrain trains.now.trains }
-    requires room { length (live_keys (events trains.now)) ≤ vec_capacity order.old }
-    ensures order { IsOrderOf (events trains.now) order.new.items }
-    ensures capacity { vec_capacity order.old ≤ vec_capacity order.new }
-{
-    order.clear();
-    let Ok(()) = list_keys(order, trains) else {
-        unreachable!()
-    };
-    order.sort_unstable();
+    let mut keys = Vec::new(alloc);
+    for k in live_keys(trains) {
+        keys.push(k)?;
+    }
+    Ok(keys)
 }

@@ -1,16 +1,20 @@
 //! The whole state of the trains with the time of every event.
 //!
-//! After each accepted message the rule is evaluated at every live event.
+//! After each accepted message the rule is evaluated where the message may change a time, and
+//! nowhere else.
 #![tactic(auto)]
 
 mod departure_list;
 mod events;
 pub mod laws;
+mod leaving;
+mod lists;
+mod loading;
+mod marking;
 mod messages;
 mod prepare;
 mod retiming;
 mod scheduled;
-mod settle;
 pub mod timetable;
 
 pub use departure_list::{Departure, Departures};

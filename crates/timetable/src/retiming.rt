@@ -1,13 +1,13 @@
 //! Departures moved to their places at other times.
 
-ghost use Rattle.std.specs.Prelude.{◌≡◌, ◌≢◌, ◌<◌, ◌≤◌, true, false, All, Contains, length, slice_set};
+ghost use Rattle.std.specs.Prelude.{◌≡◌, ◌<◌, ◌≤◌, ◌∷◌, [], true, false, length, slice_set, vec_capacity};
 ghost use Rattle.std.specs.List.{insert};
 ghost use Rattle.std.specs.List.Sorted.{IsPartitionPoint, IsPermutation};
-ghost use Rattle.timetable.specs.Departures.{AreInOrder, IsRetimed, departing_at, leaves_before};
+ghost use Rattle.timetable.specs.Departures.{AreInOrder, leaves_before};
+ghost use Rattle.timetable.specs.Moved.{AreRetimed, with_times};
 
 use crate::departure_list::Departure;
-use mt_base::keys::Key;
-use mt_base::numbers::Time;
+use propagate::Retimed;
 
 /// How many of these departures, which are in their order, leave before this one.
 fn count_before(departures: &[Departure], departure: &Departure) -> usize
@@ -37,36 +37,47 @@ fn replace(departures: &mut [Departure], from: usize, to: usize, departure: Depa
     }
 }
 
-/// Gives the departure of a key another time, and moves it past as many others as it then has to
-/// pass, if these are fewer than `reach`. It answers what is left of the reach: 0 where the
-/// departures may be no longer in their order. An arrival moves nothing.
-pub(crate) fn retime(
-    departures: &mut [Departure],
-    k: &Key,
-    was: Time,
-    is: Time,
-    reach: usize,
-) -> usize
-    requires order { 0 < reach → AreInOrder departures.old }
-    requires there { 0 < reach → k.now.dep ≡ true
-        → Contains departures.old (departing_at was k.now) }
-    requires others { 0 < reach → k.now.dep ≡ true
-        → All (λ d. departing_at is k.now ≢ d) departures.old }
-    ensures reach { 0 < result → 0 < reach }
-    ensures retimed { 0 < result → k.now.dep ≡ true → IsRetimed (departing_at was k.now)
-        (departing_at is k.now) departures.old departures.new }
-    ensures arrival { k.now.dep ≡ false → departures.new ≡ departures.old }
+/// Moves a departure that gets another time to its place, or puts it there if it was not listed.
+fn move_departure(departures: &mut Vec<Departure>, one: &Retimed)
+    requires departs { one.now.key.dep ≡ true }
+    requires retimed { AreRetimed (one.now ∷ []) departures.old.items }
+    requires room { length (with_times (one.now ∷ []) departures.old.items)
+        ≤ vec_capacity departures.old }
+    ensures departures { departures.new.items ≡ with_times (one.now ∷ []) departures.old.items }
+    ensures capacity { vec_capacity departures.old ≤ vec_capacity departures.new }
 {
-    if !k.dep || reach == 0 {
-        return reach;
-    }
-    let departure = Departure { time: is, key: *k };
-    let from = count_before(departures, &Departure { time: was, key: *k });
+    let departure = Departure {
+        time: one.is,
+        key: one.key,
+    };
+    let from = count_before(
+        departures,
+        &Departure {
+            time: one.was,
+            key: one.key,
+        },
+    );
     let to = count_before(departures, &departure);
-    let passed = from.abs_diff(to);
-    if reach <= passed {
-        return 0;
+    if from < departures.len() && departures[from].key.is_same(&one.key) {
+        replace(departures, from, to, departure);
+    } else {
+        // There is room, so that it succeeds.
+        let _ = departures.insert(to, departure);
     }
-    replace(departures, from, to, departure);
-    reach - passed
+}
+
+/// Moves the departures among events that get other times to their places, and puts those there
+/// that were not listed. It takes no memory.
+pub(crate) fn move_departures(departures: &mut Vec<Departure>, retimed: &[Retimed])
+    requires retimed { AreRetimed retimed.now departures.old.items }
+    requires room { length (with_times retimed.now departures.old.items)
+        ≤ vec_capacity departures.old }
+    ensures departures { departures.new.items ≡ with_times retimed.now departures.old.items }
+    ensures capacity { vec_capacity departures.old ≤ vec_capacity departures.new }
+{
+    for one in retimed {
+        if one.key.dep {
+            move_departure(departures, one);
+        }
+    }
 }

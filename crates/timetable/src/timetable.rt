@@ -9,22 +9,30 @@ ghost use Rattle.waiting_rules.specs.WaitTable.{parent_station};
 ghost use Rattle.edge_rules.specs.Held.{network_of};
 ghost use Rattle.graph_edit.specs.Values.{Answers};
 ghost use Rattle.edge_rules.specs.AtStops.{AreAtStops};
+ghost use Rattle.propagate.specs.Reads.{reads_of};
 ghost use Rattle.timetable.specs.Departures.{departures_from};
+ghost use Rattle.timetable.specs.Emptied.{AreEmpty};
 ghost use Rattle.timetable.specs.LiveTimes.{live_time};
 ghost use Rattle.timetable.specs.Running.{stepped};
+ghost use Rattle.timetable.specs.Settled.{HasTimesFor, most_live};
 
-use crate::departure_list::{Departure, Departures, departures_from};
-use crate::events::key_order;
+use crate::departure_list::{Departure, Departures, departures_from, leave_live};
+use crate::events::count_live;
+use crate::lists::{Lists, copy_lists, empty_lists};
+use crate::loading::settle_all;
+use crate::marking::{mark_after, mark_before};
 use crate::messages::check;
-use crate::prepare::prepare;
-use crate::settle::{settle, settle_all};
+use crate::prepare::{apply, push_names};
+use crate::retiming::move_departures;
 use change_times::Changes;
 use delay_model::messages::Refusal;
 use edge_rules::Graph;
-use mt_base::keys::{Key, Node};
+use mt_base::keys::Node;
 use mt_base::memory::OutOfMemory;
 use mt_base::numbers::Time;
 use mt_base::options::Opts;
+use propagate::{Retimed, settle};
+use rank_order::Marks;
 use std::alloc::Global;
 use std::marker::{Brand, Model};
 use std::sync::ledger::{Blank, Ledger};
@@ -37,14 +45,16 @@ use waiting_rules::Waits;
 pub struct Timetable {
     graph: Graph,
     times: NodeTimes,
-    /// The keys of the live events, in the order in which they are settled. It has room for those
-    /// that the spare calls may add.
-    order: Vec<Key>,
     count: u64,
-    /// The events that the last accepted message changed. It has room for twice as many as the
-    /// order.
+    /// The events that the last accepted message changed. It has room for twice as many as can be
+    /// live.
     changed: Vec<Node>,
-    /// The live departures. It has room for as many as the order.
+    /// The events that are to be settled: none between messages. All that can be live can be marked.
+    marks: Marks,
+    /// The events to which the last accepted message gave other times, with these. It has room for
+    /// as many as can be live.
+    retimed: Vec<Retimed>,
+    /// The live departures. It has room for as many as can be live.
     departures: Vec<Departure>,
 }
 
@@ -60,16 +70,6 @@ impl Model for Timetable {
     ghost view = { seen };
 
     ghost invariant = { IsTimed };
-}
-
-/// A copy of these items, with room for so many in all.
-fn copy_with_room<T: Copy>(alloc: Global, items: &[T], room: usize) -> Result<Vec<T>, OutOfMemory>
-    ensures items { IfOk result (λ all. all.items ≡ items.now) }
-    ensures room { IfOk result (λ all. room ≤ vec_capacity all) }
-{
-    let mut all = Vec::with_capacity(alloc, room)?;
-    all.extend_from_slice(items)?;
-    Ok(all)
 }
 
 impl Timetable {
@@ -95,20 +95,48 @@ impl Timetable {
         }) }
     {
         let graph = Graph::build(alloc, trains, changes, waits, opts)?;
-        let all = graph.trains();
-        let mut times = all.blank_times(alloc)?;
-        let order = key_order(alloc, all)?;
-        let room = order.len() + 2 * all.spare_calls() as usize;
-        let changed = Vec::with_capacity(alloc, 2 * room)?;
-        let mut departures = Vec::with_capacity(alloc, room)?;
-        settle_all::<Brand>(&graph, &order, &mut times, &mut departures, Blank::new(1));
+        let times = graph.trains().blank_times(alloc)?;
+        let room = count_live(graph.trains()) + 2 * graph.trains().spare_calls();
+        let lists = empty_lists(alloc, room)?;
+        Timetable::load(alloc, graph, times, lists)
+    }
+
+    /// The timetable over this graph, where no time is stored yet and nothing is listed.
+    fn load(
+        alloc: Global,
+        graph: Graph,
+        times: NodeTimes,
+        lists: Lists,
+    ) -> Result<Timetable, OutOfMemory>
+        requires valid { IsValid graph.network graph.state }
+        requires has_times { HasTimesFor graph.state times }
+        requires empty { AreEmpty (most_live graph.state) lists }
+        ensures { IfOk result (λ t. t ≡ record {
+          network = graph.network;
+          state = graph.state;
+          count = 0;
+          changed = [];
+        }) }
+    {
+        let mut times = times;
+        let mut lists = lists;
+        settle_all::<Brand>(
+            alloc,
+            &graph,
+            &mut times,
+            &mut lists.marks,
+            &mut lists.retimed,
+            &mut lists.departures,
+            Blank::new(1),
+        )?;
         Ok(Timetable {
             graph,
             times,
-            order,
             count: 0,
-            changed,
-            departures,
+            changed: lists.changed,
+            marks: lists.marks,
+            retimed: lists.retimed,
+            departures: lists.departures,
         })
     }
 
@@ -116,13 +144,23 @@ impl Timetable {
     pub fn copy(&self, alloc: Global) -> Result<Timetable, OutOfMemory>
         ensures { IfOk result (λ copy. copy ≡ self.now) }
     {
+        let graph = self.graph.copy(alloc)?;
+        let times = self.times.copy(alloc)?;
+        let lists = copy_lists(
+            alloc,
+            &self.changed,
+            &self.marks,
+            &self.retimed,
+            &self.departures,
+        )?;
         Ok(Timetable {
-            graph: self.graph.copy(alloc)?,
-            times: self.times.copy(alloc)?,
-            order: copy_with_room(alloc, &self.order, self.order.capacity())?,
+            graph,
+            times,
             count: self.count,
-            changed: copy_with_room(alloc, &self.changed, self.changed.capacity())?,
-            departures: copy_with_room(alloc, &self.departures, self.departures.capacity())?,
+            changed: lists.changed,
+            marks: lists.marks,
+            retimed: lists.retimed,
+            departures: lists.departures,
         })
     }
 
@@ -144,23 +182,25 @@ impl Timetable {
         ensures effect { IfOk result (λ _. self.new ≡ stepped self.old m.now) }
         ensures changed { IfOk result (λ n. n ≡ changed_count self.old.network self.old.state
             m.now) }
+        ensures cost { IfOk result (λ _. steps.new ≤ steps.old
+            + reads_of self.old.network self.old.state m.now) }
+        ensures no_steps { IfErr result (λ _. steps.new ≡ steps.old) }
     {
-        let same_events = prepare(
-            &mut self.graph,
-            &mut self.times,
-            &mut self.order,
-            &mut self.changed,
-            m,
-        )?;
+        check(&self.graph, m)?;
+        mark_before(&self.graph, m, &mut self.changed, &mut self.marks);
+        apply(&mut self.graph, &mut self.times, m);
+        mark_after(&self.graph, m, &mut self.marks);
+        self.retimed.clear();
         settle(
             &self.graph,
-            &self.order,
             &mut self.times,
-            &mut self.changed,
-            &mut self.departures,
-            same_events,
+            &mut self.marks,
+            &mut self.retimed,
             steps,
         );
+        leave_live(&mut self.departures, &self.changed, self.graph.trains());
+        move_departures(&mut self.departures, &self.retimed);
+        push_names(&mut self.changed, &self.retimed);
         self.count = self.count.saturating_add(1);
         Ok(self.changed.len() as u64)
     }

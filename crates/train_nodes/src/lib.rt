@@ -13,7 +13,6 @@ mod optional_time;
 mod override_rows;
 mod override_table;
 mod removed;
-mod room;
 mod rows;
 mod shapes;
 mod slots;

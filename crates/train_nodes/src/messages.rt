@@ -4,9 +4,8 @@ ghost use Rattle.std.specs.Prelude.{◌≡◌, ◌<◌, ◌^◌, IfOk, length};
 ghost use Rattle.delay_model.specs.Messages.{IsWellFormed};
 ghost use Rattle.train_nodes.specs.Kinds.{HasFewCalls};
 
-use crate::room::copy_with_room;
 use delay_model::messages::Message;
-use mt_base::memory::OutOfMemory;
+use mt_base::memory::{OutOfMemory, copy_with_room};
 use mt_base::plans::NewCall;
 use mt_base::rows::Rows;
 use std::alloc::Global;

@@ -11,10 +11,9 @@ ghost use Rattle.train_nodes.specs.Removed.{names_removed};
 use crate::keeps::Keeps;
 use crate::override_rows::{End, put, rows_at, search, take_out};
 use crate::removed::RemovedEvents;
-use crate::room::copy_with_room;
 use delay_model::overrides::{Connection, Override};
 use mt_base::keys::Node;
-use mt_base::memory::OutOfMemory;
+use mt_base::memory::{OutOfMemory, copy_with_room};
 use std::alloc::Global;
 use std::marker::Model;
 

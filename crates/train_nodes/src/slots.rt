@@ -6,8 +6,7 @@ ghost use Rattle.std.specs.Option.{option_map};
 ghost use Rattle.train_nodes.specs.Numbering.{NumberedTrain, slot_of, with_numbered, with_more};
 ghost use Rattle.train_nodes.specs.StoredSlots.{added_slots, IsEntry, IsJump, IsLink, AreLinked};
 
-use crate::room::copy_with_room;
-use mt_base::memory::OutOfMemory;
+use mt_base::memory::{OutOfMemory, copy_with_room};
 use mt_base::numbers::{Label, TrainNo};
 use std::alloc::{AllocError, Global};
 use std::marker::Model;

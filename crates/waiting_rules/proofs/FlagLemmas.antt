@@ -14,7 +14,7 @@ use Rattle.waiting_rules.specs.Bounded.{ArePartsOf, IsPartOf}
 use Rattle.waiting_rules.specs.Rules.{has_wait, makes_wait}
 use Rattle.waiting_rules.specs.Scopes.{connecting_cmp, connecting_of, is_connecting, all_connecting}
 use Rattle.waiting_rules.specs.Waiting.{names_stop, names_none, flag_at, AreFlags, HasFlags, HasWaiting, in_waiting}
-use Rattle.waiting_rules.specs.WaitTable.{station_in, some_waits}
+use Rattle.waiting_rules.specs.WaitTable.{station_in, some_waits, may_wait}
 use Rattle.waiting_rules.proofs.Anys.{any-swapped, any-either, none-weaker}
 use Rattle.waiting_rules.proofs.FitLemmas.{six-connecting}
 use Rattle.waiting_rules.proofs.Orders.{connecting_laws}
@@ -67,8 +67,8 @@ or-end true = refl
 or-end false = refl
 
 -- where the flags are those of the locations that rules name, or all are set, they tell where no train waits
-pub flags-are : (parents : List (Option ℕ)) (rules : List RuleRow) (named flags : List Bool) → AreFlags parents named flags → ((stop : ℕ) → stop < length named → get_or named stop false ≡ (list_any names_none rules || list_any (names_stop stop) rules)) → HasFlags parents rules flags
-flags-are parents rules named flags h is = λ route stop e.
+flags-none : (parents : List (Option ℕ)) (rules : List RuleRow) (named flags : List Bool) → AreFlags parents named flags → ((stop : ℕ) → stop < length named → get_or named stop false ≡ (list_any names_none rules || list_any (names_stop stop) rules)) → (route stop : ℕ) → flag_at flags stop ≡ false → some_waits (record { parents = parents; rules = rules }) route stop ≡ false
+flags-none parents rules named flags h is = λ route stop e.
     let here = slice-none flags stop e in
     let l : stop < length named = omega (arith, here.0, h.count) in
     let two = parts-none _ _ (sym (h.each stop l) ∙ here.1 true) in
@@ -79,6 +79,36 @@ flags-are parents rules named flags h is = λ route stop e.
     (λ rule. by-field (has_wait rule) (is_empty_or rule.connecting route) rule.stop stop (station_in parents stop)) rules
     (any-either names_none (λ rule. names_stop stop rule || names_stop (station_in parents stop) rule) rules
     ∙ either-none _ _ first.0 (any-either (names_stop stop) (names_stop (station_in parents stop)) rules ∙ either-none _ _ first.1 second.1))
+
+by-both : (w : Bool) (field : Option ℕ) (stop station : ℕ) → (w && (is_empty_or field stop || is_empty_or field station)) ≡ ((w && is_none field) || ((w && option_map_or (λ n. nat_eq n stop) field false) || (w && option_map_or (λ n. nat_eq n station) field false)))
+by-both false field stop station = refl
+by-both true None stop station = refl
+by-both true (Some m) stop station = refl
+
+or-shared : (a b c : Bool) → ((a || b) || (a || c)) ≡ (a || (b || c))
+or-shared true b c = refl
+or-shared false b c = refl
+
+at-flag : (flags : List Bool) (stop : ℕ) (d : Bool) → stop < length flags → flag_at flags stop ≡ get_or flags stop d
+at-flag [] stop d l = absurd (omega arith)
+at-flag (x ∷ xs) zero d l = refl
+at-flag (x ∷ xs) (suc stop) d l = at-flag xs stop d (omega arith)
+
+flags-some : (parents : List (Option ℕ)) (rules : List RuleRow) (named flags : List Bool) → AreFlags parents named flags → ((stop : ℕ) → stop < length named → get_or named stop false ≡ (list_any names_none rules || list_any (names_stop stop) rules)) → (stop : ℕ) → stop < length named → station_in parents stop < length named → flag_at flags stop ≡ may_wait (record { parents = parents; rules = rules }) stop
+flags-some parents rules named flags h is = λ stop l k.
+    let station = station_in parents stop in
+    at-flag flags stop true (omega (arith, h.count)) ∙ h.each stop l
+    ∙ (λ i. (sym (at-flag named stop true l) ∙ at-flag named stop false l ∙ is stop l) i || (at-flag named station false k ∙ is station k) i)
+    ∙ or-shared (list_any names_none rules) (list_any (names_stop stop) rules) (list_any (names_stop station) rules)
+    ∙ ap (λ b. list_any names_none rules || b) (sym (any-either (names_stop stop) (names_stop station) rules))
+    ∙ sym (any-either names_none (λ rule. names_stop stop rule || names_stop station rule) rules)
+    ∙ ap (λ t. list_any t rules) (λ i rule. sym (by-both (has_wait rule) rule.stop stop station) i)
+
+pub flags-are : (parents : List (Option ℕ)) (rules : List RuleRow) (named flags : List Bool) → AreFlags parents named flags → length named ≡ length parents → ((stop : ℕ) → stop < length named → get_or named stop false ≡ (list_any names_none rules || list_any (names_stop stop) rules)) → HasFlags parents rules flags
+flags-are parents rules named flags h count is = record {
+  none = flags-none parents rules named flags h is;
+  some = λ stop l k. flags-some parents rules named flags h is stop (omega (arith, count)) (omega (arith, count));
+}
 
 -- the trains of one more rule
 pub waiting-more : (rules : List RuleRow) (rule : RuleRow) (old new : BTreeSet Connecting) → HasWaiting rules old → ((c : Connecting) → in_waiting new c ≡ (in_waiting old c || (has_wait rule && is_connecting c rule))) → HasWaiting (rules ++ rule ∷ []) new

@@ -1,5 +1,5 @@
 -- The wait from the first rule that fits.
-use Rattle.std.proofs.Common.{Bool, ◌||◌, ◌≡◌, ◌≤◌, ℕ, true, false, List, [], ◌∷◌, All, map, Option, Some, None, unwrap_or, slice_get, nat_lt, ◌&&◌, inl, inr, refl, sym, subst, ◌∙◌, ap, arith}
+use Rattle.std.proofs.Common.{Bool, ◌||◌, ◌≡◌, ◌≤◌, ℕ, max, fold, zero, suc, true, false, List, [], ◌∷◌, All, map, Option, Some, None, unwrap_or, slice_get, nat_lt, ◌&&◌, inl, inr, refl, sym, subst, ◌∙◌, ap, arith}
 use Rattle.std.specs.List.{find, list_any, position_or_len}
 use Rattle.std.specs.Option.{option_map, option_map_or}
 use Rattle.std.proofs.lemmas.Bool.{cases_Bool, cases_lt, lt-ltb, and_parts, false≢true}
@@ -10,7 +10,7 @@ use Rattle.mt_base.specs.declared.tables.StopRow.{StopRow}
 use Rattle.mt_base.specs.Places.{is_platform}
 use Rattle.delay_model.specs.Changes.{station, station_by}
 use Rattle.delay_model.specs.Waits.{wait}
-use Rattle.waiting_rules.specs.Rules.{has_wait, makes_wait, is_for}
+use Rattle.waiting_rules.specs.Rules.{has_wait, makes_wait, is_for, longest_wait}
 use Rattle.waiting_rules.specs.WaitTable.{parent_station, station_in, some_waits, WaitTable}
 
 station-by : (a : ℕ) (row : Option StopRow) → option_map_or (station_by a) row a ≡ unwrap_or (unwrap_or (option_map parent_station row) None) a
@@ -69,3 +69,24 @@ wait-bound rules n h = elim (slice_get_cases rules n).1 [
   | inl found ↦ let at = h n found.0 found.1 in rw found.2 (subst (λ (rule : RuleRow). rule.max_wait ≤ 86400) found.3 at)
   | inr past ↦ rw past.1 (omega arith)
 ]
+
+fold-least : (m : ℕ) (rules : List RuleRow) → m ≤ fold (λ longest (rule : RuleRow). max longest rule.max_wait) m rules
+fold-least m [] = omega arith
+fold-least m (x ∷ xs) = omega (arith, fold-least (max m x.max_wait) xs)
+
+longest-from : (m : ℕ) (rules : List RuleRow) → All (λ (rule : RuleRow). rule.max_wait ≤ fold (λ longest (r : RuleRow). max longest r.max_wait) m rules) rules
+longest-from m [] k d l = absurd (omega arith)
+longest-from m (x ∷ xs) zero d l = omega (arith, fold-least (max m x.max_wait) xs)
+longest-from m (x ∷ xs) (suc k) d l = longest-from (max m x.max_wait) xs k d (omega arith)
+
+-- no rule has a wait above the longest
+pub longest-is : (rules : List RuleRow) → All (λ (rule : RuleRow). rule.max_wait ≤ longest_wait rules) rules
+longest-is = longest-from 0
+
+longest-up_to : (n m : ℕ) (rules : List RuleRow) → m ≤ n → All (λ (rule : RuleRow). rule.max_wait ≤ n) rules → fold (λ longest (r : RuleRow). max longest r.max_wait) m rules ≤ n
+longest-up_to n m [] l h = l
+longest-up_to n m (x ∷ xs) l h = longest-up_to n (max m x.max_wait) xs (omega (arith, h 0 x (omega arith))) (λ k d j. h (suc k) d (omega arith))
+
+-- the longest wait is at most what no rule exceeds
+pub longest-small : (n : ℕ) (rules : List RuleRow) → All (λ (rule : RuleRow). rule.max_wait ≤ n) rules → longest_wait rules ≤ n
+longest-small n rules = longest-up_to n 0 rules (omega arith)

@@ -1,8 +1,9 @@
 -- What holds of kept waits.
-use Rattle.std.specs.Prelude.{◌≤◌, All}
+use Rattle.std.specs.Prelude.{◌≡◌, ◌≤◌, All}
 use Rattle.mt_base.specs.declared.tables.RuleRow.{RuleRow}
 use Rattle.waiting_rules.specs.Indexed.{AreFirst}
 use Rattle.waiting_rules.specs.Bounded.{HasBounds}
+use Rattle.waiting_rules.specs.Rules.{longest_wait}
 use Rattle.waiting_rules.specs.Waiting.{HasFlags}
 use Rattle.waiting_rules.specs.declared.waits.Waits.TheInside.{Inside}
 
@@ -12,3 +13,4 @@ pub record IsHeld (a : Inside) : Type 0 where
   pub first_rules : AreFirst a.rules.items a.first_rules.items
   pub bounds : HasBounds a.rules.items a.first_rules.items a.bounds
   pub flags : HasFlags a.parents.items a.rules.items a.flags.items
+  pub greatest : a.longest_wait ≡ longest_wait a.rules.items

@@ -1,9 +1,11 @@
 -- What a feed says of waits.
-use Rattle.std.specs.Prelude.{ℕ, Bool, ◌&&◌, List, Option, None, unwrap_or, slice_get, map, if◌then◌else◌}
+use Rattle.std.specs.Prelude.{ℕ, Bool, ◌&&◌, ◌||◌, List, Option, None, unwrap_or, slice_get, map}
+use Rattle.std.specs.Prelude.{if◌then◌else◌}
 use Rattle.std.specs.List.{list_any}
 use Rattle.mt_base.specs.declared.tables.RuleRow.{RuleRow}
 use Rattle.mt_base.specs.declared.tables.StopRow.{StopRow}
 use Rattle.mt_base.specs.Places.{is_platform}
+use Rattle.delay_model.specs.Waits.{is_empty_or}
 use Rattle.waiting_rules.specs.Rules.{has_wait, makes_wait}
 
 -- the parent station of a stop or platform; any other location has none (GTFS Schedule, stops.txt)
@@ -28,6 +30,13 @@ wait_table stops rules = record { parents = map parent_station stops; rules = ru
 abbrev pub some_waits : WaitTable → ℕ → ℕ → Bool
 some_waits table route stop =
     list_any (λ rule. has_wait rule && makes_wait route stop (station_in table.parents stop) rule)
+    table.rules
+
+-- some rule with a wait above 0 is for a stop or its station
+abbrev pub may_wait : WaitTable → ℕ → Bool
+may_wait table stop =
+    list_any (λ rule. has_wait rule
+    && (is_empty_or rule.stop stop || is_empty_or rule.stop (station_in table.parents stop)))
     table.rules
 
 -- the waits of trains of a route at a stop

@@ -1,5 +1,6 @@
 -- Which trains rules with a wait above 0 make wait.
-use Rattle.std.specs.Prelude.{◌≡◌, ◌<◌, ℕ, Bool, true, false, ◌&&◌, ◌||◌, is_none, List, length, unwrap_or, slice_get, slice_index_or, nat_eq, Option}
+use Rattle.std.specs.Prelude.{◌≡◌, ◌<◌, ℕ, Bool, true, false, ◌&&◌, ◌||◌, is_none, List, length}
+use Rattle.std.specs.Prelude.{unwrap_or, slice_get, slice_index_or, nat_eq, Option}
 use Rattle.std.specs.Option.{option_map_or}
 use Rattle.std.specs.BTreeSet.{BTreeSet, contains}
 use Rattle.std.specs.List.{list_any}
@@ -7,7 +8,7 @@ use Rattle.mt_base.specs.declared.tables.RuleRow.{RuleRow}
 use Rattle.waiting_rules.specs.declared.scopes.Connecting.{Connecting}
 use Rattle.waiting_rules.specs.Rules.{has_wait}
 use Rattle.waiting_rules.specs.Scopes.{connecting_cmp, is_connecting}
-use Rattle.waiting_rules.specs.WaitTable.{some_waits, station_in}
+use Rattle.waiting_rules.specs.WaitTable.{some_waits, may_wait, station_in}
 
 -- the rule has a wait above 0 and names this stop
 abbrev pub names_stop : ℕ → RuleRow → Bool
@@ -27,10 +28,14 @@ pub record AreFlags (parents : List (Option ℕ)) (named flags : List Bool) : Ty
   pub each : (stop : ℕ) → stop < length named → slice_index_or flags stop true
       ≡ (slice_index_or named stop true || flag_at named (station_in parents stop))
 
--- no rule with a wait above 0 makes trains wait where there is no flag
-abbrev pub HasFlags : List (Option ℕ) → List RuleRow → List Bool → Type 0
-HasFlags parents rules flags = (route stop : ℕ) → flag_at flags stop ≡ false
-    → some_waits (record { parents = parents; rules = rules }) route stop ≡ false
+-- where there is no flag, no rule with a wait above 0 makes trains wait; a location that is there
+-- with its station has a flag exactly where some such rule is for it
+pub record HasFlags (parents : List (Option ℕ)) (rules : List RuleRow)
+    (flags : List Bool) : Type 0 where
+  pub none : (route stop : ℕ) → flag_at flags stop ≡ false
+      → some_waits (record { parents = parents; rules = rules }) route stop ≡ false
+  pub some : (stop : ℕ) → stop < length parents → station_in parents stop < length parents
+      → flag_at flags stop ≡ may_wait (record { parents = parents; rules = rules }) stop
 
 -- these trains are among those that wait
 abbrev pub in_waiting : BTreeSet Connecting → Connecting → Bool

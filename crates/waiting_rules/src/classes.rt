@@ -20,9 +20,9 @@ use mt_base::tables::RuleRow;
 use std::collections::BTreeMap;
 use std::marker::Model;
 
-/// How long trains of one route wait at one stop, by the routes of late feeders. It is seen as the
-/// parent stations of the locations and the rows of `waiting_rules.txt`, with the route and the
-/// stop.
+/// The trains of one route at one stop as a class: they all wait alike, as long as the route of the
+/// late feeder tells. It is seen as the parent stations of the locations and the rows of
+/// `waiting_rules.txt`, with the route and the stop.
 #[derive(Drop)]
 pub struct WaitClass<'a> {
     parents: &'a [Option<StopNo>],
@@ -30,7 +30,8 @@ pub struct WaitClass<'a> {
     first_rules: &'a [(Scope, u32)],
     route: RouteNo,
     stop: StopNo,
-    /// The place of the first rule that leaves the feeder's route empty.
+    /// The place in the file of the first rule for these trains that leaves the feeder's route
+    /// empty, so that it is for all feeders; the count of rules where there is none.
     for_all: usize,
     parts: [Part; 6],
 }
@@ -91,7 +92,7 @@ impl<'a> WaitClass<'a> {
         ensures longest { result ≤ 86400 }
     {
         let place = first(self.first_rules, &self.parts, &Some(feeder), self.for_all);
-        longest_wait(self.rules, place)
+        wait_at(self.rules, place)
     }
 }
 
@@ -142,8 +143,8 @@ fn first(
     first
 }
 
-/// The longest wait of the rule at a place, or 0 where there is none.
-fn longest_wait(rules: &[RuleRow], place: usize) -> u32
+/// The longest wait that the rule at a place allows, or 0 where there is none.
+fn wait_at(rules: &[RuleRow], place: usize) -> u32
     ensures { result ≡ option_map_or (λ (rule : ARule). rule.max_wait)
         (slice_get rules.now place) 0 }
 {

@@ -1,9 +1,11 @@
 //! Which trains wait at all.
 
-ghost use Rattle.std.specs.Prelude.{◌≡◌, ◌<◌, ◌^◌, ℕ, nat_eq, false, ◌||◌, slice_index_or, List, [], ◌∷◌, ◌++◌, IfOk, OnOk, length};
+ghost use Rattle.std.specs.Prelude.{◌≡◌, ◌<◌, ◌^◌, ℕ, nat_eq, false, ◌||◌, slice_index_or, List};
+ghost use Rattle.std.specs.Prelude.{[], ◌∷◌, ◌++◌, IfOk, OnOk, length};
 ghost use Rattle.std.specs.List.{list_any};
 ghost use Rattle.mt_base.specs.declared.tables.RuleRow.{RuleRow as ARule};
-ghost use Rattle.waiting_rules.specs.Waiting.{names_stop, names_none, flag_at, HasWaiting, HasFlags, AreFlags};
+ghost use Rattle.waiting_rules.specs.Waiting.{names_stop, names_none, flag_at, HasWaiting};
+ghost use Rattle.waiting_rules.specs.Waiting.{HasFlags, AreFlags};
 
 use crate::scopes::Connecting;
 use crate::stations::station;

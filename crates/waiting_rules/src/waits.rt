@@ -1,10 +1,13 @@
 //! Waits by the first rule that fits.
 
-ghost use Rattle.std.specs.Prelude.{◌≡◌, ◌≤◌, ℕ, List, All, map, length, nat_eq, is_some, None, IfOk, IfSome};
+ghost use Rattle.std.specs.Prelude.{◌≡◌, ◌≤◌, ◌<◌, ℕ, false, List, All, map, length, nat_eq};
+ghost use Rattle.std.specs.Prelude.{is_some, None, IfOk, IfSome};
 ghost use Rattle.mt_base.specs.declared.tables.RuleRow.{RuleRow as ARule};
 ghost use Rattle.mt_base.specs.declared.tables.StopRow.{StopRow as AStopRow};
 ghost use Rattle.delay_model.specs.Waits.{wait};
-ghost use Rattle.waiting_rules.specs.WaitTable.{parent_station, wait_table, some_waits};
+ghost use Rattle.waiting_rules.specs.Rules.{longest_wait};
+ghost use Rattle.waiting_rules.specs.WaitTable.{parent_station, wait_table, some_waits, may_wait};
+ghost use Rattle.waiting_rules.specs.WaitTable.{station_in};
 
 use crate::bounds::{Bounds, all_bounds};
 use crate::classes::{WaitClass, parts, some_wait};
@@ -32,6 +35,8 @@ pub struct Waits {
     bounds: BTreeMap<Connecting, Bounds>,
     /// Whether a rule with a wait above 0 names each location or its station, or no stop.
     flags: Vec<bool>,
+    /// The longest wait of any rule in seconds.
+    longest_wait: u32,
 }
 
 impl Model for Waits {
@@ -58,6 +63,7 @@ impl Waits {
         Ok(Waits {
             bounds: all_bounds(alloc, rules.as_slice(), first_rules.as_slice())?,
             flags: flags(alloc, parents.as_slice(), rules.as_slice())?,
+            longest_wait: longest_wait(rules.as_slice()),
             parents,
             rules,
             first_rules,
@@ -75,6 +81,7 @@ impl Waits {
             first_rules: Vec::from_slice(alloc, self.first_rules.as_slice())?,
             bounds: self.bounds.clone()?,
             flags: Vec::from_slice(alloc, self.flags.as_slice())?,
+            longest_wait: self.longest_wait,
         })
     }
 
@@ -85,9 +92,31 @@ impl Waits {
         self.rules.is_empty()
     }
 
-    /// How long trains of the route `connecting` wait at `stop`, by the routes of late feeders.
-    /// None exactly where no rule with a wait above 0 is for this route and this stop or its
-    /// station.
+    /// The longest wait of any rule in seconds, 0 without rules.
+    pub fn longest_wait(&self) -> u32
+        ensures is { result ≡ longest_wait self.now.rules }
+        ensures longest { All (λ (rule : ARule). rule.max_wait ≤ result) self.now.rules }
+        ensures small { result ≤ 86400 }
+    {
+        self.longest_wait
+    }
+
+    /// Whether trains may wait at `stop`: false only where no rule with a wait above 0 is for the
+    /// stop or its station, and where both are among the locations, exactly there.
+    pub fn may_wait_at(&self, stop: StopNo) -> bool
+        ensures none { result ≡ false → (feeder connecting : ℕ) (stops : List AStopRow)
+            → map parent_station stops ≡ self.now.parents
+            → wait stops self.now.rules feeder connecting stop ≡ 0 }
+        ensures some { stop < length self.now.parents
+            → station_in self.now.parents stop < length self.now.parents
+            → result ≡ may_wait self.now stop }
+    {
+        flag_at(self.flags.as_slice(), stop)
+    }
+
+    /// The class of the trains of the route `connecting` at `stop`: how long they wait, by the
+    /// routes of late feeders. None exactly where no rule with a wait above 0 is for this route
+    /// and this stop or its station.
     pub fn class(&self, connecting: RouteNo, stop: StopNo) -> Option<WaitClass<'_>>
         ensures some { is_some result ≡ some_waits self.now connecting stop }
         ensures class { IfSome result (λ class. class
@@ -136,4 +165,11 @@ impl Waits {
         // A field is named, so that the check knows what holds of the rules.
         let _ = &self.rules;
     }
+}
+
+/// The longest wait of any of these rules in seconds, 0 without rules.
+fn longest_wait(rules: &[RuleRow]) -> u32
+    ensures { result ≡ longest_wait rules.now }
+{
+    rules.iter().map(|rule| rule.max_wait).max().unwrap_or(0)
 }

@@ -1,9 +1,17 @@
 use Rattle.std.proofs.Common.{sym}
-use Rattle.edge_rules.proofs.NoneFound.{planned-to_arrival, planned-no_wait}
+use Rattle.edge_rules.specs.Found.{waits_at}
+use Rattle.edge_rules.specs.declared.wanted.Wanted.TheVariants.{Into}
+use Rattle.edge_rules.proofs.NoneFound.{planned-cannot, planned-no_wait}
 use Rattle.edge_rules.proofs.transfers.planned_to.Goals as goal
 
 pub returns-then-not-at : goal.returns-then-not-at
-returns-then-not-at c = sym (planned-to_arrival c.args.graph.now c.args.index.now.entries c.args.at.now c.if-not-at.true)
+returns-then-not-at c =
+    let g = c.args.graph.now in
+    let v = c.args.at.now in
+    sym (planned-cannot g c.args.index.now.entries (Into (waits_at g v)) v c.if-not-at.true)
 
 pub returns-in-None : goal.returns-in-None
-returns-in-None c = sym (planned-no_wait c.args.graph.now c.args.index.now.entries c.args.at.now (c.class.ensures.none c.in-None.is))
+returns-in-None c =
+    let g = c.args.graph.now in
+    let v = c.args.at.now in
+    sym (planned-no_wait g c.args.index.now.entries (waits_at g v) v (c.class.ensures.none c.in-None.is))

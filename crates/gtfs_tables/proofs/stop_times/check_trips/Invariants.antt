@@ -1,6 +1,6 @@
-use Rattle.std.proofs.Common.{◌≡◌, []}
+use Rattle.std.proofs.Common.{◌≡◌, [], drop}
 use Rattle.gtfs_tables.specs.StopTimes.{check_trips}
 use Rattle.gtfs_tables.proofs.stop_times.check_trips.Given as goal
 
 abbrev pub invariant-loop-key : goal.invariant-loop-key
-invariant-loop-key l = check_trips 0 [] l.by_key.entries ≡ check_trips l.trip l.passed.items l.key-iterator
+invariant-loop-key l = check_trips 0 [] l.by_key ≡ check_trips l.trip l.passed.items (drop l.key-index l.by_key)

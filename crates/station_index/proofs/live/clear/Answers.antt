@@ -1,6 +1,6 @@
 use Rattle.std.proofs.Common.{sym}
 use Rattle.station_index.proofs.KeptLemmas.{kept-pass}
-use Rattle.station_index.proofs.RowLemmas.{clear-there, differs}
+use Rattle.station_index.proofs.PlaceLemmas.{clear-there, differs}
 use Rattle.station_index.proofs.live.clear.Goals as goal
 
 pub returns-in-Some-clause-kept : goal.returns-in-Some-clause-kept

@@ -1,5 +1,5 @@
 use Rattle.timetable.proofs.Words.{rules, IsPartitionPoint-from_clause, leaves_before}
-use Rattle.timetable.proofs.{Departing.departures_total, Departing.exact_departures, Retimed.less-first}
+use Rattle.timetable.proofs.{Departing.departures_total, Departing.exact_departures, Placing.less-first}
 use Rattle.timetable.proofs.retiming.count_before.Goals as goal
 
 pub returns-clause-place : goal.returns-clause-place

@@ -1,5 +1,5 @@
 use Rattle.timetable.proofs.Words.{◌≡◌, true, IsPermutation-put_mid, leaves_before}
-use Rattle.timetable.proofs.Retimed.{back-ascends, forth-ascends}
+use Rattle.timetable.proofs.Placing.{back-ascends, forth-ascends}
 use Rattle.timetable.proofs.retiming.replace.Goals as goal
 
 pub returns-then-from-to-clause-moved : goal.returns-then-from-to-clause-moved

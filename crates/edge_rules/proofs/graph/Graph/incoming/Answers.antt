@@ -1,15 +1,29 @@
-use Rattle.std.proofs.Common.{subst}
-use Rattle.std.specs.List.{All}
+use Rattle.std.proofs.Common.{◌∙◌, ap}
 use Rattle.std.proofs.lemmas.List.Sorted.{IsPermutation-sym}
 use Rattle.mt_base.specs.Order.{node_of}
 use Rattle.delay_model.specs.Edges.{DifferInEnds}
-use Rattle.edge_rules.specs.Held.{HasOwnLabels}
+use Rattle.edge_rules.specs.AtEvent.{along_to}
+use Rattle.edge_rules.specs.Found.{waits_at}
 use Rattle.edge_rules.specs.Timetabled.{Timetabled}
 use Rattle.edge_rules.proofs.EachOnce.{once-to, differ-turned}
+use Rattle.edge_rules.proofs.EdgesFound.{edges-to_found, holds}
 use Rattle.edge_rules.proofs.Reordered.{pairs-permuted}
 use Rattle.edge_rules.proofs.graph.Graph.incoming.Goals as goal
 
+pub planned_to-requires : goal.planned_to-requires
+planned_to-requires c = (holds c.self.inside c.args.self.now c.self.invariant c.self.view_is).entries
+
+pub returns-clause-edges : goal.returns-clause-edges
+returns-clause-edges c =
+    let g = c.args.self.now in
+    let a = c.self.inside in
+    let h = holds a g c.self.invariant c.self.view_is in
+    let v = c.live_event-at.result in
+    let n = node_of v.key in
+    let along = c.edge_into.ensures ∙ ap (λ (x : Timetabled). along_to x.network.opts x.state n) c.self.view_is in
+    rw (along, c.planned_to.ensures, c.kept_edges.ensures, ← c.live_event-at.ensures.named) (edges-to_found g a.index n v h.labels h.stops h.index c.live_event-at.ensures.there (waits_at g v))
+
 pub returns-clause-once : goal.returns-clause-once
 returns-clause-once c =
-    let labels = subst (λ (x : Timetabled). All HasOwnLabels x.state.trains) c.self.view_is c.self.invariant.labels in
-    pairs-permuted DifferInEnds differ-turned _ _ (IsPermutation-sym _ _ c.edges_to.ensures) (once-to c.args.self.now (node_of c.live_event.result.key) labels)
+    let h = holds c.self.inside c.args.self.now c.self.invariant c.self.view_is in
+    pairs-permuted DifferInEnds differ-turned _ _ (IsPermutation-sym _ _ (returns-clause-edges c)) (once-to c.args.self.now c.args.n h.labels)

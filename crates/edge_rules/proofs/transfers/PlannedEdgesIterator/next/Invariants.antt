@@ -1,4 +1,4 @@
-use Rattle.std.proofs.Common.{flat_map, length}
+use Rattle.std.proofs.Common.{[], flat_map, length, unwrap_or}
 use Rattle.edge_rules.specs.Found.{AreNames, AreWaitsAt, HaveEvents, of_name, planned_by, planned_with}
 use Rattle.edge_rules.proofs.Taken.{IsTaken}
 use Rattle.edge_rules.proofs.transfers.PlannedEdgesIterator.next.Given as goal
@@ -8,10 +8,10 @@ abbrev pub invariant-loop-edge : goal.invariant-loop-edge
 invariant-loop-edge l =
     let a = l.self-inside in
     let g = a.graph.now in
-    AreWaitsAt g a.at a.class
+    AreWaitsAt g a.at a.wanted
     × HaveEvents g.state a.index.now.entries
-    × AreNames g.state a.near
-    × IsTaken l.fn.self l.edge (flat_map (of_name g.state (planned_with g a.into a.at a.seconds)) a.near) (flat_map (planned_by g a.index.now.entries a.into a.at) a.changes.now)
+    × AreNames g.state (unwrap_or a.near [])
+    × IsTaken l.fn.self l.edge (flat_map (of_name g.state (planned_with g a.wanted a.at a.seconds)) (unwrap_or a.near [])) (flat_map (planned_by g a.index.now.entries a.wanted a.at) a.changes.now)
 
 abbrev pub decreases-loop-edge : goal.decreases-loop-edge
 decreases-loop-edge l = length l.self-inside.changes.now

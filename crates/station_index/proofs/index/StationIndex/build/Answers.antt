@@ -1,37 +1,29 @@
-use Rattle.std.proofs.Common.{arith, ◌∙◌, ◌≡◌}
+use Rattle.std.proofs.Common.{◌≡◌, arith, ◌∙◌}
 use Rattle.std.proofs.lemmas.List.{length-replicate}
 use Rattle.std.proofs.lemmas.List.Sorted.{All-permutation, IsPermutation-sym, length_permutation}
 use Rattle.station_index.proofs.KeptLemmas.{kept-all}
-use Rattle.station_index.proofs.OrderLemmas.{AreInOrder-nil, sorted-ascends}
+use Rattle.station_index.proofs.OrderLemmas.{AreInOrder-nil}
 use Rattle.station_index.proofs.index.StationIndex.build.Goals as goal
-
-pub build-requires-clause-order : goal.build-requires-clause-order
-build-requires-clause-order c =
-    rw c.deref.ensures.value (sorted-ascends c.args.entries.items c.sort_unstable.new.self.items c.requires.distinct c.sort_unstable.ensures.permutation c.sort_unstable.ensures.sorted)
-
-pub untouched-requires : goal.untouched-requires
-untouched-requires c =
-    rw c.deref-2.ensures.value (sorted-ascends c.args.entries.items c.sort_unstable.new.self.items c.requires.distinct c.sort_unstable.ensures.permutation c.sort_unstable.ensures.sorted)
 
 pub build-requires-clause-few : goal.build-requires-clause-few
 build-requires-clause-few c =
-    rw c.deref.ensures.value (omega (arith, c.requires.few, length_permutation c.args.entries.items c.sort_unstable.new.self.items c.sort_unstable.ensures.permutation))
+    rw c.deref.ensures.value (omega (arith, c.requires.few, length_permutation _ _ c.in_ok-sort_entries.ensures.permutation))
 
 pub build-requires-clause-dep : goal.build-requires-clause-dep
 build-requires-clause-dep c =
-    rw c.deref.ensures.value (All-permutation (λ e. e.dep ≡ e.node.dep) c.args.entries.items c.sort_unstable.new.self.items c.sort_unstable.ensures.permutation c.requires.dep)
+    rw c.deref.ensures.value (All-permutation (λ e. e.dep ≡ e.node.dep) _ _ c.in_ok-sort_entries.ensures.permutation c.requires.dep)
 
 pub invariant_of-result : goal.invariant_of-result
 invariant_of-result c =
-    let es = c.sort_unstable.new.self.items in
-    let up = sorted-ascends c.args.entries.items es c.requires.distinct c.sort_unstable.ensures.permutation c.sort_unstable.ensures.sorted in
+    let es = c.sort_entries.new.entries.items in
+    let up = c.in_ok-sort_entries.ensures.order in
     let same = c.in_ok-build.ensures ∙ c.deref.ensures.value in
-    let count = c.len.ensures ∙ c.sort_unstable.new.self.ok.0 in
+    let count = c.len.ensures ∙ c.sort_entries.new.entries.ok.0 in
     record {
       loaded = rw same up;
       flags = rw (same, c.in_ok-all_live.ensures, length-replicate) count;
       added = rw c.in_ok-with_capacity.ensures.items AreInOrder-nil;
-      touched = rw c.in_ok-with_capacity.ensures.items (λ k d l. absurd (omega arith));
+      ever_added = rw c.in_ok-with_capacity.ensures.items (λ k d l. absurd (omega arith));
       ordered = rw (c.in_ok-with_capacity.ensures.items, c.in_ok-all_live.ensures, same, kept-all es c.len.result count) up;
       room = rw (c.in_ok-with_capacity.ensures.items, c.in_ok-with_capacity.ensures.exact) (omega arith);
       small = rw c.in_ok-with_capacity.ensures.items (omega arith);
@@ -39,11 +31,8 @@ invariant_of-result c =
 
 pub returns-clause-entries : goal.returns-clause-entries
 returns-clause-entries c =
-    let es = c.sort_unstable.new.self.items in
-    rw (c.in_ok-with_capacity.ensures.items, c.in_ok-all_live.ensures, c.in_ok-build.ensures ∙ c.deref.ensures.value, kept-all es c.len.result (c.len.ensures ∙ c.sort_unstable.new.self.ok.0)) (IsPermutation-sym _ _ c.sort_unstable.ensures.permutation)
+    rw (c.in_ok-with_capacity.ensures.items, c.in_ok-all_live.ensures, c.in_ok-build.ensures ∙ c.deref.ensures.value, kept-all _ c.len.result (c.len.ensures ∙ c.sort_entries.new.entries.ok.0)) (IsPermutation-sym _ _ c.in_ok-sort_entries.ensures.permutation)
 
 pub returns-clause-order : goal.returns-clause-order
 returns-clause-order c =
-    let es = c.sort_unstable.new.self.items in
-    rw (c.in_ok-with_capacity.ensures.items, c.in_ok-all_live.ensures, c.in_ok-build.ensures ∙ c.deref.ensures.value, kept-all es c.len.result (c.len.ensures ∙ c.sort_unstable.new.self.ok.0))
-    (sorted-ascends c.args.entries.items es c.requires.distinct c.sort_unstable.ensures.permutation c.sort_unstable.ensures.sorted)
+    rw (c.in_ok-with_capacity.ensures.items, c.in_ok-all_live.ensures, c.in_ok-build.ensures ∙ c.deref.ensures.value, kept-all _ c.len.result (c.len.ensures ∙ c.sort_entries.new.entries.ok.0)) c.in_ok-sort_entries.ensures.order

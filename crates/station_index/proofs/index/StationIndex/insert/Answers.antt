@@ -4,7 +4,7 @@ use Rattle.station_index.specs.Indexed.{Indexed, entry_at}
 use Rattle.station_index.specs.Merged.{kept, merged}
 use Rattle.station_index.proofs.OrderLemmas.{with-ascends, with-moves, absent-differs}
 use Rattle.station_index.proofs.MergeLemmas.{merged-with, merged-second}
-use Rattle.station_index.proofs.TouchedLemmas.{with-touched}
+use Rattle.station_index.proofs.AddedLemmas.{with-added}
 use Rattle.station_index.proofs.index.StationIndex.insert.Goals as goal
 
 pub invariant_of-self : goal.invariant_of-self
@@ -21,7 +21,7 @@ invariant_of-self c =
       loaded = c.self.invariant.loaded;
       flags = c.self.invariant.flags;
       added = rw (c.put.ensures.items, c.entry-entry.ensures) (with-ascends e fs c.self.invariant.added (merged-second (λ x. x ≢ e) es fs apart));
-      touched = rw (c.touch.ensures, c.put.ensures.items, c.entry-entry.ensures) (with-touched a.touched.items e fs c.self.invariant.touched);
+      ever_added = rw (c.note_added.ensures, c.put.ensures.items, c.entry-entry.ensures) (with-added a.ever_added.items e fs c.self.invariant.ever_added);
       ordered = rw (c.put.ensures.items, c.entry-entry.ensures, merged-with e es fs) (with-ascends e (merged es fs) c.self.invariant.ordered apart);
       room = rw (c.put.ensures.items, c.entry-entry.ensures) (omega (arith, count, spare, c.self.invariant.room, c.put.ensures.capacity));
       small = rw (c.put.ensures.items, c.entry-entry.ensures) (omega (arith, count, spare, c.self.invariant.small));

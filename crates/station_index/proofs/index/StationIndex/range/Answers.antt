@@ -5,7 +5,7 @@ use Rattle.station_index.specs.Indexed.{is_in_range}
 use Rattle.station_index.specs.Merged.{kept, merged}
 use Rattle.station_index.proofs.OrderLemmas.{filter-ascends}
 use Rattle.station_index.proofs.MergeLemmas.{filter-merged}
-use Rattle.station_index.proofs.RowLemmas.{AreInOrder-drop, AreInOrder-take, range-kept}
+use Rattle.station_index.proofs.PlaceLemmas.{AreInOrder-drop, AreInOrder-take, range-kept}
 use Rattle.station_index.proofs.index.StationIndex.range.Goals as goal
 
 pub invariant_of-result : goal.invariant_of-result

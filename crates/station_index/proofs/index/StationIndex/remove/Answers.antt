@@ -5,7 +5,7 @@ use Rattle.station_index.specs.Merged.{kept, merged}
 use Rattle.station_index.proofs.OrderLemmas.{filter-ascends, filter-fewer}
 use Rattle.station_index.proofs.MergeLemmas.{filter-merged}
 use Rattle.std.proofs.lemmas.List.Elements.{All-filter}
-use Rattle.station_index.proofs.TouchedLemmas.{IsTouched}
+use Rattle.station_index.proofs.AddedLemmas.{IsEverAdded}
 use Rattle.station_index.proofs.index.StationIndex.remove.Goals as goal
 
 -- what is left are all entries but this one
@@ -26,7 +26,7 @@ invariant_of-self c =
       loaded = c.self.invariant.loaded;
       flags = c.clear.ensures.flags ∙ c.self.invariant.flags;
       added = rw (c.take_out.ensures.items, c.entry-entry.ensures) (filter-ascends p a.added.items c.self.invariant.added);
-      touched = rw (c.take_out.ensures.items, c.entry-entry.ensures) (All-filter p (IsTouched a.touched.items) a.added.items c.self.invariant.touched);
+      ever_added = rw (c.take_out.ensures.items, c.entry-entry.ensures) (All-filter p (IsEverAdded a.ever_added.items) a.added.items c.self.invariant.ever_added);
       ordered = rw (left c) (filter-ascends p _ c.self.invariant.ordered);
       room = rw (c.take_out.ensures.items, c.entry-entry.ensures) (omega (arith, fewer, c.self.invariant.room, c.take_out.ensures.capacity));
       small = rw (c.take_out.ensures.items, c.entry-entry.ensures) (omega (arith, fewer, c.self.invariant.small));

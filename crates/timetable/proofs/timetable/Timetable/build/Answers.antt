@@ -1,16 +1,14 @@
-use Rattle.timetable.proofs.Words.{subst, HasTimesFor}
-use Rattle.timetable.proofs.{Ordered.keys-held, Sized.all-held}
+use Rattle.timetable.proofs.Words.{arith, subst, events, HasTimesFor}
+use Rattle.timetable.proofs.Listing.{live-few}
 use Rattle.timetable.proofs.timetable.Timetable.build.Goals as goal
 
-pub settle_all-requires-clause-held : goal.settle_all-requires-clause-held
-settle_all-requires-clause-held c =
-    let times = c.in_ok-times.times in
-    let trains = c.args.trains in
-    let seen = rw c.in_ok-graph.ensures at c.trains-all.ensures.trains in
-    rw c.deref.ensures.value
-    (keys-held trains times c.in_ok-order.order.items (rw seen at c.in_ok-order.ensures.order) (all-held trains times c.requires.valid.trains (rw seen at c.in_ok-times.ensures.sized)))
+pub overflow_add-room : goal.overflow_add-room
+overflow_add-room c =
+    let live = rw (c.trains-2.ensures.trains, c.in_ok-graph.ensures) at c.count_live.ensures in
+    let spare = rw (c.trains-3.ensures.trains, c.in_ok-graph.ensures) at c.spare_calls.ensures in
+    omega (arith, live, spare, live-few (events c.args.trains), c.requires.nodes)
 
-pub settle_all-requires-clause-has_times : goal.settle_all-requires-clause-has_times
-settle_all-requires-clause-has_times c =
+pub load-requires-clause-has_times : goal.load-requires-clause-has_times
+load-requires-clause-has_times c =
     let e = c.in_ok-times.ensures in
-    subst (λ st. HasTimesFor st c.in_ok-times.times) c.trains-all.ensures.trains (record { sized = e.sized; spare_trains = e.trains; spare_calls = e.calls })
+    subst (λ st. HasTimesFor st c.in_ok-times.times) c.trains.ensures.trains (record { sized = e.sized; spare_trains = e.trains; spare_calls = e.calls })

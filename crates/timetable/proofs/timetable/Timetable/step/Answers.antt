@@ -1,37 +1,117 @@
-use Rattle.timetable.proofs.Words.{arith, ap, effect, Running}
+use Rattle.timetable.proofs.Words.{◌∙◌, ◌+◌, ◌≤◌, arith, ap, sym, subst, effect, events, length, Marked, Running}
+use Rattle.timetable.specs.Running.{stepped}
+use Rattle.propagate.specs.Reads.{reads_of}
 use Rattle.delay_model.specs.Touched.{changed_count}
-use Rattle.timetable.proofs.{Changed.changed-length, Departing.are-listed, Prepared.departures-fit}
+use Rattle.timetable.proofs.{Changed.changed-length, Listing.live-held, Moving.gone-fit, Moving.moved-fit, Moving.moved-live, Moving.none-gone, Moving.retimed-are, Moving.retimed-fit, Prepared.names-are}
+use Rattle.timetable.proofs.Stepping.{step-due, step-made, step-reads, step-values}
 use Rattle.timetable.proofs.timetable.Timetable.step.Goals as goal
 
+pub mark_after-requires-clause-stepped : goal.mark_after-requires-clause-stepped
+mark_after-requires-clause-stepped g c =
+    rw c.apply.ensures.effect
+    (record {
+      old = c.self.inside.graph.state;
+      step = step-made c.self.invariant.settled.valid c.apply.ensures.well_formed c.in_ok-check.ensures;
+      before = c.mark_before.ensures.marked;
+    })
+
+pub mark_after-requires-clause-room : goal.mark_after-requires-clause-room
+mark_after-requires-clause-room g c =
+    rw c.apply.ensures.effect (omega (arith, c.apply.ensures.prepared.fewer, c.self.invariant.roomy.marks, c.mark_before.ensures.marks_room))
+
 pub settle-requires-clause-valid : goal.settle-requires-clause-valid
-settle-requires-clause-valid g c =
-    rw c.in_ok-same_events.ensures.effect c.in_ok-same_events.ensures.prepared.valid
+settle-requires-clause-valid g c = rw c.apply.ensures.effect c.apply.ensures.prepared.valid
 
-pub settle-requires-clause-departures_room : goal.settle-requires-clause-departures_room
-settle-requires-clause-departures_room g c =
-    rw c.deref.ensures.value (omega (arith, departures-fit c.in_ok-same_events.ensures.prepared c.self.invariant.settled.order c.self.invariant.room))
+pub settle-requires-clause-held : goal.settle-requires-clause-held
+settle-requires-clause-held g c =
+    let p = c.apply.ensures.prepared in
+    rw c.apply.ensures.effect (live-held _ c.apply.new.times p.valid.trains p.has_times)
 
-pub settle-requires-clause-listed : goal.settle-requires-clause-listed
-settle-requires-clause-listed g c = λ same.
-    let a = c.self.inside in
-    let e = c.in_ok-same_events.ensures in
-    let old = are-listed a.graph.network a.graph.state a.times a.order.items a.departures.items c.self.invariant.settled c.self.invariant.departures in
-    rw (e.same_times same, c.deref.ensures.value, e.same_order same) old
+pub settle-requires-clause-marked : goal.settle-requires-clause-marked
+settle-requires-clause-marked g c =
+    let due = step-due c.self.invariant.settled.valid c.apply.ensures.well_formed c.in_ok-check.ensures c.apply.new.graph c.apply.ensures.effect c.mark_before.ensures.marked c.mark_after.ensures.marked in
+    rw c.apply.ensures.effect due.live
 
-pub invariant_of-self-2 : goal.invariant_of-self-2
-invariant_of-self-2 g c =
-    let p = c.in_ok-same_events.ensures.prepared in
-    let is = c.in_ok-same_events.ensures.effect in
-    record {
-      settled = rw c.deref.ensures.value at c.settle.ensures.settled;
-      roomy = rw (c.settle.ensures.capacity, is) p.roomy;
-      departures = c.settle.ensures.departures;
-      room = rw is (omega (arith, departures-fit p c.self.invariant.settled.order c.self.invariant.room, c.settle.ensures.departures_capacity));
-    }
+pub settle-requires-clause-settled : goal.settle-requires-clause-settled
+settle-requires-clause-settled g c =
+    let due = step-due c.self.invariant.settled.valid c.apply.ensures.well_formed c.in_ok-check.ensures c.apply.new.graph c.apply.ensures.effect c.mark_before.ensures.marked c.mark_after.ensures.marked in
+    rw c.apply.ensures.effect (step-values c.apply.ensures.prepared due (step-made c.self.invariant.settled.valid c.apply.ensures.well_formed c.in_ok-check.ensures))
+
+pub settle-requires-clause-room : goal.settle-requires-clause-room
+settle-requires-clause-room g c =
+    rw c.apply.ensures.effect (omega (arith, c.apply.ensures.prepared.fewer, c.self.invariant.roomy.retimed, c.clear.ensures.capacity, c.clear.ensures.items, c.clear.new.self.ok.0, ap length c.clear.ensures.items))
+
+pub settle-requires-clause-marks_room : goal.settle-requires-clause-marks_room
+settle-requires-clause-marks_room g c =
+    rw c.apply.ensures.effect (omega (arith, c.apply.ensures.prepared.fewer, c.self.invariant.roomy.marks, c.mark_before.ensures.marks_room, c.mark_after.ensures.room))
+
+pub leave_live-requires : goal.leave_live-requires
+leave_live-requires g c = λ none.
+    rw (c.trains.ensures.trains, c.apply.ensures.effect, c.self.invariant.departures)
+    (none-gone c.self.invariant.settled.valid.trains c.apply.ensures.prepared (sym c.mark_before.ensures.leaving ∙ sym c.deref.ensures.value ∙ none))
+
+pub move_departures-requires-clause-retimed : goal.move_departures-requires-clause-retimed
+move_departures-requires-clause-retimed g c =
+    let list = rw (c.clear.ensures.items, c.apply.ensures.effect) at c.settle.ensures.changed in
+    let left = rw (c.trains.ensures.trains, c.apply.ensures.effect, c.self.invariant.departures) at c.leave_live.ensures.live in
+    rw (c.deref-2.ensures.value, list, left) (retimed-are c.self.invariant.settled.valid.trains c.apply.ensures.prepared)
+
+pub move_departures-requires-clause-room : goal.move_departures-requires-clause-room
+move_departures-requires-clause-room g c =
+    let p = c.apply.ensures.prepared in
+    let list = rw (c.clear.ensures.items, c.apply.ensures.effect) at c.settle.ensures.changed in
+    let left = rw (c.trains.ensures.trains, c.apply.ensures.effect, c.self.invariant.departures) at c.leave_live.ensures.live in
+    rw (c.deref-2.ensures.value, list, left) (omega (arith, moved-fit c.self.invariant.settled.valid.trains p, p.fewer, c.self.invariant.roomy.departures, c.leave_live.ensures.capacity))
+
+pub push_names-requires : goal.push_names-requires
+push_names-requires g c =
+    let a = c.self.inside.graph in
+    let p = c.apply.ensures.prepared in
+    let list = rw (c.clear.ensures.items, c.apply.ensures.effect) at c.settle.ensures.changed in
+    let gone = ap length c.mark_before.ensures.leaving in
+    rw (c.deref-3.ensures.value, list)
+    (omega (arith, gone, gone-fit (events a.state) (events (effect a.state c.args.m.now)), retimed-fit c.self.invariant.settled.valid.trains p, p.fewer, c.self.invariant.roomy.changed, c.mark_before.ensures.capacity, c.mark_before.new.changed.ok.0))
+
+pub invariant_of-self : goal.invariant_of-self
+invariant_of-self g c =
+    let trains = c.self.invariant.settled.valid.trains in
+    let p = c.apply.ensures.prepared in
+    let is = c.apply.ensures.effect in
+    let list = rw (c.clear.ensures.items, is) at c.settle.ensures.changed in
+    let left = rw (c.trains.ensures.trains, is, c.self.invariant.departures) at c.leave_live.ensures.live in
+    let moved = rw (c.deref-2.ensures.value, list, left) at c.move_departures.ensures.departures in
+    let roomy = c.self.invariant.roomy in
+    rw is (record {
+      settled = record { valid = p.valid; times = rw is at c.settle.ensures.times; has_times = c.settle.ensures.has_times _ p.has_times };
+      departures = moved ∙ moved-live trains p;
+      unmarked = ap (λ (m : Marked). m.keys) c.settle.ensures.marks;
+      roomy = record {
+        changed = omega (arith, roomy.changed, p.fewer, c.mark_before.ensures.capacity, c.push_names.ensures.capacity);
+        marks = omega (arith, roomy.marks, p.fewer, c.mark_before.ensures.marks_room, c.mark_after.ensures.room, ap (λ (m : Marked). m.room) c.settle.ensures.marks);
+        retimed = omega (arith, roomy.retimed, p.fewer, c.clear.ensures.capacity, c.settle.ensures.capacity);
+        departures = omega (arith, roomy.departures, p.fewer, c.leave_live.ensures.capacity, c.move_departures.ensures.capacity);
+      };
+    })
+
+pub returns-clause-effect : goal.returns-clause-effect
+returns-clause-effect g c =
+    let p = c.apply.ensures.prepared in
+    let list = rw (c.clear.ensures.items, c.apply.ensures.effect) at c.settle.ensures.changed in
+    let names = rw (c.deref-3.ensures.value, list, c.mark_before.ensures.leaving, names-are p) at c.push_names.ensures.names in
+    rw (c.apply.ensures.effect, names, c.saturating_add-self-inside.ensures) (ap (λ (r : Running). stepped r c.args.m.now) c.self.view_is)
 
 pub returns-clause-changed : goal.returns-clause-changed
 returns-clause-changed g c =
     let a = c.self.inside.graph in
-    let all = rw (c.deref.ensures.value, c.in_ok-same_events.ensures.effect, c.in_ok-same_events.ensures.prepared.listed) at c.settle.ensures.changed in
-    rw (c.len.ensures, c.settle.new.changed.ok.0, all, changed-length a.network a.state (effect a.state c.args.m.now))
+    let p = c.apply.ensures.prepared in
+    let list = rw (c.clear.ensures.items, c.apply.ensures.effect) at c.settle.ensures.changed in
+    let names = rw (c.deref-3.ensures.value, list, c.mark_before.ensures.leaving, names-are p) at c.push_names.ensures.names in
+    rw (c.len.ensures, c.push_names.new.changed.ok.0, names, changed-length a.network a.state (effect a.state c.args.m.now))
     (ap (λ (r : Running). changed_count r.network r.state c.args.m.now) c.self.view_is)
+
+pub returns-clause-cost : goal.returns-clause-cost
+returns-clause-cost g c =
+    let due = step-due c.self.invariant.settled.valid c.apply.ensures.well_formed c.in_ok-check.ensures c.apply.new.graph c.apply.ensures.effect c.mark_before.ensures.marked c.mark_after.ensures.marked in
+    let reads = step-reads c.apply.ensures.prepared due in
+    let cost = rw c.apply.ensures.effect at c.settle.ensures.cost in
+    subst (λ (r : Running). c.settle.new.steps ≤ c.args.steps.now + reads_of r.network r.state c.args.m.now) c.self.view_is (omega (arith, cost, reads))

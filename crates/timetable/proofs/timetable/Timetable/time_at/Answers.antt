@@ -1,17 +1,17 @@
 use Rattle.timetable.proofs.Words.{arith}
-use Rattle.timetable.proofs.{Named.live_time-none, Ordered.time-kept}
+use Rattle.timetable.proofs.{Named.live_time-none, Named.time-stored}
 use Rattle.timetable.proofs.timetable.Timetable.time_at.Goals as goal
 
 pub read-requires : goal.read-requires
 read-requires g c =
     let a = c.self.inside in
-    grind (arith, time-kept a.graph.network a.graph.state a.times a.order.items c.args.n.now c.self.invariant.settled.order c.self.invariant.settled.times)
+    grind (arith, time-stored a.graph.network a.graph.state a.times c.args.n.now c.self.invariant.settled.times)
 
 pub returns-then-live : goal.returns-then-live
 returns-then-live g c =
     let a = c.self.inside in
     let same = c.self.view_is in
-    grind (arith, time-kept a.graph.network a.graph.state a.times a.order.items c.args.n.now c.self.invariant.settled.order c.self.invariant.settled.times)
+    grind (arith, time-stored a.graph.network a.graph.state a.times c.args.n.now c.self.invariant.settled.times)
 
 pub returns-else-live : goal.returns-else-live
 returns-else-live g c =

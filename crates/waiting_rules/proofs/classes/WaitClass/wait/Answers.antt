@@ -17,8 +17,8 @@ returns-clause-wait c = λ stops same.
     let all = held.for_all in
     let place = c.first-place.ensures rules held.first_rules.places (omega arith) in
     let first = first-fits rules a.parts c.args.feeder a.route a.stop station a.for_all c.first-place.result held.trains all place in
-    rw (c.longest_wait.ensures, ← c.self.view_is) (wait-first stops rules a.parents.now c.args.feeder a.route a.stop c.first-place.result parents first)
+    rw (c.wait_at.ensures, ← c.self.view_is) (wait-first stops rules a.parents.now c.args.feeder a.route a.stop c.first-place.result parents first)
 
 pub returns-clause-longest : goal.returns-clause-longest
 returns-clause-longest c =
-    rw c.longest_wait.ensures (wait-bound c.self.inside.rules.now c.first-place.result c.self.invariant.longest)
+    rw c.wait_at.ensures (wait-bound c.self.inside.rules.now c.first-place.result c.self.invariant.longest)

@@ -10,7 +10,7 @@ returns-then-not-flag_at-clause-none c = λ none.
     let route = c.args.connecting in
     let stop = c.args.stop in
     let unmarked = sym (ap (λ flags. flag_at flags stop) c.as_slice.ensures.value) ∙ sym c.flag_at.ensures ∙ c.if-not-flag_at.true in
-    wait-none c.args.self.now route stop (sym (ap (λ (t : WaitTable). some_waits t route stop) c.self.view_is) ∙ c.self.invariant.flags route stop unmarked)
+    wait-none c.args.self.now route stop (sym (ap (λ (t : WaitTable). some_waits t route stop) c.self.view_is) ∙ c.self.invariant.flags.none route stop unmarked)
 
 pub returns-then-not-some_wait-clause-some : goal.returns-then-not-some_wait-clause-some
 returns-then-not-some_wait-clause-some c =

@@ -1,0 +1,82 @@
+-- The search from both ends of a bucket for the two departures between which another belongs.
+use Rattle.dep_order.proofs.Words.{◌≡◌, ◌≢◌, ◌<◌, ℕ, Some, true, false, sym, ◌∙◌, ap, subst, get_or, length, refl, Bucket, Departure, Lists, Slot, AreKept, IsNewKey, IsNextIn, IsPreviousIn, IsReached, bucket_count, bucket_of, entries_of, leaves_after, leaves_before, nobody}
+use Rattle.dep_order.proofs.OrderLemmas.{after-strict, before-strict}
+use Rattle.dep_order.proofs.ReachLemmas.{bucket-empty, gap-beside, gap-empty, left, left-falls, reach-first, reach-gap, reach-held, reach-next, reach-some}
+use Rattle.dep_order.proofs.StoredLemmas.{IsBucket, nobody-none, read, within}
+
+module _ (l : Lists) (b : ℕ) (d : Departure) (k : AreKept l) (new : IsNewKey (entries_of l) d.key) where
+  -- a walk from the first on, and one from the last back, which have not come past the gap
+  abbrev pub IsFront : ℕ → Type 0
+  IsFront n = IsReached leaves_before (bucket_of (bucket_count l)) (entries_of l) b (leaves_before d) n
+
+  abbrev pub IsBack : ℕ → Type 0
+  IsBack n = IsReached leaves_after (bucket_of (bucket_count l)) (entries_of l) b (leaves_after d) n
+
+  pub empty-gap : (x : Bucket) → IsBucket l b x → x.first ≡ nobody → IsNextIn l b (Some d) x.first × IsPreviousIn l b (Some d) nobody
+  empty-gap x is end =
+      let by = bucket_of (bucket_count l) in
+      let es = entries_of l in
+      let none = nobody-none l k in
+      let gone = bucket-empty leaves_before before-strict by es b none (rw end at is.first) in
+      (rw end (gap-empty leaves_before before-strict by es b d none gone), gap-empty leaves_after after-strict by es b d none gone)
+
+  pub both-begin : (x y : Bucket) → IsBucket l b x → IsBucket l b y → x.first ≢ nobody → IsFront x.first × IsBack y.last × (y.last ≢ nobody)
+  both-begin x y is last some =
+      let by = bucket_of (bucket_count l) in
+      let es = entries_of l in
+      let front = reach-first leaves_before before-strict by es b (λ e. true) x.first is.first in
+      let f = reach-held leaves_before before-strict by es b (λ e. true) x.first front some in
+      let any = reach-first leaves_after after-strict by es b (λ e. true) y.last last.last in (
+        reach-first leaves_before before-strict by es b (leaves_before d) x.first is.first,
+        reach-first leaves_after after-strict by es b (leaves_after d) y.last last.last,
+        reach-some leaves_after after-strict by es b (λ e. true) y.last x.first f.0 (nobody-none l k) any f.1 f.2 refl,
+      )
+
+  pub front-within : (n : ℕ) → IsFront n → n ≢ nobody → n < length l.slots.items
+  front-within n r some =
+      let f = reach-held leaves_before before-strict (bucket_of (bucket_count l)) (entries_of l) b (leaves_before d) n r some in within l n f.0 f.1
+
+  pub back-within : (n : ℕ) → IsBack n → n ≢ nobody → n < length l.slots.items
+  back-within n r some =
+      let f = reach-held leaves_after after-strict (bucket_of (bucket_count l)) (entries_of l) b (leaves_after d) n r some in within l n f.0 f.1
+
+  pub front-gap : (n : ℕ) (s : Slot) → IsFront n → n ≢ nobody → s ≡ get_or l.slots.items n s → leaves_before d s.departure ≡ true → IsNextIn l b (Some d) n × IsPreviousIn l b (Some d) s.before
+  front-gap n s r some at h =
+      let by = bucket_of (bucket_count l) in
+      let es = entries_of l in
+      let f = reach-held leaves_before before-strict by es b (leaves_before d) n r some in
+      let x = read l n f.0 s k f.1 at in
+      let next = reach-gap leaves_before before-strict by es b d f.0 n r f.1 (ap (leaves_before d) (sym x.departure) ∙ h) in
+      (next, gap-beside leaves_before before-strict by es b d f.0 n s.before new next f.1 (subst (λ c. IsPreviousIn l c (Some f.0) s.before) f.2 x.previous))
+
+  pub back-gap : (n : ℕ) (s : Slot) → IsBack n → n ≢ nobody → s ≡ get_or l.slots.items n s → leaves_before s.departure d ≡ true → IsNextIn l b (Some d) s.after × IsPreviousIn l b (Some d) n
+  back-gap n s r some at h =
+      let by = bucket_of (bucket_count l) in
+      let es = entries_of l in
+      let f = reach-held leaves_after after-strict by es b (leaves_after d) n r some in
+      let x = read l n f.0 s k f.1 at in
+      let last = reach-gap leaves_after after-strict by es b d f.0 n r f.1 (ap (leaves_after d) (sym x.departure) ∙ h) in
+      (gap-beside leaves_after after-strict by es b d f.0 n s.after new last f.1 (subst (λ c. IsNextIn l c (Some f.0) s.after) f.2 x.next), last)
+
+  -- where neither has come to the gap, both go on
+  pub both-further : (n p : ℕ) (s t : Slot) → IsFront n → n ≢ nobody → IsBack p → p ≢ nobody → s ≡ get_or l.slots.items n s → t ≡ get_or l.slots.items p t → leaves_before d s.departure ≡ false → leaves_before t.departure d ≡ false → IsFront s.after × (s.after ≢ nobody) × IsBack t.before × (t.before ≢ nobody) × (left leaves_before (entries_of l) s.after < left leaves_before (entries_of l) n)
+  both-further n p s t front some back last at there h g =
+      let by = bucket_of (bucket_count l) in
+      let es = entries_of l in
+      let none = nobody-none l k in
+      let f = reach-held leaves_before before-strict by es b (leaves_before d) n front some in
+      let e = reach-held leaves_after after-strict by es b (leaves_after d) p back last in
+      let x = read l n f.0 s k f.1 at in
+      let y = read l p e.0 t k e.1 there in
+      let early = ap (leaves_before d) (sym x.departure) ∙ h in
+      let late = ap (leaves_after d) (sym y.departure) ∙ g in
+      let next = subst (λ c. IsNextIn l c (Some f.0) s.after) f.2 x.next in
+      let previous = subst (λ c. IsPreviousIn l c (Some e.0) t.before) e.2 y.previous in
+      let on = reach-next leaves_before before-strict by es b (leaves_before d) n s.after f.0 front f.1 early next in
+      let off = reach-next leaves_after after-strict by es b (leaves_after d) p t.before e.0 back e.1 late previous in (
+        on,
+        reach-some leaves_before before-strict by es b (leaves_before d) s.after p e.0 none on e.1 e.2 (before-strict.either e.0 d (new p e.0 e.1) late),
+        off,
+        reach-some leaves_after after-strict by es b (leaves_after d) t.before n f.0 none off f.1 f.2 (after-strict.either f.0 d (new n f.0 f.1) early),
+        left-falls leaves_before before-strict by es b n s.after f.0 f.1 next,
+      )

@@ -1,0 +1,11 @@
+pub mod AheadLemmas
+pub mod BuildLemmas
+pub mod ChangeLemmas
+pub mod GapLemmas
+pub mod LinkLemmas
+pub mod OrderLemmas
+pub mod ReachLemmas
+pub mod SlotLemmas
+pub mod SortedLemmas
+pub mod StoredLemmas
+pub mod Words

@@ -1,0 +1,60 @@
+use Rattle.dep_order.proofs.Words.{refl, sym, ◌∙◌, ap, arith, None, Some, Departure, entries_of, held, set, set-set}
+use Rattle.dep_order.proofs.ChangeLemmas.{freed, retimed-as, with_time-is}
+use Rattle.dep_order.proofs.StoredLemmas.{read, some-of, within}
+use Rattle.dep_order.proofs.lists.Lists.retime.Goals as goal
+
+pub keeps_place-requires-clause-before : goal.keeps_place-requires-clause-before
+keeps_place-requires-clause-before c =
+    let l = c.args.self.now in
+    let d = some-of (held (entries_of l) c.args.number) c.requires.there in
+    (read l c.args.number d.0 c.index-slot.result.now c.requires.kept d.1 c.index-slot.ensures).previous.ends
+
+pub keeps_place-requires-clause-after : goal.keeps_place-requires-clause-after
+keeps_place-requires-clause-after c =
+    let l = c.args.self.now in
+    let d = some-of (held (entries_of l) c.args.number) c.requires.there in
+    (read l c.args.number d.0 c.index-slot.result.now c.requires.kept d.1 c.index-slot.ensures).next.ends
+
+pub index_mut-requires : goal.index_mut-requires
+index_mut-requires c =
+    let l = c.args.self.now in
+    let d = some-of (held (entries_of l) c.args.number) c.requires.there in
+    omega (arith, within l c.args.number d.0 d.1)
+
+pub insert-requires-clause-free : goal.insert-requires-clause-free
+insert-requires-clause-free c =
+    let l = c.args.self.now in
+    let d = some-of (held (entries_of l) c.args.number) c.requires.there in
+    (freed l c.remove.new.self c.args.number d.0 d.0 c.requires.kept d.1 refl c.remove.ensures.entries).0
+
+pub insert-requires-clause-new_key : goal.insert-requires-clause-new_key
+insert-requires-clause-new_key c =
+    let l = c.args.self.now in
+    let s = c.index-slot.result.now in
+    let d = some-of (held (entries_of l) c.args.number) c.requires.there in
+    let same = (read l c.args.number d.0 s c.requires.kept d.1 c.index-slot.ensures).departure in
+    (freed l c.remove.new.self c.args.number d.0 s.departure c.requires.kept d.1 same c.remove.ensures.entries).1
+
+pub returns-then-keeps_place : goal.returns-then-keeps_place
+returns-then-keeps_place c =
+    let l = c.args.self.now in
+    let s = c.index-slot.result.now in
+    let d = some-of (held (entries_of l) c.args.number) c.requires.there in
+    let same = (read l c.args.number d.0 s c.requires.kept d.1 c.index-slot.ensures).departure in
+    let e : Departure = record { time = c.args.time; key = s.departure.key } in
+    let k = c.keeps_place.ensures in
+    let stays = c.if-keeps_place.true in
+    let x = retimed-as l c.args.number s c.index_mut.result.now d.0 e c.requires.kept d.1 c.index-slot.ensures c.index_mut.ensures.value (ap (λ (x : Departure). x.key) same) (k.bucket stays) (k.before stays) (k.after stays) in
+    record { kept = x.0; entries = x.1 ∙ sym (with_time-is (entries_of l) c.args.number c.args.time d.0 s.departure d.1 same) }
+
+pub returns-else-keeps_place-clause-entries : goal.returns-else-keeps_place-clause-entries
+returns-else-keeps_place-clause-entries c =
+    let l = c.args.self.now in
+    let m = c.args.number in
+    let s = c.index-slot.result.now in
+    let d = some-of (held (entries_of l) m) c.requires.there in
+    let same = (read l m d.0 s c.requires.kept d.1 c.index-slot.ensures).departure in
+    let e : Departure = record { time = c.args.time; key = s.departure.key } in
+    c.insert.ensures.entries ∙ ap (λ es. set es m (Some e)) c.remove.ensures.entries
+    ∙ set-set (entries_of l) m None (Some e)
+    ∙ sym (with_time-is (entries_of l) m c.args.time d.0 s.departure d.1 same)

@@ -1,0 +1,28 @@
+//! Departures, and the order in which they take place.
+
+ghost use Rattle.std.specs.Prelude.{◌≡◌};
+ghost use Rattle.dep_order.specs.Departing.{leaves_before};
+
+use mt_base::keys::Key;
+use mt_base::numbers::Time;
+
+/// A departure: when it takes place, and which it is. Departures are ordered by their times, and
+/// those of one second by their keys.
+#[derive(Clone, Copy, Debug, PartialEq, Eq, PartialOrd, Ord)]
+pub struct Departure {
+    /// When it takes place, in seconds from the base of day 0.
+    pub time: Time,
+
+    /// Which event it is, with its scheduled time.
+    pub key: Key,
+}
+
+impl Departure {
+    /// Whether it takes place before the other, or in the same second with a key before the
+    /// other's.
+    pub fn leaves_before(&self, other: &Departure) -> bool
+        ensures { result ≡ leaves_before self.now other.now }
+    {
+        self.cmp(other).is_lt()
+    }
+}

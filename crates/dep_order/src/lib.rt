@@ -1,0 +1,15 @@
+//! The departures in the order in which they take place now.
+#![tactic(auto)]
+
+mod ahead;
+mod changes;
+pub mod departure;
+mod gap;
+mod links;
+mod lists;
+pub mod order;
+pub mod scan;
+
+pub use departure::Departure;
+pub use order::DepartureOrder;
+pub use scan::Departures;

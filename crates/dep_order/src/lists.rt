@@ -1,0 +1,115 @@
+//! Departures in slots by number, and the lists of those of each bucket.
+
+ghost use Rattle.std.specs.Prelude.{◌≡◌, ◌≤◌, ◌^◌, IfOk, None, false, replicate};
+ghost use Rattle.dep_order.specs.Departing.{held};
+ghost use Rattle.dep_order.specs.Stored.{AreKept, entries_of};
+
+use crate::departure::Departure;
+use mt_base::keys::Key;
+use mt_base::memory::OutOfMemory;
+use mt_base::numbers::{Label, Time, TrainNo};
+use std::alloc::Global;
+
+/// What stands for no departure in a link.
+pub(crate) const NOBODY: u32 = u32::MAX;
+
+/// How many seconds a bucket is for.
+pub(crate) const BUCKET_SECONDS: u32 = 8;
+
+/// What is kept for a number: the departure, if one has the number, and which stand beside it.
+#[derive(Clone, Copy)]
+pub(crate) struct Slot {
+    pub(crate) departure: Departure,
+    /// The number of the one before it in its bucket.
+    pub(crate) before: u32,
+    /// The number of the one after it in its bucket.
+    pub(crate) after: u32,
+    /// Whether a departure has the number.
+    pub(crate) there: bool,
+}
+
+/// The numbers of the first and the last departure of a bucket.
+#[derive(Clone, Copy)]
+pub(crate) struct Bucket {
+    pub(crate) first: u32,
+    pub(crate) last: u32,
+}
+
+/// Departures in slots by number, linked in buckets of eight seconds by their times, of which the
+/// last is for all later times too.
+#[derive(Drop)]
+pub(crate) struct Lists {
+    pub(crate) slots: Vec<Slot>,
+    pub(crate) buckets: Vec<Bucket>,
+}
+
+/// The numbers of two departures of a bucket between which there is none.
+#[derive(Clone, Copy)]
+pub(crate) struct Gap {
+    pub(crate) before: u32,
+    pub(crate) after: u32,
+}
+
+impl Lists {
+    /// No departures, with so many numbers for them, and a bucket for each eight seconds up to a
+    /// time.
+    pub(crate) fn empty(alloc: Global, room: u32, latest: u32) -> Result<Lists, OutOfMemory>
+        requires { room ≤ 2 ^ 22 }
+        ensures kept { IfOk result (λ lists. AreKept lists) }
+        ensures entries { IfOk result (λ lists. entries_of lists ≡ replicate room None) }
+    {
+        let buckets = (latest / BUCKET_SECONDS) as usize + 1;
+        let bucket = Bucket {
+            first: NOBODY,
+            last: NOBODY,
+        };
+        Ok(Lists {
+            slots: vec![in alloc; free_slot(); room as usize]?,
+            buckets: vec![in alloc; bucket; buckets]?,
+        })
+    }
+
+    /// The same lists once more.
+    pub(crate) fn copy(&self, alloc: Global) -> Result<Lists, OutOfMemory>
+        ensures kept { AreKept self.now → IfOk result (λ copy. AreKept copy) }
+        ensures entries { IfOk result (λ copy. entries_of copy ≡ entries_of self.now) }
+    {
+        Ok(Lists {
+            slots: Vec::from_slice(alloc, &self.slots)?,
+            buckets: Vec::from_slice(alloc, &self.buckets)?,
+        })
+    }
+
+    /// The departure that has a number, if there is one.
+    pub(crate) fn get(&self, number: u32) -> Option<Departure>
+        ensures { result ≡ held (entries_of self.now) number }
+    {
+        let slot = self.slots.get(number as usize)?;
+        if slot.there {
+            Some(slot.departure)
+        } else {
+            None
+        }
+    }
+}
+
+/// A slot for a number that no departure has.
+fn free_slot() -> Slot
+    ensures { result.there ≡ false }
+{
+    let time = Time::new(0);
+    Slot {
+        departure: Departure {
+            time,
+            key: Key {
+                time,
+                train: TrainNo::new(0),
+                label: Label::new(0),
+                dep: true,
+            },
+        },
+        before: NOBODY,
+        after: NOBODY,
+        there: false,
+    }
+}

@@ -1,0 +1,7 @@
+use Rattle.std.proofs.Common.{◌≡◌, drop}
+use Rattle.csv.specs.Records.{fields_of}
+use Rattle.gtfs_tables.specs.Checks.{all_utf8}
+use Rattle.gtfs_tables.proofs.sheets.each_utf8.Given as goal
+
+abbrev pub invariant-loop-at : goal.invariant-loop-at
+invariant-loop-at l = all_utf8 (fields_of l.fields) ≡ all_utf8 (drop l.at (fields_of l.fields))

@@ -1,0 +1,16 @@
+pub mod Words
+pub mod Sorted
+pub mod Named
+pub mod Ordered
+pub mod Sized
+pub mod Idle
+pub mod AtKeys
+pub mod Marking
+pub mod Walk
+pub mod StepWords
+pub mod StepStored
+pub mod StepStays
+pub mod StepSums
+pub mod StepUnsettled
+pub mod StepCosts
+pub mod StepListed

@@ -1,0 +1,61 @@
+-- The events to which edges lead are marked one after the other.
+use Rattle.propagate.proofs.Words.{◌≡◌, ◌<◌, ◌≤◌, ◌||◌, ◌&&◌, Bool, true, false, List, [], ◌∷◌, filter, length, get_or, refl, sym, ◌∙◌, subst, arith, inl, inr, All, All-contains, All-head, All-tail, All-permutation, Contains}
+use Rattle.propagate.proofs.Words.{list_any, list_any_at, list_any-IsPermutation, or_cases, cases_Bool, IsPermutation, IsPermutation-sym, Key, Edge, is_same, same-is, same-itself, Ascends, Marked, is_marked}
+use Rattle.propagate.proofs.Named.{find-any}
+use Rattle.rank_order.proofs.RoomLemmas.{room-left}
+
+-- what holds of each key that is marked holds of all of them, and the other way round
+pub each-marked : (P : Key → Type 0) (marks : Marked) → ((q : Key) → is_marked marks q ≡ true → P q) → All P marks.keys
+each-marked P marks h = λ i d l. let q = get_or marks.keys i d in h q (list_any_at (λ a. is_same a q) marks.keys i d l (same-itself q))
+
+pub of-marked : (P : Key → Type 0) (marks : Marked) → All P marks.keys → (q : Key) → is_marked marks q ≡ true → P q
+of-marked P marks all q h =
+    let r = find-any (λ a. is_same a q) marks.keys h in
+    subst P (same-is r.one q r.passes) (All-contains P marks.keys r.one all r.there)
+
+-- one of the edges leads to this key
+abbrev pub leads : List Edge → Key → Bool
+leads gs q = list_any (λ (e : Edge). is_same e.to q) gs
+
+-- one that passes does
+pub leads-filter : (may : Edge → Bool) (gs : List Edge) (q : Key) → leads (filter may gs) q ≡ list_any (λ (e : Edge). is_same e.to q && may e) gs
+leads-filter may [] q = refl
+leads-filter may (e ∷ gs) q = let rest = leads-filter may gs q in elim (cases_Bool (may e)) [ inl passes ↦ rw (passes, rest) (grind arith) | inr fails ↦ rw (fails, rest) (grind arith) ]
+
+-- what is marked and what the edges that are left lead to is what is to be marked, and all of it is live
+pub record IsMarking (live : List Key) (gs : List Edge) (first : Marked) (left : List Edge) (marks : Marked) : Type 0 where
+  pub room : marks.room ≡ first.room
+  pub ends : All (λ (e : Edge). Contains live e.to) left
+  pub known : (q : Key) → is_marked marks q ≡ true → Contains live q
+  pub marked : (q : Key) → (is_marked marks q || leads left q) ≡ (is_marked first q || leads gs q)
+
+pub marking-first : (live : List Key) (gs left : List Edge) (first : Marked) → IsPermutation left gs → All (λ (e : Edge). Contains live e.to) gs → All (Contains live) first.keys → IsMarking live gs first left first
+marking-first live gs left first moved ends known =
+    record {
+      room = refl;
+      ends = All-permutation (λ (e : Edge). Contains live e.to) gs left (IsPermutation-sym left gs moved) ends;
+      known = of-marked (Contains live) first known;
+      marked = λ q. rw (list_any-IsPermutation (λ (e : Edge). is_same e.to q) left gs moved) refl;
+    }
+
+module _ {live : List Key} {gs : List Edge} {first : Marked} {left : List Edge} {marks : Marked} (part : IsMarking live gs first left marks) where
+  module _ {e : Edge} {rest : List Edge} (next : left ≡ e ∷ rest) where
+    end : Contains live e.to
+    end = All-head (λ (e : Edge). Contains live e.to) e rest (rw next at part.ends)
+
+    -- there is room for the event to which an edge leads
+    pub marking-room : length live ≤ first.room → Ascends marks.keys → is_marked marks e.to ≡ false → length marks.keys < marks.room
+    marking-room room up none = omega (arith, part.room, room-left marks.keys live e.to up (each-marked (Contains live) marks part.known) end none)
+
+    pub marking-more : (more : Marked) → more.room ≡ marks.room → ((q : Key) → is_marked more q ≡ (is_same e.to q || is_marked marks q)) → IsMarking live gs first rest more
+    marking-more more same now =
+        record {
+          room = same ∙ part.room;
+          ends = All-tail (λ (e : Edge). Contains live e.to) e rest (rw next at part.ends);
+          known = λ q h. elim (or_cases (is_same e.to q) (is_marked marks q) (sym (now q) ∙ h)) [ inl own ↦ subst (Contains live) (same-is e.to q own) end | inr before ↦ part.known q before ];
+          marked = λ q. let before = rw next at part.marked q in rw (now q) (grind (arith, before));
+        }
+
+  -- in the end
+  pub marking-last : left ≡ [] → (q : Key) → is_marked marks q ≡ (is_marked first q || leads gs q)
+  marking-last none q = let all = rw none at part.marked q in grind (arith, all)

@@ -1,0 +1,338 @@
+-- The walk along the order of the keys: what is before the least mark is settled.
+use Rattle.propagate.proofs.Words.{◌≡◌, ◌≢◌, ◌⊎◌, ℕ, suc, ◌+◌, ◌^◌, ◌<◌, ◌≤◌, ◌||◌, ◌&&◌, Bool, true, false, not, List, [], ◌∷◌, ◌++◌, append_assoc, append-nil, map, map-append, Vec, Global, vec_len, vec_capacity}
+use Rattle.propagate.proofs.Words.{Some, unwrap_or, length, length-append, get_or, take, drop, refl, sym, ◌∙◌, ap, subst, arith, inl, inr, All, AllPairs, Contains, filter, filter-append, filter-none}
+use Rattle.propagate.proofs.Words.{false_from_ne_true, eqb-true, eq-eqb, and_from, and_parts, or_parts, or_cases, not-then, sum_by, sum_by-append, list_any}
+use Rattle.propagate.proofs.Words.{take-append-drop, All-contains, All-contains_itself, Contains-append_left, Contains-append_right}
+use Rattle.propagate.proofs.Words.{Key, Node, is_before, is_same, node_of, is_same_node, before-itself, before-asymmetric, same-is, same-itself, Edge, events, is_live, edges, outgoing}
+use Rattle.propagate.proofs.Words.{event_time, IsValid, Contains-there, StoredTimes, time_of, has_time, edges_to, edges_from}
+use Rattle.propagate.proofs.Words.{stored_time, local_at, Timetabled, HasItsTime, HasItsValue, HasTimesFor, IsOrderOf, live_keys, retimed_at, Retimed, State, has_another, is_due, is_fed_anew, may_change, reads_at, Marked, is_marked, has_key, AllPairs-before, All-permutation, Contains-permutation, IsPermutation-sym, length_permutation}
+use Rattle.std.proofs.Math.Seq.{drop-cons}
+use Rattle.delay_model.proofs.Ends.{JoinsLive, edges-join}
+use Rattle.propagate.proofs.{Named.any-from, Named.find-any, Ordered.key-live, Ordered.live-ordered, Ordered.each-after, Ordered.stands-after, Ordered.filtered}
+use Rattle.delay_model.proofs.Lists.{count_by-lt}
+use Rattle.delay_model.specs.Valid.{IsForward}
+use Rattle.propagate.proofs.Words.{count_by, before-trans, same_node-itself}
+use Rattle.propagate.proofs.Idle.{or-right}
+use Rattle.propagate.proofs.Marking.{each-marked, of-marked}
+use Rattle.propagate.proofs.AtKeys.{into, out-of, live-name, by-rule, one-or-other, time-before, time-all, next-fits, next-held, next-local, value-is, value-left, value-own}
+
+-- how many keys are not before the least mark
+abbrev pub ahead_by : List Key → List Key → ℕ
+ahead_by order [] = 0
+ahead_by order (m ∷ ms) = count_by (λ q. not (is_before q m)) order
+
+later-fails : (k m q : Key) → is_before k m ≡ true → not (is_before q m) ≡ true → not (is_before q k) ≡ true
+later-fails k m q up h = grind (arith, before-trans q k m)
+
+-- they get fewer where the least mark is taken out, and only keys after it are marked
+pub ahead-less : (order : List Key) (k : Key) (rest now : List Key) → Contains order k → ((q : Key) → has_key now q ≡ true → is_before k q ≡ true) → ahead_by order now < ahead_by order (k ∷ rest)
+ahead-less order k rest [] h after =
+    let less = count_by-lt (λ _. false) (λ q. not (is_before q k)) order k (λ q e. absurd (cc)) h.0 h.1 h.2 refl (rw (before-itself k) refl) in omega arith
+ahead-less order k rest (m ∷ ms) h after =
+    let up : is_before k m ≡ true = after m (rw (same-itself m) refl) in
+    count_by-lt (λ q. not (is_before q m)) (λ q. not (is_before q k)) order k (λ q e. later-fails k m q up e) h.0 h.1 h.2 (rw up refl) (rw (before-itself k) refl)
+
+-- part of a walk along the keys in their order. The keys before the rest are passed: nothing marked is among them, and the events
+-- whose time differs are listed. What is stored for each event that is not marked is what the rule gives it, and for the rest it is
+-- what was stored at first
+pub record IsPart (g : Timetabled) (order : List Key) (old : StoredTimes) (first : Marked) (before : Vec Retimed Global) (start : ℕ) (times : StoredTimes) (marks : Marked) (changed : Vec Retimed Global) (steps : ℕ) : Type 0 where
+  pub passed : List Key
+  pub rest : List Key
+  pub whole : order ≡ passed ++ rest
+  pub ahead : (q : Key) → is_marked marks q ≡ true → Contains rest q
+  pub due : (q : Key) → is_marked marks q ≡ true → is_due g first old q ≡ true
+  pub held : All (λ k. has_time times (node_of k) ≡ true) order
+  pub values : (q : Key) → Contains order q → is_marked marks q ≡ false → HasItsValue g times q
+  pub left : All (λ k. time_of times (node_of k) ≡ time_of old (node_of k)) rest
+  pub listed : changed.items ≡ before.items ++ map (retimed_at g.network g.state old) (filter (has_another g.network g.state old) passed)
+  pub room : vec_len changed + length rest ≤ vec_capacity changed
+  pub limit : marks.room ≡ first.room
+  pub capacity : vec_capacity changed ≡ vec_capacity before
+  pub has_times : (st : State) → HasTimesFor st old → HasTimesFor st times
+  pub cost : steps ≤ start + sum_by (reads_at g) (filter (is_due g first old) passed)
+
+-- a sum over the elements that pass, of which the last is one
+sum-more : (f : Key → ℕ) (p : Key → Bool) (xs ys : List Key) (k : Key) → p k ≡ true → sum_by f (filter p ((xs ++ ys) ++ k ∷ [])) ≡ sum_by f (filter p xs) + sum_by f (filter p ys) + f k
+sum-more f p xs ys k h =
+    rw (filter-append p (xs ++ ys) (k ∷ []), filter-append p xs ys, h, sum_by-append f (filter p xs ++ filter p ys) (k ∷ []), sum_by-append f (filter p xs) (filter p ys)) (omega arith)
+
+-- a list is cut at one of its elements
+cut-at : {X : Type 0} (xs : List X) (x : X) (h : Contains xs x) → xs ≡ take h.0 xs ++ x ∷ drop (suc h.0) xs
+cut-at xs x h = sym (take-append-drop h.0 xs) ∙ ap (λ ys. take h.0 xs ++ ys) (drop-cons xs h.0 x h.1 ∙ ap (λ y. y ∷ drop (suc h.0) xs) h.2)
+
+-- at first
+pub part-first : (g : Timetabled) (order : List Key) (old : StoredTimes) (first : Marked) (before : Vec Retimed Global) (start : ℕ) → IsOrderOf (events g.state) order → All (λ k. has_time old (node_of k) ≡ true) (live_keys (events g.state)) → All (Contains (live_keys (events g.state))) first.keys
+    → All (λ k. is_marked first k ≡ false → HasItsValue g old k) (live_keys (events g.state)) → vec_len before + length (live_keys (events g.state)) ≤ vec_capacity before → IsPart g order old first before start old first before start
+part-first g order old first before start is held known values room =
+    let live = live_keys (events g.state) in
+    record {
+      passed = [];
+      rest = order;
+      whole = refl;
+      ahead = λ q h. Contains-permutation live order q is.moved (of-marked (Contains live) first known q h);
+      due = λ q h. rw h refl;
+      held = All-permutation (λ k. has_time old (node_of k) ≡ true) live order is.moved held;
+      values = λ q h. All-contains (λ k. is_marked first k ≡ false → HasItsValue g old k) order q (All-permutation (λ k. is_marked first k ≡ false → HasItsValue g old k) live order is.moved values) h;
+      left = λ i d l. refl;
+      listed = sym (append-nil before.items);
+      room = let long = length_permutation live order is.moved in omega arith;
+      limit = refl;
+      capacity = refl;
+      has_times = λ st h. h;
+      cost = omega arith;
+    }
+
+module _ {g : Timetabled} (valid : IsValid g.network g.state) {order : List Key} (is : IsOrderOf (events g.state) order) {old : StoredTimes} {first : Marked} {before : Vec Retimed Global} {start : ℕ} {times : StoredTimes} {marks : Marked} {changed : Vec Retimed Global} {steps : ℕ} (part : IsPart g order old first before start times marks changed steps) where
+  abbrev live : List Key
+  live = live_keys (events g.state)
+
+  abbrev at_time : Key → Retimed
+  at_time = retimed_at g.network g.state old
+
+  abbrev another : Key → Bool
+  another = has_another g.network g.state old
+
+  -- what is passed or before a key, and not marked, is settled: for what is left of it no other time was stored
+  settled-none : (us : List Key) → ((u : Key) → Contains us u → Contains part.rest u × (stored_time times u ≡ event_time g.network g.state u)) → filter another us ≡ []
+  settled-none us h =
+      filter-none another us (λ i d l.
+      let r = h _ (All-contains_itself us i d l) in
+      let same : stored_time old (get_or us i d) ≡ stored_time times (get_or us i d) = ap (λ o. unwrap_or o 0) (sym (All-contains (λ k. time_of times (node_of k) ≡ time_of old (node_of k)) part.rest _ part.left r.0)) in
+      ap not (eq-eqb _ _ (same ∙ r.1)))
+
+  to-live : (q : Key) → Contains order q → Contains live q
+  to-live q h = Contains-permutation order live q (IsPermutation-sym live order is.moved) h
+
+  in-order : (q : Key) → Contains part.rest q → Contains order q
+  in-order q h = rw part.whole (Contains-append_right part.passed part.rest q h)
+
+  -- in the end
+  module _ (none : marks.keys ≡ []) where
+    unmarked : (q : Key) → is_marked marks q ≡ false
+    unmarked q = rw none refl
+
+    in-order-times : All (HasItsTime g.network g.state times) order
+    in-order-times = λ i d l.
+        let q = get_or order i d in
+        let h = All-contains_itself order i d l in
+        let at = key-live (events g.state) order is q h in
+        let t = time-all g valid is times (λ q h. part.values q h (unmarked q)) q h in
+        sym (part.values q h (unmarked q)) ∙ by-rule g valid is times q at ∙ ap Some (sym (value-is g valid is times q at (part.values q h (unmarked q))) ∙ t)
+
+    pub end-times : All (HasItsTime g.network g.state times) live
+    end-times = All-permutation (HasItsTime g.network g.state times) order live (IsPermutation-sym live order is.moved) in-order-times
+
+    pub end-marks : marks ≡ record first { keys = [] }
+    end-marks = grind (arith, part.limit)
+
+    pub end-listed : changed.items ≡ before.items ++ map at_time (filter another order)
+    end-listed =
+        let none = settled-none part.rest (λ u h. (h, time-all g valid is times (λ q h. part.values q h (unmarked q)) u (in-order u h))) in
+        rw (part.listed, part.whole, filter-append another part.passed part.rest, none, append-nil (filter another part.passed)) refl
+
+    pub end-cost : steps ≤ start + sum_by (reads_at g) (filter (is_due g first old) order)
+    end-cost =
+        let cost = part.cost in
+        rw (part.whole, filter-append (is_due g first old) part.passed part.rest, sum_by-append (reads_at g) (filter (is_due g first old) part.passed) (filter (is_due g first old) part.rest)) (omega arith)
+
+  module _ {less : Marked} {k : Key} (same_room : less.room ≡ marks.room) (taken : marks.keys ≡ k ∷ less.keys) (least : All (λ q. is_before k q ≡ true) less.keys) where
+    marked-now : (q : Key) → is_marked marks q ≡ (is_same k q || is_marked less q)
+    marked-now q = rw taken refl
+
+    k-marked : is_marked marks k ≡ true
+    k-marked = marked-now k ∙ rw (same-itself k) refl
+
+    still-marked : (q : Key) → is_marked less q ≡ true → is_marked marks q ≡ true
+    still-marked q h = marked-now q ∙ or-right (is_same k q) (is_marked less q) h
+
+    after-k : (q : Key) → is_marked less q ≡ true → is_before k q ≡ true
+    after-k q h = of-marked (λ q. is_before k q ≡ true) less least q h
+
+    place : Contains part.rest k
+    place = part.ahead k k-marked
+
+    abbrev us : List Key
+    us = take place.0 part.rest
+
+    abbrev vs : List Key
+    vs = drop (suc place.0) part.rest
+
+    whole : order ≡ (part.passed ++ us) ++ k ∷ vs
+    whole = part.whole ∙ ap (λ ks. part.passed ++ ks) (cut-at part.rest k place) ∙ sym (append_assoc part.passed us (k ∷ vs))
+
+    pub k-there : Contains order k
+    k-there = in-order k place
+
+    before-k : (u : Key) → Contains us u → is_before u k ≡ true
+    before-k u h = All-contains (λ w. is_before w k ≡ true) (part.passed ++ us) u (AllPairs-before (λ a b. is_before a b ≡ true) (part.passed ++ us) k vs (subst (AllPairs (λ a b. is_before a b ≡ true)) whole is.ascends)) (Contains-append_right part.passed us u h)
+
+    -- what is before the key is not marked
+    own : (q : Key) → Contains order q → is_before q k ≡ true → HasItsValue g times q
+    own q h sooner =
+        part.values q h (not-then _ (λ marked.
+        let none = before-itself k in
+        let not = before-asymmetric q k sooner in
+        elim (or_cases (is_same k q) (is_marked less q) (sym (marked-now q) ∙ marked)) [
+          | inl same ↦ (let e = same-is k q same in let b = rw (← e) at sooner in cc)
+          | inr more ↦ (let later = after-k q more in cc)
+        ]))
+
+    module _ {n : Node} (name : n ≡ node_of k) where
+      pub part-live : is_live g.state n ≡ true
+      part-live = rw name (live-name g valid is k k-there)
+
+      pub part-held : All (λ (e : Edge). has_time times (node_of e.from) ≡ true) (edges_to g n)
+      part-held = rw name (next-held g valid is times k k-there own part.held)
+
+      pub part-fits : All (λ (e : Edge). stored_time times e.from + e.weight < 2 ^ 25) (edges_to g n)
+      part-fits = rw name (next-fits g valid is times k k-there own)
+
+      pub part-has : has_time times n ≡ true
+      part-has = rw name (All-contains (λ k. has_time times (node_of k) ≡ true) order k part.held k-there)
+
+      pub part-room : vec_len changed < vec_capacity changed
+      part-room = omega (arith, part.room, place.1)
+
+      -- the events to which it leads can be marked
+      pub part-ends : All (λ (e : Edge). Contains live e.to) (edges_from g n)
+      unfolding outgoing
+      part-ends = rw (name, out-of g valid is k k-there) (λ i d l.
+          let e = (filtered (λ (e : Edge). is_same e.from k) (edges g.network g.state) _ (All-contains_itself (outgoing (edges g.network g.state) k) i d l)).0 in
+          to-live _ (live-ordered (events g.state) order is _ (All-contains (JoinsLive (events g.state)) (edges g.network g.state) _ (edges-join g.network g.state) e).to_end))
+
+      pub part-marked : All (Contains live) less.keys
+      part-marked = each-marked (Contains live) less (λ q h. to-live q (in-order q (part.ahead q (still-marked q h))))
+
+      pub part-limit : length live ≤ first.room → length live ≤ less.room
+      part-limit h = omega (arith, part.limit, same_room)
+
+      pub part-smaller : ahead_by order less.keys < ahead_by order marks.keys
+      part-smaller = rw taken (ahead-less order k less.keys less.keys k-there after-k)
+
+      module _ (x y : ℕ) (was : time_of times n ≡ Some x) (new : StoredTimes) (rule : local_at g times n ≡ Some y) (later : time_of new n ≡ Some y) (others : (m : Node) → is_same_node n m ≡ false → time_of new m ≡ time_of times m) (sizes : (st : State) → HasTimesFor st times → HasTimesFor st new) (count : ℕ) (reads : count ≡ steps + (1 + length (edges_to g n))) where
+        others-k : (m : Node) → is_same_node (node_of k) m ≡ false → time_of new m ≡ time_of times m
+        others-k m h = others m (rw name h)
+
+        x-kept : stored_time times k ≡ x
+        x-kept = let own = rw name at was in rw own refl
+
+        y-kept : stored_time new k ≡ y
+        y-kept = let own = rw name at later in rw own refl
+
+        x-old : stored_time old k ≡ x
+        x-old = ap (λ o. unwrap_or o 0) (sym (All-contains (λ k. time_of times (node_of k) ≡ time_of old (node_of k)) part.rest k part.left place)) ∙ x-kept
+
+        y-time : event_time g.network g.state k ≡ y
+        y-time = ap (λ o. unwrap_or o 0) (sym (next-local g valid is times k k-there own) ∙ ap (local_at g times) (sym name) ∙ rule)
+
+        counts : x ≢ y → another k ≡ true
+        counts differ = ap not (false_from_ne_true _ (λ e. differ (sym x-old ∙ eqb-true _ _ e ∙ y-time)))
+
+        counts-not : x ≡ y → another k ≡ false
+        counts-not e = ap not (eq-eqb _ _ (x-old ∙ e ∙ sym y-time))
+
+        abbrev fed : Key → Bool
+        fed q = list_any (λ (e : Edge). is_same e.to q && may_change x y e) (outgoing (edges g.network g.state) k)
+
+        fed-by : (q : Key) → fed q ≡ true → (e : Edge) × Contains (edges g.network g.state) e × (e.from ≡ k) × (is_same e.to q ≡ true) × (may_change x y e ≡ true)
+        unfolding outgoing
+        fed-by q h =
+            let r = find-any (λ (e : Edge). is_same e.to q && may_change x y e) (outgoing (edges g.network g.state) k) h in
+            let both = and_parts (is_same r.one.to q) (may_change x y r.one) r.passes in
+            let from = filtered (λ (e : Edge). is_same e.from k) (edges g.network g.state) r.one r.there in
+            (r.one, from.0, same-is r.one.from k from.1, both.0, both.1)
+
+        fed-after : (q : Key) → fed q ≡ true → Contains order q × (is_before k q ≡ true)
+        fed-after q h =
+            let r = fed-by q h in
+            let to = same-is r.0.to q r.3 in
+            let joins = All-contains (JoinsLive (events g.state)) (edges g.network g.state) r.0 (edges-join g.network g.state) r.1 in
+            let goes = All-contains IsForward (edges g.network g.state) r.0 valid.forward r.1 in
+            (subst (Contains order) to (live-ordered (events g.state) order is r.0.to joins.to_end), rw (r.2, to) at goes.later)
+
+        fed-due : x ≢ y → (q : Key) → fed q ≡ true → is_due g first old q ≡ true
+        fed-due differ q h =
+            let r = fed-by q h in
+            let may : may_change (stored_time old r.0.from) (event_time g.network g.state r.0.from) r.0 ≡ true = rw (r.2, x-old, y-time) r.4 in
+            or-right (is_marked first q) (is_fed_anew g old q)
+            (any-from (λ (e : Edge). is_same e.to q && (another e.from && may_change (stored_time old e.from) (event_time g.network g.state e.from) e)) (edges g.network g.state) r.0 r.1
+            (and_from _ _ r.3 (and_from _ _ (rw r.2 (counts differ)) may)))
+
+        passes : filter another (part.passed ++ us) ≡ filter another part.passed
+        passes =
+            let none = settled-none us (λ u h. let there : Contains part.rest u = rw (cut-at part.rest k place) (Contains-append_left us (k ∷ vs) u h) in (there, time-before g valid is times k own u (in-order u there) (before-k u h))) in
+            rw (filter-append another part.passed us, none) (append-nil (filter another part.passed))
+
+        module _ (more : Marked) (more_room : more.room ≡ less.room) (ins : (q : Key) → is_marked more q ≡ true → (is_marked less q ≡ true) ⊎ ((x ≢ y) × (fed q ≡ true))) (outs : (q : Key) → is_marked more q ≡ false → (is_marked less q ≡ false) × ((x ≡ y) ⊎ (fed q ≡ false))) (next : Vec Retimed Global) (added : next.items ≡ changed.items ++ map at_time (filter another (k ∷ []))) (room : vec_len next + length vs ≤ vec_capacity next) (same : vec_capacity next ≡ vec_capacity changed) where
+          part-more : IsPart g order old first before start new more next count
+          part-more =
+              record {
+                passed = (part.passed ++ us) ++ k ∷ [];
+                rest = vs;
+                whole = whole ∙ sym (append_assoc (part.passed ++ us) (k ∷ []) vs);
+                ahead = λ q h.
+                    elim (ins q h) [
+                      | inl stays ↦ stands-after (events g.state) order is (part.passed ++ us) k vs whole q (in-order q (part.ahead q (still-marked q stays))) (after-k q stays)
+                      | inr comes ↦ (let r = fed-after q comes.1 in stands-after (events g.state) order is (part.passed ++ us) k vs whole q r.0 r.1)
+                    ];
+                due = λ q h. elim (ins q h) [ inl stays ↦ part.due q (still-marked q stays) | inr comes ↦ fed-due comes.0 q comes.1 ];
+                held = λ i d l.
+                    let q = get_or order i d in
+                    elim (one-or-other g valid is k q k-there (All-contains_itself order i d l)) [
+                      | inl e ↦ rw (e, ← name, later) refl
+                      | inr other ↦ rw (others-k (node_of q) other) (part.held i d l)
+                    ];
+                values = λ q h unmarked.
+                    let r = outs q unmarked in
+                    elim (one-or-other g valid is k q k-there h) [
+                      | inl e ↦ subst (HasItsValue g new) (sym e) (value-own g valid is times new k k-there others-k y (ap (local_at g times) (sym name) ∙ rule) (ap (time_of new) (sym name) ∙ later))
+                      | inr other ↦
+                          let apart = not-then (is_same k q) (λ s. let e = same-is k q s in let own = same_node-itself (node_of k) in let no = rw (← e) at other in cc) in
+                          let none : is_marked marks q ≡ false = marked-now q ∙ rw (apart, r.0) refl in
+                          value-left g valid is times new k k-there others-k q h other (part.values q h none)
+                          (elim r.1 [ inl e ↦ inl (x-kept ∙ e ∙ sym y-kept) | inr f ↦ inr (rw (x-kept, y-kept) f) ])
+                    ];
+                left = λ i d l.
+                    let q = get_or vs i d in
+                    let inside : Contains part.rest q = subst (λ ks. Contains ks q) (sym (cut-at part.rest k place)) (Contains-append_right us (k ∷ vs) q (Contains-there k vs q (All-contains_itself vs i d l))) in
+                    let after = each-after (events g.state) order is (part.passed ++ us) k vs whole i d l in
+                    let none = before-itself k in
+                    elim (one-or-other g valid is k q k-there (in-order q inside)) [
+                      | inl e ↦ (let own = rw e at after in absurd (cc))
+                      | inr other ↦ others-k (node_of q) other ∙ All-contains (λ k. time_of times (node_of k) ≡ time_of old (node_of k)) part.rest q part.left inside
+                    ];
+                listed = added ∙ ap (λ ns. ns ++ map at_time (filter another (k ∷ []))) part.listed ∙ rw (filter-append another (part.passed ++ us) (k ∷ []), passes, map-append at_time (filter another part.passed) (filter another (k ∷ [])), append_assoc before.items (map at_time (filter another part.passed)) (map at_time (filter another (k ∷ [])))) refl;
+                room = room;
+                limit = more_room ∙ same_room ∙ part.limit;
+                capacity = same ∙ part.capacity;
+                has_times = λ st h. sizes st (part.has_times st h);
+                cost =
+                    let cost = part.cost in
+                    let here : reads_at g k ≡ 1 + length (edges_to g n) = rw (name, into g valid is k k-there) refl in
+                    let sum = sum-more (reads_at g) (is_due g first old) part.passed us k (part.due k k-marked) in
+                    omega (arith, here, sum, cost, reads);
+              }
+
+        left-over : length part.rest ≡ length us + suc (length vs)
+        left-over = ap length (cut-at part.rest k place) ∙ length-append us (k ∷ vs)
+
+        -- an event more whose time differs, and marks more
+        pub part-differs : x ≢ y → (more : Marked) → more.room ≡ less.room → ((q : Key) → is_marked more q ≡ (is_marked less q || list_any (λ (e : Edge). is_same e.to q && may_change x y e) (edges_from g n)))
+            → (next : Vec Retimed Global) → next.items ≡ changed.items ++ record { key = k; was = x; is = y } ∷ [] → vec_len next ≡ vec_len changed + 1 → vec_capacity next ≡ vec_capacity changed → IsPart g order old first before start new more next count
+        part-differs differ more more_room marked next pushed long same =
+            let room = part.room in
+            let now : (q : Key) → is_marked more q ≡ (is_marked less q || fed q) = λ q. marked q ∙ rw (name, out-of g valid is k k-there) refl in
+            part-more more more_room (λ q h. elim (or_cases (is_marked less q) (fed q) (sym (now q) ∙ h)) [ inl stays ↦ inl stays | inr comes ↦ inr (differ, comes) ])
+            (λ q h. let both = or_parts (is_marked less q) (fed q) (sym (now q) ∙ h) in (both.0, inr both.1)) next (pushed ∙ rw (counts differ, x-old, y-time) refl) (omega (arith, left-over)) same
+
+        -- or one whose time is as it was stored
+        pub part-same : x ≡ y → IsPart g order old first before start new less changed count
+        part-same e =
+            let room = part.room in
+            part-more less refl (λ q h. inl h) (λ q h. (h, inl e)) changed (sym (append-nil changed.items) ∙ rw (counts-not e) refl) (omega (arith, left-over)) refl
+
+        pub part-differs-smaller : (more : Marked) → ((q : Key) → is_marked more q ≡ (is_marked less q || list_any (λ (e : Edge). is_same e.to q && may_change x y e) (edges_from g n))) → ahead_by order more.keys < ahead_by order marks.keys
+        part-differs-smaller more marked =
+            rw taken (ahead-less order k less.keys more.keys k-there (λ q h.
+            let now : is_marked more q ≡ (is_marked less q || fed q) = marked q ∙ rw (name, out-of g valid is k k-there) refl in
+            elim (or_cases (is_marked less q) (fed q) (sym now ∙ h)) [ inl stays ↦ after-k q stays | inr comes ↦ (fed-after q comes).1 ]))

@@ -1,0 +1,72 @@
+use Rattle.propagate.proofs.Words.{◌≡◌, ◌≢◌, ℕ, true, not, nat_eq, sym, ◌∙◌, not-false, eqb-true, eq-eqb, events, key_order}
+use Rattle.propagate.proofs.Sorted.{keys-ordered}
+use Rattle.propagate.proofs.Walk.{part-first, part-live, part-has, part-held, part-fits, part-room, part-ends, part-marked, part-limit, part-differs, part-same, part-smaller, part-differs-smaller, end-times, end-marks, end-listed, end-cost}
+use Rattle.propagate.proofs.settling.settle.Goals as goal
+
+pub loop-key-init : goal.loop-key-init
+loop-key-init g c =
+    part-first c.args.graph.now (key_order (events c.args.graph.now.state)) c.args.times.now c.args.marks.now c.args.changed.now c.args.steps.now (keys-ordered c.args.graph.now.state c.requires.valid.trains)
+    c.requires.held c.requires.marked c.requires.settled c.requires.room
+
+pub settle_one-was-requires : goal.settle_one-was-requires
+settle_one-was-requires g c =
+    let order = keys-ordered c.args.graph.now.state c.requires.valid.trains in
+    record {
+      live = part-live c.requires.valid order c.loop-key.invariant c.take_least.ensures.room c.in-Some.ensures.taken c.in-Some.ensures.least c.node-n.ensures;
+      has = part-has c.requires.valid order c.loop-key.invariant c.take_least.ensures.room c.in-Some.ensures.taken c.in-Some.ensures.least c.node-n.ensures;
+      held = part-held c.requires.valid order c.loop-key.invariant c.take_least.ensures.room c.in-Some.ensures.taken c.in-Some.ensures.least c.node-n.ensures;
+      fits = part-fits c.requires.valid order c.loop-key.invariant c.take_least.ensures.room c.in-Some.ensures.taken c.in-Some.ensures.least c.node-n.ensures;
+    }
+
+pub push_reserved-requires : goal.push_reserved-requires
+push_reserved-requires g c = let order = keys-ordered c.args.graph.now.state c.requires.valid.trains in part-room c.requires.valid order c.loop-key.invariant c.take_least.ensures.room c.in-Some.ensures.taken c.in-Some.ensures.least c.node-n.ensures
+
+pub mark_successors-requires : goal.mark_successors-requires
+mark_successors-requires g c =
+    let order = keys-ordered c.args.graph.now.state c.requires.valid.trains in
+    record {
+      live = part-live c.requires.valid order c.loop-key.invariant c.take_least.ensures.room c.in-Some.ensures.taken c.in-Some.ensures.least c.node-n.ensures;
+      ends = part-ends c.requires.valid order c.loop-key.invariant c.take_least.ensures.room c.in-Some.ensures.taken c.in-Some.ensures.least c.node-n.ensures;
+      marked = part-marked c.requires.valid order c.loop-key.invariant c.take_least.ensures.room c.in-Some.ensures.taken c.in-Some.ensures.least c.node-n.ensures;
+      room = part-limit c.requires.valid order c.loop-key.invariant c.take_least.ensures.room c.in-Some.ensures.taken c.in-Some.ensures.least c.node-n.ensures c.requires.marks_room;
+    }
+
+differ : (x y : ℕ) → not (nat_eq x y) ≡ true → x ≢ y
+differ x y h e = let same = eq-eqb x y e in absurd (cc)
+
+pub loop-key-preserved-then-ne : goal.loop-key-preserved-then-ne
+loop-key-preserved-then-ne g c =
+    let order = keys-ordered c.args.graph.now.state c.requires.valid.trains in
+    let one = c.settle_one-was in
+    let e = one.ensures in
+    part-differs c.requires.valid order c.loop-key.invariant c.take_least.ensures.room c.in-Some.ensures.taken c.in-Some.ensures.least c.node-n.ensures one.result.0 one.result.1 e.before one.new.times e.rule e.after e.others e.has_times one.new.steps e.cost
+    (differ _ _ (sym c.ne.ensures ∙ c.if-ne.true)) c.mark_successors.new.marks c.mark_successors.ensures.room c.mark_successors.ensures.marked c.push_reserved.new.self c.push_reserved.ensures.items c.push_reserved.ensures.len c.push_reserved.ensures.capacity
+
+pub loop-key-preserved : goal.loop-key-preserved
+loop-key-preserved g c =
+    let order = keys-ordered c.args.graph.now.state c.requires.valid.trains in
+    let one = c.settle_one-was in
+    let e = one.ensures in
+    part-same c.requires.valid order c.loop-key.invariant c.take_least.ensures.room c.in-Some.ensures.taken c.in-Some.ensures.least c.node-n.ensures one.result.0 one.result.1 e.before one.new.times e.rule e.after e.others e.has_times one.new.steps e.cost (eqb-true _ _ (not-false _ (sym c.ne.ensures ∙ c.if-ne.false)))
+
+pub loop-key-smaller-then-ne : goal.loop-key-smaller-then-ne
+loop-key-smaller-then-ne g c =
+    let order = keys-ordered c.args.graph.now.state c.requires.valid.trains in
+    let one = c.settle_one-was in
+    let e = one.ensures in
+    part-differs-smaller c.requires.valid order c.loop-key.invariant c.take_least.ensures.room c.in-Some.ensures.taken c.in-Some.ensures.least c.node-n.ensures one.result.0 one.result.1 e.before one.new.times e.rule e.after e.others e.has_times one.new.steps e.cost c.mark_successors.new.marks c.mark_successors.ensures.marked
+
+pub loop-key-smaller : goal.loop-key-smaller
+loop-key-smaller g c = let order = keys-ordered c.args.graph.now.state c.requires.valid.trains in part-smaller c.requires.valid order c.loop-key.invariant c.take_least.ensures.room c.in-Some.ensures.taken c.in-Some.ensures.least c.node-n.ensures
+
+pub returns-clause-times : goal.returns-clause-times
+returns-clause-times g c = end-times c.requires.valid (keys-ordered c.args.graph.now.state c.requires.valid.trains) c.loop-key.invariant c.in_default.ensures.none
+
+pub returns-clause-marks : goal.returns-clause-marks
+returns-clause-marks g c = c.in_default.ensures.same ∙ end-marks c.requires.valid (keys-ordered c.args.graph.now.state c.requires.valid.trains) c.loop-key.invariant c.in_default.ensures.none
+
+pub returns-clause-changed : goal.returns-clause-changed
+returns-clause-changed g c = end-listed c.requires.valid (keys-ordered c.args.graph.now.state c.requires.valid.trains) c.loop-key.invariant c.in_default.ensures.none
+
+pub returns-clause-cost : goal.returns-clause-cost
+returns-clause-cost g c = end-cost c.requires.valid (keys-ordered c.args.graph.now.state c.requires.valid.trains) c.loop-key.invariant c.in_default.ensures.none

@@ -1,0 +1,6 @@
+pub mod Sorted
+pub mod LiveKeys
+pub mod TimesFor
+pub mod Settling
+pub mod Unsettled
+pub mod Reads

@@ -1,0 +1,97 @@
+//! Settles marked events in the order of their keys.
+
+ghost use Rattle.std.specs.Prelude.{◌≡◌, ◌+◌, ◌<◌, ◌≤◌, ◌^◌, ◌++◌, [], IsTrue, Some, All, Contains, false, length, map, filter, vec_len, vec_capacity};
+ghost use Rattle.std.specs.List.{sum_by};
+ghost use Rattle.mt_base.specs.declared.keys.Node.{Node as ANode};
+ghost use Rattle.mt_base.specs.Order.{node_of, is_same_node};
+ghost use Rattle.delay_model.specs.declared.state.State.{State as AState};
+ghost use Rattle.delay_model.specs.Events.{events, is_live};
+ghost use Rattle.delay_model.specs.Valid.{IsValid};
+ghost use Rattle.train_nodes.specs.Times.{time_of, has_time};
+ghost use Rattle.edge_rules.specs.AtEvent.{edges_to, stored_time, local_at};
+ghost use Rattle.rank_order.specs.Marked.{is_marked};
+ghost use Rattle.propagate.specs.LiveKeys.{HasItsTime, has_another, key_order, live_keys, retimed_at};
+ghost use Rattle.propagate.specs.Settling.{HasItsValue, is_due, reads_at};
+ghost use Rattle.propagate.specs.TimesFor.{HasTimesFor};
+
+use crate::retimed::Retimed;
+use crate::successors::mark_successors;
+use edge_rules::Graph;
+use mt_base::keys::Node;
+use mt_base::numbers::Time;
+use rank_order::Marks;
+use std::sync::ledger::Ledger;
+use train_nodes::{NodeTimes, Steps};
+
+/// Stores the time that the rule gives an event, and answers the one that was stored and this one.
+fn settle_one<L: Ledger>(
+    graph: &Graph,
+    n: &Node,
+    times: &mut NodeTimes,
+    steps: &mut Steps<L>,
+) -> (Time, Time)
+    requires live { IsTrue (is_live graph.now.state n.now) }
+    requires has { IsTrue (has_time times.old n.now) }
+    requires held { All (λ e. IsTrue (has_time times.old (node_of e.from)))
+        (edges_to graph.now n.now) }
+    requires fits { All (λ e. stored_time times.old e.from + e.weight < 2 ^ 25)
+        (edges_to graph.now n.now) }
+    ensures rule { local_at graph.now times.old n.now ≡ Some result.1 }
+    ensures before { time_of times.old n.now ≡ Some result.0 }
+    ensures after { time_of times.new n.now ≡ Some result.1 }
+    ensures others { (m : ANode) → is_same_node n.now m ≡ false → time_of times.new m
+        ≡ time_of times.old m }
+    ensures has_times { (st : AState) → HasTimesFor st times.old → HasTimesFor st times.new }
+    ensures cost { steps.new ≡ steps.old + (1 + length (edges_to graph.now n.now)) }
+{
+    let is = graph.local(*n, times, steps);
+    let was = times.read(*n, steps);
+    if is == was {
+        return (was, is);
+    }
+    times.write(*n, is);
+    (was, is)
+}
+
+/// Stores for each event its time, where what is stored for each event that is not marked is what
+/// the rule gives it. The marked events are settled in the order of their keys, and with them those
+/// that are fed by one whose time differs. It lists the events that get another time, in the order
+/// of their keys, and leaves nothing marked. It takes no memory.
+pub fn settle<L: Ledger>(
+    graph: &Graph,
+    times: &mut NodeTimes,
+    marks: &mut Marks,
+    changed: &mut Vec<Retimed>,
+    steps: &mut Steps<L>,
+)
+    requires valid { IsValid graph.now.network graph.now.state }
+    requires held { All (λ k. IsTrue (has_time times.old (node_of k)))
+        (live_keys (events graph.now.state)) }
+    requires marked { All (Contains (live_keys (events graph.now.state))) marks.old.keys }
+    requires settled { All (λ k. is_marked marks.old k ≡ false → HasItsValue graph.now times.old k)
+        (live_keys (events graph.now.state)) }
+    requires room { vec_len changed.old + length (live_keys (events graph.now.state))
+        ≤ vec_capacity changed.old }
+    requires marks_room { length (live_keys (events graph.now.state)) ≤ marks.old.room }
+    ensures times { All (HasItsTime graph.now.network graph.now.state times.new)
+        (live_keys (events graph.now.state)) }
+    ensures marks { marks.new ≡ record marks.old { keys = [] } }
+    ensures changed { changed.new.items ≡ changed.old.items
+        ++ map (retimed_at graph.now.network graph.now.state times.old)
+        (filter (has_another graph.now.network graph.now.state times.old)
+        (key_order (events graph.now.state))) }
+    ensures capacity { vec_capacity changed.new ≡ vec_capacity changed.old }
+    ensures has_times { (st : AState) → HasTimesFor st times.old → HasTimesFor st times.new }
+    ensures cost { steps.new ≤ steps.old
+        + sum_by (reads_at graph.now) (filter (is_due graph.now marks.old times.old)
+        (key_order (events graph.now.state))) }
+{
+    while let Some(key) = marks.take_least() {
+        let n = key.node();
+        let (was, is) = settle_one(graph, &n, times, steps);
+        if was != is {
+            changed.push_reserved(Retimed { key, was, is });
+            mark_successors(graph, &n, was, is, marks);
+        }
+    }
+}

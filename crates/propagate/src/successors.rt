@@ -1,0 +1,33 @@
+//! The events that are to be settled anew after one that got another time.
+
+ghost use Rattle.std.specs.Prelude.{◌≡◌, ◌≤◌, ◌&&◌, ◌||◌, IsTrue, All, Contains, length};
+ghost use Rattle.std.specs.List.{list_any};
+ghost use Rattle.mt_base.specs.declared.keys.Key.{Key as AKey};
+ghost use Rattle.mt_base.specs.Order.{is_same};
+ghost use Rattle.delay_model.specs.Events.{events, is_live};
+ghost use Rattle.edge_rules.specs.AtEvent.{edges_from};
+ghost use Rattle.edge_rules.specs.Deciding.{may_change};
+ghost use Rattle.rank_order.specs.Marked.{is_marked};
+ghost use Rattle.propagate.specs.LiveKeys.{live_keys};
+
+use edge_rules::Graph;
+use mt_base::keys::Node;
+use mt_base::numbers::Time;
+use rank_order::Marks;
+
+/// Marks the events whose times may change where an event gets another time.
+pub(crate) fn mark_successors(graph: &Graph, n: &Node, was: Time, is: Time, marks: &mut Marks)
+    requires live { IsTrue (is_live graph.now.state n.now) }
+    requires ends { All (λ e. Contains (live_keys (events graph.now.state)) e.to)
+        (edges_from graph.now n.now) }
+    requires marked { All (Contains (live_keys (events graph.now.state))) marks.old.keys }
+    requires room { length (live_keys (events graph.now.state)) ≤ marks.old.room }
+    ensures room { marks.new.room ≡ marks.old.room }
+    ensures marked { (q : AKey) → is_marked marks.new q ≡ (is_marked marks.old q
+        || list_any (λ e. is_same e.to q && may_change was is e) (edges_from graph.now n.now)) }
+{
+    for edge in graph.changing(*n, was, is) {
+        marks.marks_are_in_order();
+        marks.set(&edge.to);
+    }
+}

@@ -1,0 +1,101 @@
+//! Marked events.
+
+ghost use Rattle.std.specs.Prelude.{◌≡◌, ◌≤◌, ◌<◌, ◌||◌, [], ◌∷◌, false, true, Bool, All, filter, IfSome, IfNone, IfOk, length};
+ghost use Rattle.std.specs.Fn.{ComputesKey};
+ghost use Rattle.mt_base.specs.declared.keys.Key.{Key as AKey};
+ghost use Rattle.mt_base.specs.Order.{is_before, is_same};
+ghost use Rattle.rank_order.specs.Marked.{Ascends, is_marked};
+
+use mt_base::keys::Key;
+use mt_base::memory::{OutOfMemory, copy_with_room};
+use std::alloc::Global;
+use std::marker::Model;
+
+/// Events that are marked, by their keys. It is seen as the list of these keys in their order, and
+/// how many can be marked at once.
+#[derive(Drop)]
+pub struct Marks {
+    /// The greatest key first, so that the least is taken off the end.
+    keys: Vec<Key>,
+    room: u32,
+}
+
+impl Model for Marks {
+    ghost use Rattle.rank_order.specs.Marked.{Marked, marked_code};
+
+    ghost Value = { Marked };
+
+    ghost coded = { marked_code };
+
+    ghost use Rattle.rank_order.specs.Stored.{seen, IsStored};
+
+    ghost view = { seen };
+
+    ghost invariant = { IsStored };
+}
+
+impl Marks {
+    /// No marks, with room for so many at once.
+    pub fn build(alloc: Global, room: u32) -> Result<Marks, OutOfMemory>
+        ensures { IfOk result (λ marks. marks ≡ record { keys = []; room = room }) }
+    {
+        Ok(Marks {
+            keys: Vec::with_capacity(alloc, room as usize)?,
+            room,
+        })
+    }
+
+    /// The same marks once more, with the same room.
+    pub fn copy(&self, alloc: Global) -> Result<Marks, OutOfMemory>
+        ensures { IfOk result (λ copy. copy ≡ self.now) }
+    {
+        Ok(Marks {
+            keys: copy_with_room(alloc, &self.keys, self.room)?,
+            room: self.room,
+        })
+    }
+
+    /// A law: each key is before those after it, and there are no more than there is room for.
+    pub fn marks_are_in_order(&self)
+        ensures ascends { Ascends self.now.keys }
+        ensures fits { length self.now.keys ≤ self.now.room }
+    {
+        let _ = &self.keys;
+    }
+
+    /// Marks an event. It takes no memory.
+    pub fn set(&mut self, k: &Key)
+        requires room { is_marked self.old k.now ≡ false → length self.old.keys < self.old.room }
+        ensures room { self.new.room ≡ self.old.room }
+        ensures marked { (q : AKey) → is_marked self.new q
+            ≡ (is_same k.now q || is_marked self.old q) }
+    {
+        let place = self.keys.partition_point(|q| k.is_before(q));
+        if place < self.keys.len() && self.keys[place].is_same(k) {
+            return;
+        }
+        // There is room, so that it succeeds.
+        let _ = self.keys.insert(place, *k);
+    }
+
+    /// Takes out the least marked key. There is none exactly where no event is marked.
+    pub fn take_least(&mut self) -> Option<Key>
+        ensures room { self.new.room ≡ self.old.room }
+        ensures none { IfNone result (self.old.keys ≡ []) }
+        ensures same { IfNone result (self.new ≡ self.old) }
+        ensures taken { IfSome result (λ k. self.old.keys ≡ k ∷ self.new.keys) }
+        ensures least { IfSome result (λ k. All (λ q. is_before k q ≡ true) self.new.keys) }
+    {
+        self.keys.pop()
+    }
+
+    /// Takes the marks off that do not pass a test.
+    pub fn retain<F: FnMut(&Key) -> bool>(&mut self, passes: F)
+        requires { F.IsAlwaysCallable passes }
+        ensures room { self.new.room ≡ self.old.room }
+        ensures keys { (p : AKey → Bool) → ComputesKey F.FnMut p passes → self.new.keys
+            ≡ filter p self.old.keys }
+    {
+        self.keys.retain(passes);
+    }
+}

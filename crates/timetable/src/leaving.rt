@@ -1,0 +1,120 @@
+//! Lists of live events of one train: those that a message takes away, and those that a report
+//! bears on.
+
+ghost use Rattle.std.specs.Prelude.{◌≡◌, ◌+◌, ◌≤◌, ◌++◌, [], ◌∷◌, length, vec_len, vec_capacity};
+ghost use Rattle.delay_model.specs.Cuts.{before};
+ghost use Rattle.delay_model.specs.Effect.{events_between, stretch};
+ghost use Rattle.delay_model.specs.Events.{events, is_event, live_events, train_events};
+ghost use Rattle.delay_model.specs.Touched.{is_reported, names_of, since_report};
+ghost use Rattle.timetable.specs.LiveTimes.{live_keys};
+ghost use Rattle.timetable.specs.Marking.{taken};
+
+use delay_model::state::Event;
+use mt_base::keys::Node;
+use mt_base::numbers::{Label, TrainNo};
+use train_nodes::Trains;
+use train_nodes::kinds::Shape;
+
+/// Lists an event, if it is live.
+fn push_live(list: &mut Vec<Node>, event: &Event)
+    requires room { vec_len list.old + length (live_events (event.now ∷ []))
+        ≤ vec_capacity list.old }
+    ensures list { list.new.items ≡ list.old.items ++ names_of (live_events (event.now ∷ [])) }
+    ensures len { vec_len list.new ≡ vec_len list.old + length (live_events (event.now ∷ [])) }
+    ensures capacity { vec_capacity list.new ≡ vec_capacity list.old }
+{
+    if event.live {
+        list.push_reserved(event.key.node());
+    }
+}
+
+/// Lists the live events of a train from the departure of one call to the arrival of a later one.
+fn list_stretch(list: &mut Vec<Node>, trains: &Trains, t: TrainNo, from: Label, to: Label)
+    requires empty { list.old.items ≡ [] }
+    requires room { length (live_events (train_events trains.now t)) ≤ vec_capacity list.old }
+    ensures list { list.new.items ≡ names_of (live_events (stretch trains.now t from to)) }
+    ensures capacity { vec_capacity list.new ≡ vec_capacity list.old }
+{
+    let departure = Node::departure(t, from);
+    let arrival = Node::arrival(t, to);
+    let mut departed = false;
+    for event in trains.events(t) {
+        let node = event.key.node();
+        departed = departed || node.is_same(&departure);
+        if departed {
+            push_live(list, &event);
+            if node.is_same(&arrival) {
+                return;
+            }
+        }
+    }
+}
+
+/// Lists the live events of the calls strictly between two calls of a train.
+fn list_between(list: &mut Vec<Node>, trains: &Trains, t: TrainNo, from: Label, to: Label)
+    requires empty { list.old.items ≡ [] }
+    requires room { length (live_events (train_events trains.now t)) ≤ vec_capacity list.old }
+    ensures list { list.new.items ≡ names_of (live_events (events_between trains.now t from to)) }
+    ensures capacity { vec_capacity list.new ≡ vec_capacity list.old }
+{
+    let departure = Node::departure(t, from);
+    let arrival = Node::arrival(t, to);
+    let mut departed = false;
+    for event in trains.events(t) {
+        let node = event.key.node();
+        if departed {
+            if node.is_same(&arrival) {
+                return;
+            }
+            push_live(list, &event);
+        }
+        departed = departed || node.is_same(&departure);
+    }
+}
+
+/// Lists the live events that a message takes away, in the train's order.
+pub(crate) fn list_leaving(list: &mut Vec<Node>, trains: &Trains, s: &Shape<'_>)
+    requires empty { list.old.items ≡ [] }
+    requires room { length (live_keys (events trains.now)) ≤ vec_capacity list.old }
+    ensures list { list.new.items ≡ names_of (live_events (taken trains.now s.now)) }
+    ensures capacity { vec_capacity list.new ≡ vec_capacity list.old }
+{
+    match s {
+        Shape::Cancel { train, from, to } => list_stretch(list, trains, *train, *from, *to),
+        Shape::Reroute {
+            train,
+            from,
+            to,
+            ..
+        } => list_between(list, trains, *train, *from, *to),
+        Shape::Extra { .. } => {}
+    }
+}
+
+/// Whether an event is live and reported.
+fn is_reported(event: &Event) -> bool
+    ensures { result ≡ is_reported event.now }
+{
+    event.live && event.report.is_some()
+}
+
+/// Lists the live events before an event on its train, back to the last reported one, that one left
+/// out.
+pub(crate) fn list_since_report(list: &mut Vec<Node>, trains: &Trains, n: &Node)
+    requires empty { list.old.items ≡ [] }
+    requires room { length (live_keys (events trains.now)) ≤ vec_capacity list.old }
+    ensures list { list.new.items ≡ names_of (live_events (since_report
+        (before (is_event n.now) (train_events trains.now n.now.train)))) }
+    ensures capacity { vec_capacity list.new ≡ vec_capacity list.old }
+{
+    for event in trains.events(n.train) {
+        if event.key.node().is_same(n) {
+            return;
+        }
+        if is_reported(&event) {
+            list.clear();
+        } else {
+            push_live(list, &event);
+        }
+    }
+}

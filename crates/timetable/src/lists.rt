@@ -1,0 +1,82 @@
+//! The lists and marks of a timetable, as they are made.
+
+ghost use Rattle.std.specs.Prelude.{◌≡◌, ◌≤◌, IfOk, vec_capacity};
+ghost use Rattle.timetable.specs.Emptied.{AreEmpty};
+
+use crate::departure_list::Departure;
+use mt_base::keys::Node;
+use mt_base::memory::OutOfMemory;
+use propagate::Retimed;
+use rank_order::Marks;
+use std::alloc::Global;
+
+/// The lists of a timetable with their room, and its marks.
+#[derive(Drop)]
+pub(crate) struct Lists {
+    /// The events that a message changes.
+    pub(crate) changed: Vec<Node>,
+    /// The events that are to be settled.
+    pub(crate) marks: Marks,
+    /// The events to which a message gives other times.
+    pub(crate) retimed: Vec<Retimed>,
+    /// The live departures.
+    pub(crate) departures: Vec<Departure>,
+}
+
+/// Nothing listed or marked, with room for so many live events, and in the list of those that a
+/// message changes for twice as many.
+pub(crate) fn empty_lists(alloc: Global, room: u32) -> Result<Lists, OutOfMemory>
+    ensures { IfOk result (λ lists. AreEmpty room lists) }
+{
+    let marks = Marks::build(alloc, room)?;
+    let changed = Vec::with_capacity(alloc, 2 * room as usize)?;
+    let retimed = Vec::with_capacity(alloc, room as usize)?;
+    let departures = Vec::with_capacity(alloc, room as usize)?;
+    Ok(Lists {
+        changed,
+        marks,
+        retimed,
+        departures,
+    })
+}
+
+/// A copy of these items, with room for so many in all.
+fn copy_with_room<T: Copy>(alloc: Global, items: &[T], room: usize) -> Result<Vec<T>, OutOfMemory>
+    ensures items { IfOk result (λ all. all.items ≡ items.now) }
+    ensures room { IfOk result (λ all. room ≤ vec_capacity all) }
+{
+    let mut all = Vec::with_capacity(alloc, room)?;
+    all.extend_from_slice(items)?;
+    Ok(all)
+}
+
+/// The same lists and marks once more, with the same room, but for the list of events that get
+/// other times: nothing is in it.
+pub(crate) fn copy_lists(
+    alloc: Global,
+    changed: &Vec<Node>,
+    marks: &Marks,
+    retimed: &Vec<Retimed>,
+    departures: &Vec<Departure>,
+) -> Result<Lists, OutOfMemory>
+    ensures changed { IfOk result (λ lists. lists.changed.items ≡ changed.now.items) }
+    ensures marks { IfOk result (λ lists. lists.marks ≡ marks.now) }
+    ensures departures { IfOk result (λ lists. lists.departures.items ≡ departures.now.items) }
+    ensures changed_room { IfOk result (λ lists.
+        vec_capacity changed.now ≤ vec_capacity lists.changed) }
+    ensures retimed_room { IfOk result (λ lists.
+        vec_capacity retimed.now ≤ vec_capacity lists.retimed) }
+    ensures departures_room { IfOk result (λ lists.
+        vec_capacity departures.now ≤ vec_capacity lists.departures) }
+{
+    let marks = marks.copy(alloc)?;
+    let changed = copy_with_room(alloc, changed, changed.capacity())?;
+    let retimed = Vec::with_capacity(alloc, retimed.capacity())?;
+    let departures = copy_with_room(alloc, departures, departures.capacity())?;
+    Ok(Lists {
+        changed,
+        marks,
+        retimed,
+        departures,
+    })
+}

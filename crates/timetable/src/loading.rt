@@ -1,0 +1,129 @@
+//! The times of all events, and the departures, as they are at first.
+
+ghost use Rattle.std.specs.Prelude.{◌≡◌, ◌<◌, ◌≤◌, [], IsTrue, OnOk, All, true, false, length, vec_capacity};
+ghost use Rattle.mt_base.specs.Order.{node_of};
+ghost use Rattle.delay_model.specs.declared.state.State.{State as AState};
+ghost use Rattle.delay_model.specs.Events.{events};
+ghost use Rattle.delay_model.specs.Valid.{IsValid};
+ghost use Rattle.train_nodes.specs.Times.{has_time};
+ghost use Rattle.rank_order.specs.Marked.{is_marked};
+ghost use Rattle.timetable.specs.Departures.{live_departures};
+ghost use Rattle.timetable.specs.LiveTimes.{live_keys};
+ghost use Rattle.timetable.specs.Marking.{AreMarksOf};
+ghost use Rattle.timetable.specs.Settled.{IsSettled, HasItsTime, HasTimesFor};
+
+use crate::departure_list::{Departure, list_departures};
+use crate::events::{list_keys, live_keys};
+use crate::marking::mark;
+use crate::scheduled::have_schedule_alone;
+use edge_rules::Graph;
+use mt_base::memory::OutOfMemory;
+use propagate::{Retimed, settle};
+use rank_order::Marks;
+use std::alloc::Global;
+use std::sync::ledger::{Blank, Ledger};
+use train_nodes::{NodeTimes, Steps, Trains};
+
+/// Stores for each live event its scheduled time, if nothing but the schedule is known of any
+/// event: then this is its time. It answers whether it did, and else changes nothing.
+fn store_schedule(graph: &Graph, times: &mut NodeTimes) -> bool
+    requires valid { IsValid graph.now.network graph.now.state }
+    requires held { All (λ k. IsTrue (has_time times.old (node_of k)))
+        (live_keys (events graph.now.state)) }
+    ensures times { result ≡ true → All (HasItsTime graph.now.network graph.now.state times.new)
+        (live_keys (events graph.now.state)) }
+    ensures has_times { (st : AState) → HasTimesFor st times.old → HasTimesFor st times.new }
+    ensures unchanged { result ≡ false → times.new ≡ times.old }
+{
+    if !have_schedule_alone(graph.trains()) {
+        return false;
+    }
+    for k in live_keys(graph.trains()) {
+        times.write(k.node(), k.time);
+    }
+    true
+}
+
+/// Marks each live event, the one with the greatest key first: then no mark has to make room for
+/// another.
+fn mark_all(alloc: Global, trains: &Trains, marks: &mut Marks) -> Result<(), OutOfMemory>
+    requires { AreMarksOf (events trains.now) marks.old }
+    ensures fit { AreMarksOf (events trains.now) marks.new }
+    ensures marked { OnOk result (All (λ k. is_marked marks.new k ≡ true)
+        (live_keys (events trains.now))) }
+    ensures room { marks.new.room ≡ marks.old.room }
+{
+    let mut keys = list_keys(alloc, trains)?;
+    keys.sort_unstable();
+    while let Some(k) = keys.pop() {
+        mark(marks, &k);
+    }
+    Ok(())
+}
+
+/// Stores the time of each live event, and uses a list and marks for that, with nothing in them.
+/// Where nothing but the schedule is known, no rule is evaluated, and no memory is taken.
+fn time_all<L: Ledger>(
+    alloc: Global,
+    graph: &Graph,
+    times: &mut NodeTimes,
+    marks: &mut Marks,
+    retimed: &mut Vec<Retimed>,
+    steps: &mut Steps<L>,
+) -> Result<(), OutOfMemory>
+    requires valid { IsValid graph.now.network graph.now.state }
+    requires held { All (λ k. IsTrue (has_time times.old (node_of k)))
+        (live_keys (events graph.now.state)) }
+    requires unmarked { marks.old.keys ≡ [] }
+    requires empty { retimed.old.items ≡ [] }
+    requires room { length (live_keys (events graph.now.state)) ≤ vec_capacity retimed.old }
+    requires marks_room { length (live_keys (events graph.now.state)) ≤ marks.old.room }
+    ensures times { OnOk result (All (HasItsTime graph.now.network graph.now.state times.new)
+        (live_keys (events graph.now.state))) }
+    ensures has_times { (st : AState) → HasTimesFor st times.old → HasTimesFor st times.new }
+    ensures unmarked { OnOk result (marks.new.keys ≡ []) }
+    ensures marks_room { marks.new.room ≡ marks.old.room }
+    ensures capacity { vec_capacity retimed.new ≡ vec_capacity retimed.old }
+{
+    if !store_schedule(graph, times) {
+        mark_all(alloc, graph.trains(), marks)?;
+        settle(graph, times, marks, retimed, steps);
+    }
+    Ok(())
+}
+
+/// Stores the time of each live event, lists the departures, of which none were listed, and counts
+/// no step.
+pub(crate) fn settle_all<L: Ledger>(
+    alloc: Global,
+    graph: &Graph,
+    times: &mut NodeTimes,
+    marks: &mut Marks,
+    retimed: &mut Vec<Retimed>,
+    departures: &mut Vec<Departure>,
+    blank: Blank,
+) -> Result<(), OutOfMemory>
+    requires name { blank.name ≡ L.name }
+    requires parts { blank.parts ≡ L.parts }
+    requires some { 0 < blank.parts }
+    requires valid { IsValid graph.now.network graph.now.state }
+    requires has_times { HasTimesFor graph.now.state times.old }
+    requires unmarked { marks.old.keys ≡ [] }
+    requires empty { retimed.old.items ≡ [] }
+    requires none { departures.old.items ≡ [] }
+    requires marks_room { length (live_keys (events graph.now.state)) ≤ marks.old.room }
+    requires retimed_room { length (live_keys (events graph.now.state)) ≤ vec_capacity retimed.old }
+    requires room { length (live_keys (events graph.now.state)) ≤ vec_capacity departures.old }
+    ensures settled { OnOk result (IsSettled graph.now.network graph.now.state times.new) }
+    ensures departures { OnOk result (departures.new.items
+        ≡ live_departures graph.now.network graph.now.state) }
+    ensures capacity { vec_capacity departures.old ≤ vec_capacity departures.new }
+    ensures retimed_capacity { vec_capacity retimed.new ≡ vec_capacity retimed.old }
+    ensures unmarked { OnOk result (marks.new.keys ≡ []) }
+    ensures marks_room { marks.new.room ≡ marks.old.room }
+{
+    let mut steps = Steps::<L>::open(blank);
+    time_all(alloc, graph, times, marks, retimed, &mut steps)?;
+    list_departures(departures, graph.trains(), times, &mut steps);
+    Ok(())
+}
