@@ -6,10 +6,12 @@ Usage: bench/crowded.py [PROGRAM ..]     (the built program where none is given)
 It makes feeds of 10,000 and 100,000 trains of four calls each through 100 stops,
 many trains a minute, and one waiting rule for all of them: each departure waits
 two minutes for every train that arrives in the half hour before it, 83 at each
-stop in the larger feed. It runs `times` on each feed without input, with each of
-the programs in turn, and prints the seconds of processor time and the peak memory.
-Programs that take the same words can so be measured side by side. It proves
-nothing and tests nothing; build the program first (README.md).
+stop in the larger feed. It runs `times` on each feed without input and with a
+forecast for each train, up to fifteen minutes late, with each of the programs in
+turn, and prints the seconds of processor time and the peak memory without input,
+and the microseconds of processor time a forecast. Programs that take the same words
+can so be measured side by side. It proves nothing and tests nothing; build the
+program first (README.md).
 """
 
 import os
@@ -51,9 +53,19 @@ def make_feed(folder, trains):
             table.writelines(row + "\n" for row in rows)
 
 
-def run(program, folder):
+def forecast_lines(trains):
+    """A forecast for the second call of each train, up to fifteen minutes late."""
+    for train in range(trains):
+        arrives = 14_400 + 60 * (train % 1_200) + 660 + 60 * ((train + 1) % 16)
+        yield (
+            f'{{"v":1,"type":"forecast","trip":"G{train}","date":"{DATE}","call":1,"event":"arr",'
+            f'"time":"{clock(arrives)}"}}\n'
+        )
+
+
+def run(program, folder, lines=os.devnull):
     """Runs a program on a feed; its seconds of processor time and its peak memory in MiB."""
-    with open(os.devnull, "rb") as given:
+    with open(lines, "rb") as given:
         running = subprocess.Popen([program, "times", folder, "--from", DATE], stdin=given, stdout=subprocess.DEVNULL)
         _, status, usage = os.wait4(running.pid, 0)
     if status != 0:
@@ -63,16 +75,21 @@ def run(program, folder):
 
 def main():
     programs = [Path(word).resolve() for word in sys.argv[1:]] or [PROGRAM]
-    print(f"{'trains':>10} {'seconds':>9} {'MiB':>7}  program")
+    print(f"{'trains':>10} {'seconds':>9} {'MiB':>7} {'us a forecast':>14}  program")
     with tempfile.TemporaryDirectory() as folder:
         for trains in TRAINS:
             feed = Path(folder) / str(trains)
             feed.mkdir()
             make_feed(feed, trains)
+            lines = Path(folder) / f"{trains}.jsonl"
+            with lines.open("w") as given:
+                given.writelines(forecast_lines(trains))
             for program in programs:
                 runs = [run(program, feed) for _ in range(ROUNDS)]
                 seconds, memory = min(time for time, _ in runs), max(size for _, size in runs)
-                print(f"{trains:>10,} {seconds:>9.2f} {memory:>7.0f}  {program}", flush=True)
+                longer = min(run(program, feed, lines)[0] for _ in range(ROUNDS))
+                each = (longer - seconds) / trains * 1e6
+                print(f"{trains:>10,} {seconds:>9.2f} {memory:>7.0f} {each:>14.2f}  {program}", flush=True)
 
 
 if __name__ == "__main__":

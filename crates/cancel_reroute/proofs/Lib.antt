@@ -1,4 +1,3 @@
 pub mod ExtraLemmas
 pub mod RankLemmas
 pub mod RerouteLemmas
-pub mod Walks

@@ -13,7 +13,7 @@ use Rattle.delay_model.specs.declared.state.State.{State}
 use Rattle.delay_model.specs.declared.state.Train.{Train}
 use Rattle.delay_model.specs.Cuts.{after}
 use Rattle.delay_model.specs.Effect.{is_call}
-use Rattle.delay_model.specs.Events.{calls_of, event_by, event_named, is_live}
+use Rattle.delay_model.specs.Events.{calls_of, event_by, event_named}
 use Rattle.delay_model.specs.Timing.{event_time}
 use Rattle.delay_model.specs.Valid.{HasDistinctLabels, IsRun, IsTrain, IsValid}
 use Rattle.train_nodes.specs.Calls.{call_named, has_call, label_after, values_of}
@@ -108,10 +108,18 @@ module _ (nw : Network) (st : State) (valid : IsValid nw st) (train label : ℕ)
     pub arrival-dead : live_time nw st (record { train = train; label = next; dep = false }) ≡ None → first_arrival nw st train (calls_after st train label) ≡ None
     arrival-dead dead = rw is.split (grind (arith, its-time, dead))
 
-    pub arrival-live : (time stop : ℕ) (alights goes_on : Bool) → live_time nw st (record { train = train; label = next; dep = false }) ≡ Some time → option_map (λ (c : Call). c.stop) (call_named st train next) ≡ Some stop → option_map (λ (c : Call). c.alight) (call_named st train next) ≡ Some alights → goes_on ≡ is_live st (record { train = train; label = next; dep = true }) → Some (record { label = next; stop = stop; time = time; alights = alights; goes_on = goes_on }) ≡ first_arrival nw st train (calls_after st train label)
-    arrival-live time stop alights goes_on live at may on =
-        let stops = rw is.found at at in
+    -- its stop, and whether the train departs there, by the departure
+    at-departure : (v : Event) → event_named st (record { train = train; label = next; dep = true }) ≡ Some v → (v.stop ≡ is.call.stop) × (v.live ≡ is.call.departure.live)
+    at-departure v named =
+        let route = route-of (slice_get st.trains train) next is.call is.found in
+        let same = same_Some v (event_by train route.0 is.call.label is.call.stop true is.call.departure) (sym named ∙ event-named st (record { train = train; label = next; dep = true }) route.0 is.call is.found route.1) in
+        (ap (λ (v : Event). v.stop) same, ap (λ (v : Event). v.live) same)
+
+    pub arrival-live : (time : ℕ) (v : Event) (alights : Bool) → live_time nw st (record { train = train; label = next; dep = false }) ≡ Some time → event_named st (record { train = train; label = next; dep = true }) ≡ Some v → option_map (λ (c : Call). c.alight) (call_named st train next) ≡ Some alights → Some (record { label = next; stop = v.stop; time = time; alights = alights; goes_on = v.live }) ≡ first_arrival nw st train (calls_after st train label)
+    arrival-live time v alights live at may =
+        let its = at-departure v at in
+        let stops = its.0 in
+        let leaves = its.1 in
         let lets = rw is.found at may in
-        let leaves = rw is.found at (on ∙ live-named st (record { train = train; label = next; dep = true }) (calls-distinct st valid.trains train)) in
         let named = is.named in
         rw is.split (grind (arith, its-time, live, stops, lets, leaves, named))

@@ -11,6 +11,8 @@ mod StampedLemmas
 mod LoweredLemmas
 mod CallLemmas
 mod WalkLemmas
+mod AtCall
+mod StationLemmas
 mod WayBack
 mod Passed
 mod ScanEnds

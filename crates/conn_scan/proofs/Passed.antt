@@ -1,5 +1,5 @@
 -- Rides that were taken before, so that taking them again changes nothing.
-use Rattle.std.proofs.Common.{◌≡◌, ◌⊎◌, inl, inr, ℕ, zero, suc, ◌+◌, ◌≤◌, nat_eq, nat_lt, Bool, true, false, cond, List, [], ◌∷◌, ◌++◌, Option, Some, None, get_or, length, map, set, refl, sym, ◌∙◌, ap, subst, arith}
+use Rattle.std.proofs.Common.{◌≡◌, ◌⊎◌, inl, inr, ℕ, zero, suc, ◌+◌, ◌≤◌, nat_eq, nat_lt, Bool, true, false, cond, List, [], ◌∷◌, ◌++◌, Option, Some, None, is_some, get_or, length, map, set, refl, ◌∙◌, ap, subst, arith}
 use Rattle.std.specs.List.{All}
 use Rattle.std.specs.Option.{option_map_or}
 use Rattle.std.proofs.lemmas.Bool.{and_left, and_right, cases_Bool, cond-false, cond_both, eqb-true, le-ltb}
@@ -15,25 +15,25 @@ use Rattle.delay_model.specs.declared.state.Call.{Call}
 use Rattle.delay_model.specs.declared.state.State.{State}
 use Rattle.delay_model.specs.Events.{calls_of}
 use Rattle.delay_model.specs.Valid.{IsRun, IsValid}
-use Rattle.timetable.specs.declared.departure_list.Departure.{Departure}
-use Rattle.train_nodes.specs.Calls.{call_named, label_after, values_of}
-use Rattle.train_nodes.proofs.EventLemmas.{live-named}
+use Rattle.dep_order.specs.declared.departure.Departure.{Departure}
+use Rattle.train_nodes.specs.Calls.{label_after}
 use Rattle.conn_scan.specs.Calls.{arrival_at, calls_after}
 use Rattle.conn_scan.specs.Lowered.{lowered}
 use Rattle.conn_scan.specs.Passed.{arrivals_at, passed_on, ArePassed, IsDone, IsPassed}
 use Rattle.conn_scan.specs.Reached.{Access, access_in, improved, IsReached}
 use Rattle.conn_scan.specs.Rides.{rides_from}
 use Rattle.conn_scan.specs.Scan.{ends_there, better, IsThereBy}
-use Rattle.conn_scan.specs.Scanned.{boarding_at, changes_of, departed, is_in_time, ride_to, rides_on, stop_of, took, took_all, IsAtCall}
+use Rattle.conn_scan.specs.Scanned.{changes_of, departed, is_in_time, ride_to, rides_on, took, took_all}
 use Rattle.conn_scan.specs.declared.known.Known.{Known}
 use Rattle.conn_scan.specs.declared.walk.Arrival.{Arrival}
 use Rattle.conn_scan.specs.declared.walk.Boarding.{Boarding}
-use Rattle.conn_scan.proofs.CallLemmas.{calls-distinct, calls-run, next-named, run-rest}
+use Rattle.conn_scan.proofs.AtCall.{IsAtCall}
+use Rattle.conn_scan.proofs.CallLemmas.{calls-run, next-named, run-rest}
 use Rattle.conn_scan.proofs.Forward.{All-right}
 use Rattle.conn_scan.proofs.LoweredLemmas.{length-lowered, lowered-kept, lowered-reached, reached-within}
 use Rattle.conn_scan.proofs.RideLemmas.{is-at}
 use Rattle.conn_scan.proofs.Taking.{better-later, better-there}
-use Rattle.conn_scan.proofs.WalkLemmas.{named-of, rides-none, rides-start}
+use Rattle.conn_scan.proofs.WalkLemmas.{boarding_at, rides-none, rides-start}
 
 -- a way that is not earlier changes nothing
 improved-idle : (b : ℕ) (a : Access) (list : List (Option Access)) → IsReached (access_in list) b a.time → improved b a list ≡ list
@@ -122,18 +122,18 @@ module _ (nw : Network) (q : Query) where
     -- a departure from where a train was passed changes nothing
     pub departed-idle : (d : Departure) (k : Known) → d.key.dep ≡ true → IsPassed nw st q k d.key.train d.key.label → departed nw st q d k ≡ k
     departed-idle d k departs passed =
-        cond_both (is_in_time nw q k.accesses (stop_of st d.key) d.time) (took_all nw q (rides_from nw st (node_of d.key)) k) k (λ now. now ≡ k)
+        cond_both (is_in_time nw q k.accesses d.stop d.time) (took_all nw q (rides_from nw st (node_of d.key)) k) k (λ now. now ≡ k)
         (λ _. rw departs (boards-idle d.key.train d.key.label k passed (boarding_at nw st d.key.train d.key.label) refl)) (λ _. refl)
 
     pub length-departed : (d : Departure) (k : Known) → length (departed nw st q d k).accesses ≡ length k.accesses
     length-departed d k =
-        cond_both (is_in_time nw q k.accesses (stop_of st d.key) d.time) (took_all nw q (rides_from nw st (node_of d.key)) k) k (λ (now : Known). length now.accesses ≡ length k.accesses)
+        cond_both (is_in_time nw q k.accesses d.stop d.time) (took_all nw q (rides_from nw st (node_of d.key)) k) k (λ (now : Known). length now.accesses ≡ length k.accesses)
         (λ _. length-took (rides_from nw st (node_of d.key)) k) (λ _. refl)
 
     pub departed-still : (d : Departure) (k : Known) → length nw.stops ≤ length k.accesses → (passed : List (Option ℕ)) → ArePassed nw st q k passed → ArePassed nw st q (departed nw st q d k) passed
     departed-still d k room passed are train label noted =
         All-weaker (IsDone nw q k) (IsDone nw q (departed nw st q d k)) (λ a done.
-        cond_both (is_in_time nw q k.accesses (stop_of st d.key) d.time) (took_all nw q (rides_from nw st (node_of d.key)) k) k (λ now. IsDone nw q now a)
+        cond_both (is_in_time nw q k.accesses d.stop d.time) (took_all nw q (rides_from nw st (node_of d.key)) k) k (λ now. IsDone nw q now a)
         (λ _. still-all (rides_from nw st (node_of d.key)) k room a done) (λ _. done)) (arrivals_at nw st train (calls_after st train label)) (are train label noted)
 
 -- where a train does not run it arrives nowhere
@@ -158,19 +158,17 @@ module _ (nw : Network) (st : State) (valid : IsValid nw st) (q : Query) (k : Kn
   ]
 
   -- from the next call on
-  next-passed : (d : Departure) → IsAtCall st d → IsPassed nw st q k d.key.train d.key.label → (next : ℕ) → label_after (calls_of st d.key.train) d.key.label ≡ Some next → IsPassed nw st q k d.key.train next
+  next-passed : (d : Departure) → IsAtCall nw st d → IsPassed nw st q k d.key.train d.key.label → (next : ℕ) → label_after (calls_of st d.key.train) d.key.label ≡ Some next → IsPassed nw st q k d.key.train next
   next-passed d there here next after =
       let train = d.key.train in
       let label = d.key.label in
-      let is = next-named nw st valid train label there.0 next after in
-      let c = named-of (call_named st train label) there.0 in
-      let lives = rw c.1 at (live-named st (node_of d.key) (calls-distinct st valid.trains train)) in
-      let goes : c.0.departure.live ≡ true = subst (λ x. (values_of x c.0).live ≡ true) there.1 (sym lives ∙ there.2) in
-      let at = is-at label (calls_of st train) c.0 c.1 in
-      let run = rw (goes, is.split) at (run-rest at.earlier false c.0 (calls_after st train label) (subst (IsRun false) at.split (calls-run st valid.trains train))) in
+      let is = next-named nw st valid train label (ap is_some there.found) next after in
+      let goes = there.live in
+      let at = is-at label (calls_of st train) there.call there.found in
+      let run = rw (goes, is.split) at (run-rest at.earlier false there.call (calls_after st train label) (subst (IsRun false) at.split (calls-run st valid.trains train))) in
       rw is.onward (onward-done train is.call is.rest run (rw is.split at here))
 
-  pub passed-on : (d : Departure) → IsAtCall st d → IsPassed nw st q k d.key.train d.key.label → (passed : List (Option ℕ)) → ArePassed nw st q k passed → ArePassed nw st q k (passed_on st d passed)
+  pub passed-on : (d : Departure) → IsAtCall nw st d → IsPassed nw st q k d.key.train d.key.label → (passed : List (Option ℕ)) → ArePassed nw st q k passed → ArePassed nw st q k (passed_on st d passed)
   passed-on d there here passed are = go (label_after (calls_of st d.key.train) d.key.label) refl
     where
       go : (o : Option ℕ) → label_after (calls_of st d.key.train) d.key.label ≡ o → ArePassed nw st q k (option_map_or (λ next. set passed d.key.train (Some next)) o passed)

@@ -1,5 +1,5 @@
 -- What is known once the departures are scanned.
-use Rattle.std.proofs.Common.{◌≡◌, inl, inr, ℕ, ◌≤◌, nat_le, true, false, List, [], ◌∷◌, ◌++◌, Option, Some, None, slice_get, map, length, replicate, refl, sym, ◌∙◌, ap, subst, arith}
+use Rattle.std.proofs.Common.{◌≡◌, inl, inr, ℕ, ◌≤◌, nat_le, true, false, List, [], ◌∷◌, ◌++◌, Option, Some, None, map, length, replicate, refl, sym, ◌∙◌, ap, subst, arith}
 use Rattle.std.specs.List.{All, Contains}
 use Rattle.std.specs.Option.{MatchOption, option_map_or}
 use Rattle.std.proofs.lemmas.Bool.{cases_Bool, cases_lt, leb-true, leb-false}
@@ -12,43 +12,28 @@ use Rattle.mt_base.specs.declared.plans.Query.{Query}
 use Rattle.mt_base.specs.Order.{node_of}
 use Rattle.change_times.specs.Reach.{reached}
 use Rattle.delay_model.specs.declared.network.Network.{Network}
-use Rattle.delay_model.specs.declared.state.Call.{Call}
 use Rattle.delay_model.specs.declared.state.Event.{Event}
 use Rattle.delay_model.specs.declared.state.State.{State}
-use Rattle.delay_model.specs.Events.{event_named, is_live}
 use Rattle.delay_model.specs.Journeys.{is_one_station, IsInTime}
 use Rattle.delay_model.specs.Timing.{event_time}
 use Rattle.delay_model.specs.Valid.{IsValid}
-use Rattle.edge_rules.proofs.Neighbours.{named-there}
-use Rattle.timetable.specs.Departures.{departing, departures_from, IsDeparture}
-use Rattle.timetable.specs.declared.departure_list.Departure.{Departure}
+use Rattle.timetable.specs.Departures.{departing, departures_from, stop_of, IsDeparture}
+use Rattle.dep_order.specs.declared.departure.Departure.{Departure}
 use Rattle.timetable.proofs.Departing.{later-in, later-each, later-not-before, later-rise, times-rise}
-use Rattle.propagate.proofs.Named.{event-found, event-live}
-use Rattle.train_nodes.specs.Calls.{call_named, has_call}
-use Rattle.train_nodes.proofs.EventLemmas.{event-named}
+use Rattle.propagate.proofs.Named.{event-found}
 use Rattle.conn_scan.specs.Lowered.{lowered, access_of}
 use Rattle.conn_scan.specs.Reached.{Access, access_in, IsReached, IsFromOrigin, IsPossible, IsBehind, AreExplained}
 use Rattle.conn_scan.specs.Rides.{rides_from, IsSeen}
 use Rattle.conn_scan.specs.Scan.{IsScan, IsAtEnd, IsThereBy}
-use Rattle.conn_scan.specs.Scanned.{changes_of, departed, is_in_time, is_there_by, scanned, stop_of, took, took_all, IsAtCall}
+use Rattle.conn_scan.specs.Scanned.{changes_of, departed, is_in_time, is_there_by, scanned, took, took_all}
 use Rattle.conn_scan.specs.declared.known.Known.{Known}
-use Rattle.conn_scan.proofs.CallLemmas.{route-of}
+use Rattle.conn_scan.proofs.AtCall.{event-stop}
 use Rattle.conn_scan.proofs.DepartureList.{list-ends, list-next, rest-late, AreDepartures, IsKnown}
 use Rattle.conn_scan.proofs.Forward.{ride-forward}
 use Rattle.conn_scan.proofs.LoweredLemmas.{after-reaches, after-ride, here, length-lowered, lowered-from, origin-known, reached-within, AreWithin}
 use Rattle.conn_scan.proofs.Onward.{listed-leads}
 use Rattle.conn_scan.proofs.Passed.{length-departed}
 use Rattle.conn_scan.proofs.Scanning.{begins-at, scan-departs, scan-ends, scan-passes, scan-starts, scan-takes_next, IsNext}
-use Rattle.conn_scan.proofs.WalkLemmas.{named-of}
-
--- the call of an event is there, and its stop is the event's
-call-there : (st : State) (v : Event) → event_named st (node_of v.key) ≡ Some v → (has_call st v.key.train v.key.label ≡ true) × (stop_of st v.key ≡ v.stop)
-call-there st v found =
-    let there : has_call st v.key.train v.key.label ≡ true = named-there st (node_of v.key) v found in
-    let c = named-of (call_named st v.key.train v.key.label) there in
-    let route = route-of (slice_get st.trains v.key.train) v.key.label c.0 c.1 in
-    let same = same_Some _ v (sym (event-named st (node_of v.key) route.0 c.0 c.1 route.1) ∙ found) in
-    (there, ap (λ o. option_map_or (λ (c : Call). c.stop) o 0) c.1 ∙ ap (λ (v : Event). v.stop) same)
 
 tested : (o : Option Access) (time : ℕ) → option_map_or (λ (a : Access). nat_le a.time time) o false ≡ true → (a : Access) × (o ≡ Some a) × (a.time ≤ time)
 tested None time h = absurd (cc)
@@ -111,7 +96,7 @@ module _ (nw : Network) (st : State) (q : Query) (valid : IsValid nw st) where
         (scan-takes_next nw st valid q ks v next front r rs (access_of nw q k.accesses) (access_of nw q now.accesses) k.best split scan reached after (after-reaches nw q r k.accesses room later))
 
     -- once the departure is scanned
-    departed-scan : (d : Departure) (k : Known) → v.key ≡ d.key → d.time ≡ event_time nw st v.key → stop_of st v.key ≡ v.stop → length nw.stops ≤ length k.accesses → IsKnownScan (IsSeen ks []) k → IsKnownScan (IsSeen (ks ++ v.key ∷ []) []) (departed nw st q d k)
+    departed-scan : (d : Departure) (k : Known) → v.key ≡ d.key → d.time ≡ event_time nw st v.key → d.stop ≡ v.stop → length nw.stops ≤ length k.accesses → IsKnownScan (IsSeen ks []) k → IsKnownScan (IsSeen (ks ++ v.key ∷ []) []) (departed nw st q d k)
     departed-scan d k named at stop room scan = rw (← named, at, stop) (elim (cases_Bool (is_in_time nw q k.accesses v.stop (event_time nw st v.key))) [
       | inl timely ↦
           let after = took_all nw q (rides_from nw st (node_of v.key)) k in
@@ -151,7 +136,8 @@ module _ (nw : Network) (st : State) (q : Query) (valid : IsValid nw st) where
       let v = next.0 in
       let later = All-contains (λ (d : Departure). q.time ≤ d.time) (done ++ d ∷ ds) d (subst (All (λ (d : Departure). q.time ≤ d.time)) split (later-not-before nw st q.time)) (Contains-append_right done (d ∷ ds) d (0, omega arith, refl)) in
       let its = next.3 in
-      let stop = (call-there st v (event-found st v valid.trains next.1.there)).1 in
+      let is = All-contains (IsDeparture nw st) (done ++ d ∷ ds) d (subst (All (IsDeparture nw st)) split (later-each nw st q.time)) (Contains-append_right done (d ∷ ds) d (0, omega arith, refl)) in
+      let stop : d.stop ≡ v.stop = is.stop ∙ ap (stop_of st) (sym next.2) ∙ event-stop st v (event-found st v valid.trains next.1.there) next.1.departs in
       let after = departed nw st q d k in
       let size = length-departed nw q st d k in
       let seen : map key_of done ++ v.key ∷ [] ≡ map key_of (done ++ d ∷ []) = ap (λ key. map key_of done ++ key ∷ []) next.2 ∙ sym (map-append key_of done (d ∷ [])) in
@@ -161,15 +147,6 @@ module _ (nw : Network) (st : State) (q : Query) (valid : IsValid nw st) where
         | inr early ↦ rw early (scanned-ends (done ++ d ∷ []) ds after (split ∙ sym (append_assoc done (d ∷ []) ds)) (omega arith)
             (subst (λ ks. IsKnownScan (IsSeen ks []) after) seen (departed-scan (map key_of done) v next.1 (omega arith) d k next.2 its stop room scan)))
       ]
-
-  at-call : (d : Departure) → IsDeparture nw st d → IsAtCall st d
-  at-call d is =
-      let there = (call-there st is.event (event-found st is.event valid.trains is.there)).0 in
-      (subst (λ (k : Key). has_call st k.train k.label ≡ true) is.key there, is.departs, subst (λ k. is_live st (node_of k) ≡ true) is.key (event-live st is.event is.there is.live))
-
-  -- the departures are of calls that are there
-  pub at-calls : All (IsAtCall st) (departures_from nw st q.time)
-  at-calls = All-weaker (IsDeparture nw st) (IsAtCall st) at-call (departures_from nw st q.time) (later-each nw st q.time)
 
   -- all departures, begun with what is known straight from the origin
   pub search-ends : (n : ℕ) → length nw.stops ≤ n → Ends (scanned nw st q (departures_from nw st q.time) (record { accesses = lowered q.time None (reached (changes_of nw) q.from_stop) (replicate n None); best = None }))

@@ -1,6 +1,6 @@
 -- The rides from a departure, one call after the other.
 use Rattle.std.proofs.Common.{◌≡◌, ℕ, suc, Bool, true, false, cond, ◌&&◌, List, [], ◌∷◌, ◌++◌, Option, Some, None, is_some, slice_get, find, length, refl, sym, ◌∙◌, ap, subst, inl, inr, arith}
-use Rattle.std.specs.Option.{option_map, option_map_or}
+use Rattle.std.specs.Option.{option_map_or}
 use Rattle.std.proofs.lemmas.Bool.{cases_Bool, cond-true}
 use Rattle.std.proofs.lemmas.Option.{same_Some, none-some}
 use Rattle.mt_base.specs.declared.plans.PlanRide.{PlanRide}
@@ -15,15 +15,14 @@ use Rattle.delay_model.specs.Events.{calls_of, departure_of}
 use Rattle.delay_model.specs.Timing.{event_time}
 use Rattle.delay_model.specs.Valid.{IsValid}
 use Rattle.train_nodes.specs.Calls.{call_named, has_call}
-use Rattle.timetable.specs.LiveTimes.{live_time}
 use Rattle.conn_scan.specs.Calls.{arrival_at, calls_after, first_arrival}
 use Rattle.conn_scan.specs.Rides.{rides_along, rides_at, rides_from}
-use Rattle.conn_scan.specs.Scanned.{boarding_at, ride_to, rides_on, took, took_all, LeavesRides}
+use Rattle.conn_scan.specs.Scanned.{ride_to, rides_on, took, took_all, LeavesRides}
 use Rattle.conn_scan.specs.declared.known.Known.{Known}
 use Rattle.conn_scan.specs.declared.walk.Arrival.{Arrival}
 use Rattle.conn_scan.specs.declared.walk.Boarding.{Boarding}
 use Rattle.conn_scan.proofs.RideLemmas.{is-at}
-use Rattle.conn_scan.proofs.CallLemmas.{calls-distinct, next-call, time-of_call}
+use Rattle.conn_scan.proofs.CallLemmas.{calls-distinct, next-call}
 
 -- the call of an arrival, and what stands after it
 record IsArrival (nw : Network) (st : State) (train label : ℕ) (a : Arrival) : Type 0 where
@@ -55,21 +54,6 @@ module _ (nw : Network) (st : State) (valid : IsValid nw st) (train label : ℕ)
   arrives-of : (a : Arrival) → first_arrival nw st train (calls_after st train label) ≡ Some a → IsArrival nw st train label a
   arrives-of a first = first-of a (calls_after st train label) refl first
 
-  -- where there is no departure at which one may board
-  pub board-dead : live_time nw st (record { train = train; label = label; dep = true }) ≡ None → None ≡ boarding_at nw st train label
-  board-dead dead =
-      let by = named-of (call_named st train label) there in
-      let its = time-of_call nw st valid (record { train = train; label = label; dep = true }) by.0 by.1 in
-      rw by.1 (grind (arith, its, dead))
-
-  pub board-live : (time stop : ℕ) → live_time nw st (record { train = train; label = label; dep = true }) ≡ Some time → option_map (λ (c : Call). c.stop) (call_named st train label) ≡ Some stop → option_map (λ (c : Call). c.board) (call_named st train label) ≡ Some true → Some (record { train = train; label = label; stop = stop; time = time }) ≡ boarding_at nw st train label
-  board-live time stop live at may =
-      let by = named-of (call_named st train label) there in
-      let its = time-of_call nw st valid (record { train = train; label = label; dep = true }) by.0 by.1 in
-      let stops = rw by.1 at at in
-      let boards = rw by.1 at may in
-      rw by.1 (grind (arith, its, live, stops, boards))
-
 took-here : (nw : Network) (q : Query) (r : PlanRide) (rest : List PlanRide) (alights : Bool) (k : Known) → took_all nw q (cond alights (r ∷ []) [] ++ rest) k ≡ took_all nw q rest (cond alights (took nw q r k) k)
 took-here nw q r rest true k = refl
 took-here nw q r rest false k = refl
@@ -100,6 +84,11 @@ module _ (nw : Network) (st : State) (valid : IsValid nw st) (q : Query) (b : Bo
         there = ap is_some at.found;
         fewer = omega (arith, size, fewer);
       }
+
+-- the departure of a train at a call where passengers may board, if it is live
+abbrev pub boarding_at : Network → State → ℕ → ℕ → Option Boarding
+boarding_at nw st train label =
+    option_map_or (λ (c : Call). cond (c.departure.live && c.board) (Some (record { train = train; label = label; stop = c.stop; time = event_time nw st (departure_of train 0 c).key })) None) (call_named st train label) None
 
 -- the departure at a call
 abbrev start : Network → State → ℕ → Call → ℕ → Boarding

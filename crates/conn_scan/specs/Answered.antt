@@ -1,5 +1,5 @@
 -- What a scratch shows, and what an answer says.
-use Rattle.std.specs.Prelude.{◌≡◌, ℕ, List, [], length}
+use Rattle.std.specs.Prelude.{◌≡◌, ℕ, ◌≤◌, List, [], length, vec_capacity}
 use Rattle.mt_base.specs.declared.plans.PlanRide.{PlanRide}
 use Rattle.mt_base.specs.declared.plans.Query.{Query}
 use Rattle.delay_model.specs.declared.network.Network.{Network}
@@ -16,6 +16,10 @@ pub record Answered : Type 0 where
 
 abbrev pub seen : Inside → Answered
 seen s = record { stops = length s.known.accesses; rides = s.rides.items }
+
+-- there is room for as many rides as there are stops
+abbrev pub HasRoom : Inside → Type 0
+HasRoom s = length s.known.accesses ≤ vec_capacity s.rides
 
 -- the earliest arrival with the rides of a journey that arrives then, or no ride, where there is no
 -- journey

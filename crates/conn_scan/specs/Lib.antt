@@ -7,3 +7,4 @@ pub mod Calls
 pub mod Scanned
 pub mod Answered
 pub mod Passed
+pub mod Stations

@@ -9,7 +9,7 @@ use Rattle.delay_model.specs.declared.state.Call.{Call}
 use Rattle.delay_model.specs.declared.state.State.{State}
 use Rattle.delay_model.specs.Events.{calls_of}
 use Rattle.delay_model.specs.Journeys.{is_one_station}
-use Rattle.timetable.specs.declared.departure_list.Departure.{Departure}
+use Rattle.dep_order.specs.declared.departure.Departure.{Departure}
 use Rattle.train_nodes.specs.Calls.{label_after}
 use Rattle.conn_scan.specs.Calls.{arrival_at, calls_after}
 use Rattle.conn_scan.specs.Reached.{access_in, IsReached}

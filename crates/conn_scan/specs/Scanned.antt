@@ -1,8 +1,7 @@
 -- The scan, on plain lists: what a passenger knows once a ride, the rides of a departure, and the
 -- departures from a time on are taken.
-use Rattle.std.specs.Prelude.{◌≡◌, ℕ, ◌<◌, length, List, [], ◌∷◌, ◌++◌, Bool, true, false, ◌&&◌, nat_le, if◌then◌else◌, Option, Some, None}
+use Rattle.std.specs.Prelude.{◌≡◌, ℕ, ◌<◌, length, List, [], ◌∷◌, ◌++◌, Bool, true, false, nat_le, if◌then◌else◌, Option, Some}
 use Rattle.std.specs.Option.{option_map_or}
-use Rattle.mt_base.specs.declared.keys.Key.{Key}
 use Rattle.mt_base.specs.declared.plans.PlanRide.{PlanRide}
 use Rattle.mt_base.specs.declared.plans.Query.{Query}
 use Rattle.mt_base.specs.Order.{node_of}
@@ -11,10 +10,8 @@ use Rattle.change_times.specs.Reach.{reached}
 use Rattle.delay_model.specs.declared.network.Network.{Network}
 use Rattle.delay_model.specs.declared.state.Call.{Call}
 use Rattle.delay_model.specs.declared.state.State.{State}
-use Rattle.delay_model.specs.Events.{departure_of, is_live}
-use Rattle.delay_model.specs.Timing.{event_time}
-use Rattle.train_nodes.specs.Calls.{call_named, has_call}
-use Rattle.timetable.specs.declared.departure_list.Departure.{Departure}
+use Rattle.train_nodes.specs.Calls.{has_call}
+use Rattle.dep_order.specs.declared.departure.Departure.{Departure}
 use Rattle.conn_scan.specs.Calls.{arrival_at, calls_after}
 use Rattle.conn_scan.specs.Lowered.{lowered, access_of}
 use Rattle.conn_scan.specs.Reached.{Access}
@@ -41,16 +38,9 @@ abbrev pub took_all : Network → Query → List PlanRide → Known → Known
 took_all nw q [] k = k
 took_all nw q (r ∷ rs) k = took_all nw q rs (took nw q r k)
 
--- the departure of a train at a call where passengers may board, if it is live
-abbrev pub boarding_at : Network → State → ℕ → ℕ → Option Boarding
-boarding_at nw st train label =
-    option_map_or (λ (c : Call). if c.departure.live && c.board then Some (record {
-      train = train;
-      label = label;
-      stop = c.stop;
-      time = event_time nw st (departure_of train 0 c).key;
-    })
-    else None) (call_named st train label) None
+-- the boarding of a departure
+abbrev pub boarding_of : Departure → Boarding
+boarding_of d = record { train = d.key.train; label = d.key.label; stop = d.stop; time = d.time }
 
 -- the ride from a departure to an arrival of the same train
 abbrev pub ride_to : Boarding → Arrival → PlanRide
@@ -89,14 +79,10 @@ abbrev pub is_in_time : Network → Query → List (Option Access) → ℕ → �
 is_in_time nw q accesses stop time = option_map_or (λ (a : Access). nat_le a.time time)
     (access_of nw q accesses stop) false
 
--- the stop of an event
-abbrev pub stop_of : State → Key → ℕ
-stop_of st k = option_map_or (λ (c : Call). c.stop) (call_named st k.train k.label) 0
-
 -- once a departure is scanned: its rides are taken if a passenger can be at its stop in time
 abbrev pub departed : Network → State → Query → Departure → Known → Known
 departed nw st q d k =
-    if is_in_time nw q k.accesses (stop_of st d.key) d.time then took_all nw q
+    if is_in_time nw q k.accesses d.stop d.time then took_all nw q
     (rides_from nw st (node_of d.key)) k else k
 
 -- whether the best ride arrives by a time
@@ -108,8 +94,3 @@ abbrev pub scanned : Network → State → Query → List Departure → Known �
 scanned nw st q [] k = k
 scanned nw st q (d ∷ ds) k = if is_there_by k.best d.time then k else scanned nw st q ds
     (departed nw st q d k)
-
--- it is a live departure, of a call that is there
-abbrev pub IsAtCall : State → Departure → Type 0
-IsAtCall st d = (has_call st d.key.train d.key.label ≡ true) × (d.key.dep ≡ true)
-    × (is_live st (node_of d.key) ≡ true)

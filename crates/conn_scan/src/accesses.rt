@@ -21,6 +21,7 @@ pub struct Access {
 }
 
 /// Whether a stop is reached later than at this time, as far as that was found.
+#[inline]
 fn is_later(accesses: &QueryTable<Access>, stop: StopNo, time: u64) -> bool
     ensures { result ≡ option_map_or (λ known. nat_lt time known.time)
         (access_in accesses.now stop) true }
@@ -32,6 +33,7 @@ fn is_later(accesses: &QueryTable<Access>, stop: StopNo, time: u64) -> bool
 }
 
 /// Notes one more way to a stop, if it is earlier than the one that is known.
+#[inline]
 fn improve(accesses: &mut QueryTable<Access>, stop: StopNo, access: &Access)
     ensures { accesses.new ≡ improved stop access.now accesses.old }
 {

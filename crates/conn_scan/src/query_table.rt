@@ -67,6 +67,7 @@ impl<T: Copy> QueryTable<T> {
     }
 
     /// What was found for a number.
+    #[inline]
     pub(crate) fn get(&self, number: u32) -> Option<T>
         ensures { result ≡ get_or self.now number None }
     {
@@ -84,6 +85,7 @@ impl<T: Copy> QueryTable<T> {
 
     /// Notes what was found for a number. Past the numbers for which there is room nothing is
     /// noted.
+    #[inline]
     #[tactic(auto, using(crate::proofs::StampedLemmas::written_seen, crate::proofs::StampedLemmas::unwritten_seen))]
     pub(crate) fn set(&mut self, number: u32, found: T)
         ensures { self.new ≡ set self.old number (Some found) }

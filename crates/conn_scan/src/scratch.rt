@@ -4,7 +4,7 @@ ghost use Rattle.std.specs.Prelude.{◌≡◌, ◌≤◌, [], IfOk, length};
 ghost use Rattle.conn_scan.specs.Answered.{IsAnswer};
 
 use crate::accesses::Access;
-use crate::known::{Known, is_one_station};
+use crate::known::{Known, ask, is_at_once};
 use crate::query_table::QueryTable;
 use crate::search::{search, trace};
 use mt_base::memory::OutOfMemory;
@@ -16,8 +16,8 @@ use std::sync::ledger::Ledger;
 use timetable::Timetable;
 use train_nodes::Steps;
 
-/// What a scan keeps for each stop and each train, for one query after the other: made once, it
-/// takes no memory at a query but for the rides that it shows.
+/// What a scan keeps for each stop and each train, and room for the rides that it shows, for one
+/// query after the other. All memory is taken when it is made.
 #[derive(Drop)]
 pub struct Scratch {
     known: Known,
@@ -33,6 +33,10 @@ impl Model for Scratch {
     ghost use Rattle.conn_scan.specs.Answered.{seen};
 
     ghost view = { seen };
+
+    ghost use Rattle.conn_scan.specs.Answered.{HasRoom};
+
+    ghost invariant = { HasRoom };
 }
 
 /// The answer to a query.
@@ -62,7 +66,7 @@ impl Scratch {
         Ok(Scratch {
             known: Known { accesses, best },
             passed,
-            rides: Vec::new(alloc),
+            rides: Vec::with_capacity(alloc, stops as usize)?,
         })
     }
 
@@ -75,30 +79,36 @@ impl Scratch {
 }
 
 /// The earliest arrival of a query. The rides of a journey that arrives then are shown in the
-/// scratch. `OutOfMemory` where there is no memory for the rides that are shown; what the scratch
-/// shows is then open.
+/// scratch. It takes no memory.
 pub fn earliest<L: Ledger>(
     t: &Timetable,
     q: &Query,
     scratch: &mut Scratch,
     steps: &mut Steps<L>,
-) -> Result<Found, OutOfMemory>
+) -> Found
     requires stops { length t.now.network.stops ≤ scratch.old.stops }
-    ensures answer { IfOk result (IsAnswer t.now.network t.now.state q.now scratch.new.rides) }
+    ensures answer { IsAnswer t.now.network t.now.state q.now scratch.new.rides result }
     ensures stops { scratch.new.stops ≡ scratch.old.stops }
 {
     t.state_is_valid();
     t.calls_are_at_stops();
     scratch.rides.clear();
-    if is_one_station(t, q.from_stop, q.to_stop) {
-        return Ok(Found::Arrives { at: q.time });
+    let asked = ask(t, q);
+    if is_at_once(&asked) {
+        return Found::Arrives { at: q.time };
     }
-    search(t, q, &mut scratch.known, &mut scratch.passed, steps);
+    search(t, &asked, &mut scratch.known, &mut scratch.passed, steps);
     let Some(last) = scratch.known.best else {
-        return Ok(Found::NoWay);
+        return Found::NoWay;
     };
-    trace(t, q, &scratch.known.accesses, &last, &mut scratch.rides)?;
-    Ok(Found::Arrives {
+    trace(
+        t,
+        &asked,
+        &scratch.known.accesses,
+        &last,
+        &mut scratch.rides,
+    );
+    Found::Arrives {
         at: last.alight_time,
-    })
+    }
 }

@@ -1,19 +1,22 @@
 //! The rides that begin with a departure.
 
-ghost use Rattle.std.specs.Prelude.{◌≡◌, ◌≤◌, true, IsTrue, IfSome, IfNone, length};
+ghost use Rattle.std.specs.Prelude.{◌≡◌, ◌≤◌, IsTrue, IfSome, IfNone, length};
+ghost use Rattle.mt_base.specs.Order.{node_of};
 ghost use Rattle.delay_model.specs.Valid.{IsValid};
 ghost use Rattle.train_nodes.specs.Calls.{has_call};
+ghost use Rattle.timetable.specs.Departures.{IsDeparture};
 ghost use Rattle.conn_scan.specs.Calls.{calls_after, first_arrival};
 ghost use Rattle.conn_scan.specs.Passed.{IsPassed};
 ghost use Rattle.conn_scan.specs.Rides.{rides_from};
-ghost use Rattle.conn_scan.specs.Scanned.{boarding_at, ride_to, rides_on, took_all, LeavesRides};
+ghost use Rattle.conn_scan.specs.Scanned.{boarding_of, ride_to, rides_on, took_all, LeavesRides};
+ghost use Rattle.conn_scan.specs.Stations.{HasStations};
 
-use crate::known::{Known, take_ride};
+use crate::known::{Asked, Known, take_ride};
 use mt_base::keys::Node;
 use mt_base::numbers::{Label, StopNo, Time, TrainNo};
-use mt_base::plans::{PlanRide, Query};
+use mt_base::plans::PlanRide;
 use std::sync::ledger::Ledger;
-use timetable::Timetable;
+use timetable::{Departure, Timetable};
 use train_nodes::Steps;
 
 /// The arrival of a train at a call.
@@ -48,13 +51,13 @@ fn next_arrival<L: Ledger>(
     let label = trains.next_call(train, label)?;
     let arrival = Node::arrival(train, label);
     let time = t.time(arrival, steps)?;
-    let departure = Node::departure(train, label);
+    let departure = trains.event(Node::departure(train, label));
     Some(Arrival {
         label,
-        stop: trains.stop(train, label),
+        stop: departure.stop,
         time,
         alights: trains.alights(train, label),
-        goes_on: trains.live(departure),
+        goes_on: departure.live,
     })
 }
 
@@ -71,30 +74,17 @@ pub(crate) struct Boarding {
     pub(crate) time: Time,
 }
 
-/// The departure of a train at a call. None where it does not depart there, or where passengers may
-/// not board.
-fn board_at<L: Ledger>(
-    t: &Timetable,
-    train: TrainNo,
-    label: Label,
-    steps: &mut Steps<L>,
-) -> Option<Boarding>
-    requires valid { IsValid t.now.network t.now.state }
-    requires there { IsTrue (has_call t.now.state train label) }
-    ensures { result ≡ boarding_at t.now.network t.now.state train label }
+/// The boarding of a departure.
+#[inline]
+fn boarding_of(d: &Departure) -> Boarding
+    ensures { result ≡ boarding_of d.now }
 {
-    let trains = t.graph().trains();
-    if !trains.boards(train, label) {
-        return None;
+    Boarding {
+        train: d.key.train,
+        label: d.key.label,
+        stop: d.stop,
+        time: d.time,
     }
-    let departure = Node::departure(train, label);
-    let time = t.time(departure, steps)?;
-    Some(Boarding {
-        train,
-        label,
-        stop: trains.stop(train, label),
-        time,
-    })
 }
 
 /// The ride from a departure to an arrival of the same train.
@@ -116,23 +106,24 @@ fn ride_to(boarding: &Boarding, arrival: &Arrival) -> PlanRide
 /// Gives the label of that call if the train goes on from there.
 fn take_next<L: Ledger>(
     t: &Timetable,
-    q: &Query,
+    asked: &Asked,
     boarding: &Boarding,
     label: Label,
     known: &mut Known,
     steps: &mut Steps<L>,
 ) -> Option<Label>
     requires valid { IsValid t.now.network t.now.state }
+    requires stations { HasStations t.now.network asked.now }
     requires there { IsTrue (has_call t.now.state boarding.now.train label) }
-    ensures last { IfNone result (known.new ≡ took_all t.now.network q.now
+    ensures last { IfNone result (known.new ≡ took_all t.now.network asked.now.query
         (rides_on t.now.network t.now.state boarding.now
         (calls_after t.now.state boarding.now.train label)) known.old) }
-    ensures next { IfSome result (λ next. LeavesRides t.now.network t.now.state q.now boarding.now
-        label known.old next known.new) }
+    ensures next { IfSome result (λ next. LeavesRides t.now.network t.now.state asked.now.query
+        boarding.now label known.old next known.new) }
 {
     let arrival = next_arrival(t, boarding.train, label, steps)?;
     if arrival.alights {
-        take_ride(t, q, &ride_to(boarding, &arrival), known);
+        take_ride(t, asked, &ride_to(boarding, &arrival), known);
     }
     if arrival.goes_on {
         Some(arrival.label)
@@ -141,47 +132,44 @@ fn take_next<L: Ledger>(
     }
 }
 
-/// Takes the rides that begin with a departure.
+/// Takes the rides from a departure to the calls after it.
 fn take_on<L: Ledger>(
     t: &Timetable,
-    q: &Query,
+    asked: &Asked,
     boarding: &Boarding,
     known: &mut Known,
     steps: &mut Steps<L>,
 )
     requires valid { IsValid t.now.network t.now.state }
+    requires stations { HasStations t.now.network asked.now }
     requires there { IsTrue (has_call t.now.state boarding.now.train boarding.now.label) }
-    ensures { known.new ≡ took_all t.now.network q.now
+    ensures { known.new ≡ took_all t.now.network asked.now.query
         (rides_on t.now.network t.now.state boarding.now
         (calls_after t.now.state boarding.now.train boarding.now.label)) known.old }
 {
     let mut label = boarding.label;
-    while let Some(next) = take_next(t, q, boarding, label, known, steps) {
+    while let Some(next) = take_next(t, asked, boarding, label, known, steps) {
         label = next;
     }
 }
 
-/// Takes the rides that begin with the departure at a call. Gives whether passengers may board it.
+/// Takes the rides that begin with a departure where passengers may board.
 pub(crate) fn take_rides<L: Ledger>(
     t: &Timetable,
-    q: &Query,
-    train: TrainNo,
-    label: Label,
+    asked: &Asked,
+    d: &Departure,
     known: &mut Known,
     steps: &mut Steps<L>,
-) -> bool
+)
     requires valid { IsValid t.now.network t.now.state }
-    requires there { IsTrue (has_call t.now.state train label) }
+    requires stations { HasStations t.now.network asked.now }
+    requires there { IsDeparture t.now.network t.now.state d.now }
+    requires boards { IsTrue d.now.board }
     requires room { length t.now.network.stops ≤ length known.old.accesses }
-    ensures taken { known.new ≡ took_all t.now.network q.now
-        (rides_from t.now.network t.now.state (record { train = train; label = label; dep = true }))
-        known.old }
-    ensures passed { IsTrue result → IsPassed t.now.network t.now.state q.now known.new train
-        label }
+    ensures taken { known.new ≡ took_all t.now.network asked.now.query
+        (rides_from t.now.network t.now.state (node_of d.now.key)) known.old }
+    ensures passed { IsPassed t.now.network t.now.state asked.now.query known.new d.now.key.train
+        d.now.key.label }
 {
-    let Some(boarding) = board_at(t, train, label, steps) else {
-        return false;
-    };
-    take_on(t, q, &boarding, known, steps);
-    true
+    take_on(t, asked, &boarding_of(d), known, steps);
 }

@@ -27,14 +27,14 @@ abbrev pub live_only : List Event → List Event → List Event
 live_only es fs = filter (λ v. not (is_live_key fs v.key)) (live_events es)
 
 -- the events that are live in both, at times that differ
-abbrev pub retimed : (Key → ℕ) → (Key → ℕ) → List Event → List Event → List Event
-retimed t u es fs = filter (λ v. is_live_key es v.key && not (nat_eq (t v.key) (u v.key)))
+abbrev pub time_changes : (Key → ℕ) → (Key → ℕ) → List Event → List Event → List Event
+time_changes t u es fs = filter (λ v. is_live_key es v.key && not (nat_eq (t v.key) (u v.key)))
     (live_events fs)
 
 -- the events that are live before or after but not both, or that are live in both at times that
 -- differ. es and t are the events and times before, fs and u those after
 abbrev pub differing : (Key → ℕ) → (Key → ℕ) → List Event → List Event → List Event
-differing t u es fs = live_only es fs ++ (live_only fs es ++ retimed t u es fs)
+differing t u es fs = live_only es fs ++ (live_only fs es ++ time_changes t u es fs)
 
 -- the events that a message changes, from one state to the other
 unfoldable pub changed : Network → State → State → List Event

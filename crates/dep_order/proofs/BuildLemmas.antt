@@ -21,7 +21,7 @@ empty-entries (suc n) s h =
     let free : departure_in s ≡ None = rw h refl in
     cc
 
-none-held : (n i : ℕ) → held (replicate n None) i ≡ None
+pub none-held : (n i : ℕ) → held (replicate n None) i ≡ None
 none-held zero i = refl
 none-held (suc n) zero = refl
 none-held (suc n) (suc i) = none-held n i

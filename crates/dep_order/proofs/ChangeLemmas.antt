@@ -194,12 +194,12 @@ same-links : (lt : Departure → Departure → Bool) (by : Departure → ℕ) (c
 same-links lt by count es fs next next' e same w = rw e (λ c i l of. rw (same c i) (w c i l of))
 
 -- what is kept where a departure stays in its slot
-abbrev pub retimed_slot : Lists → ℕ → Slot → Departure → Lists
-retimed_slot l m s e = record l { slots = with_item l.slots m (record s { departure = e }) }
+abbrev pub time_changes_slot : Lists → ℕ → Slot → Departure → Lists
+time_changes_slot l m s e = record l { slots = with_item l.slots m (record s { departure = e }) }
 
-pub retimed : (l : Lists) (m : ℕ) (s : Slot) (d e : Departure) → AreKept l → held (entries_of l) m ≡ Some d → s ≡ get_or l.slots.items m s → e.key ≡ d.key → bucket_of (bucket_count l) e ≡ bucket_of (bucket_count l) s.departure → is_above leaves_before (held (entries_of l) s.before) e ≡ true → is_above leaves_after (held (entries_of l) s.after) e ≡ true → AreKept (retimed_slot l m s e) × (entries_of (retimed_slot l m s e) ≡ set (entries_of l) m (Some e))
-retimed l m s d e k is at key bucket above below =
-    let r = retimed_slot l m s e in
+pub time_changes : (l : Lists) (m : ℕ) (s : Slot) (d e : Departure) → AreKept l → held (entries_of l) m ≡ Some d → s ≡ get_or l.slots.items m s → e.key ≡ d.key → bucket_of (bucket_count l) e ≡ bucket_of (bucket_count l) s.departure → is_above leaves_before (held (entries_of l) s.before) e ≡ true → is_above leaves_after (held (entries_of l) s.after) e ≡ true → AreKept (time_changes_slot l m s e) × (entries_of (time_changes_slot l m s e) ≡ set (entries_of l) m (Some e))
+time_changes l m s d e k is at key bucket above below =
+    let r = time_changes_slot l m s e in
     let t : Slot = record s { departure = e } in
     let es = entries_of l in
     let by = bucket_of (bucket_count l) in
@@ -237,13 +237,13 @@ retimed l m s d e k is at key bucket above below =
     )
 
 -- the same where the slot was read twice
-pub retimed-as : (l : Lists) (m : ℕ) (s t : Slot) (d e : Departure) → AreKept l → held (entries_of l) m ≡ Some d → s ≡ get_or l.slots.items m s → t ≡ get_or l.slots.items m t → e.key ≡ d.key → bucket_of (bucket_count l) e ≡ bucket_of (bucket_count l) s.departure → is_above leaves_before (held (entries_of l) s.before) e ≡ true → is_above leaves_after (held (entries_of l) s.after) e ≡ true → AreKept (retimed_slot l m t e) × (entries_of (retimed_slot l m t e) ≡ set (entries_of l) m (Some e))
-retimed-as l m s t d e k is at also key bucket above below =
+pub time-changes-as : (l : Lists) (m : ℕ) (s t : Slot) (d e : Departure) → AreKept l → held (entries_of l) m ≡ Some d → s ≡ get_or l.slots.items m s → t ≡ get_or l.slots.items m t → e.key ≡ d.key → bucket_of (bucket_count l) e ≡ bucket_of (bucket_count l) s.departure → is_above leaves_before (held (entries_of l) s.before) e ≡ true → is_above leaves_after (held (entries_of l) s.after) e ≡ true → AreKept (time_changes_slot l m t e) × (entries_of (time_changes_slot l m t e) ≡ set (entries_of l) m (Some e))
+time-changes-as l m s t d e k is at also key bucket above below =
     let low = within l m d is in
     let a = slice_get_read l.slots.items (length l.slots.items) m s refl low at in
     let b = slice_get_read l.slots.items (length l.slots.items) m t refl low also in
     let same : s ≡ t = cc in
-    subst (λ x. AreKept (retimed_slot l m x e) × (entries_of (retimed_slot l m x e) ≡ set (entries_of l) m (Some e))) same (retimed l m s d e k is at key bucket above below)
+    subst (λ x. AreKept (time_changes_slot l m x e) × (entries_of (time_changes_slot l m x e) ≡ set (entries_of l) m (Some e))) same (time_changes l m s d e k is at key bucket above below)
 
 pub with_time-is : (es : List (Option Departure)) (m time : ℕ) (d e : Departure) → held es m ≡ Some d → e ≡ d → with_time m time es ≡ set es m (Some (record e { time = time }))
 with_time-is es m time d e is same = rw (is, same) refl

@@ -1,9 +1,15 @@
+pub mod AddLemmas
 pub mod AheadLemmas
 pub mod BuildLemmas
 pub mod ChangeLemmas
 pub mod GapLemmas
+pub mod InsideLemmas
 pub mod LinkLemmas
+pub mod LoadLemmas
+pub mod NumberLemmas
+pub mod OneOrder
 pub mod OrderLemmas
+pub mod PlaceLemmas
 pub mod ReachLemmas
 pub mod SlotLemmas
 pub mod SortedLemmas

@@ -2,14 +2,16 @@
 use Rattle.dep_order.proofs.Words.{◌≡◌, ◌≢◌, ◌<◌, ◌≤◌, ℕ, Bool, true, false, refl, sym, ap, arith, inl, inr, cases_Bool, Departure, leaves_before, leaves_after, departure_cmp, bucket_of, nat_tests, nat_le}
 use Rattle.std.proofs.Common.{Ordering}
 use Rattle.std.specs.declared.cmp.Ordering.TheVariants.{Less, Equal, Greater}
-use Rattle.std.specs.Cmp.{IsTotalOrder}
+use Rattle.std.specs.Cmp.{IsTotalOrder, bool_cmp_total}
 use Rattle.std.specs.Ordering.{is_lt, nat_cmp, ordering_reverse, ordering_then}
 use Rattle.std.proofs.lemmas.Cmp.{nat_cmp_total, on_total, then_total, tied_itself}
 use Rattle.mt_base.specs.Order.{key_cmp}
 use Rattle.mt_base.proofs.KeyLemmas.{exact_keys, keys_total}
 
 pub departures_total : IsTotalOrder departure_cmp
-departures_total = then_total (on_total (λ d. d.time) nat_cmp_total) (on_total (λ d. d.key) keys_total)
+departures_total =
+    then_total (on_total (λ d. d.time) nat_cmp_total)
+    (then_total (on_total (λ d. d.key) keys_total) (then_total (on_total (λ d. d.stop) nat_cmp_total) (on_total (λ d. d.board) bool_cmp_total)))
 
 -- of two departures with different keys one is before the other, and none is before itself
 pub record IsStrict (lt : Departure → Departure → Bool) : Type 0 where
@@ -22,9 +24,9 @@ lt-Less Less h = refl
 lt-Less Equal h = cc
 lt-Less Greater h = cc
 
-then-Equal : (a b : Ordering) → ordering_then a b ≡ Equal → b ≡ Equal
+then-Equal : (a b : Ordering) → ordering_then a b ≡ Equal → (a ≡ Equal) × (b ≡ Equal)
 then-Equal Less b h = absurd (cc)
-then-Equal Equal b h = h
+then-Equal Equal b h = (refl, h)
 then-Equal Greater b h = absurd (cc)
 
 not-less : (o r : Ordering) → o ≡ ordering_reverse r → is_lt o ≡ false → (o ≡ Equal → ⊥) → is_lt r ≡ true
@@ -38,7 +40,7 @@ before-strict = record {
   trans = λ a b c h k. ap is_lt (departures_total.trans a b c (lt-Less (departure_cmp a b) h) (lt-Less (departure_cmp b c) k));
   itself = λ a h. let e = ap is_lt (tied_itself departures_total a) in cc;
   either = λ a b n h. not-less (departure_cmp a b) (departure_cmp b a) (departures_total.antisymm a b) h
-      (λ e. n (exact_keys a.key b.key (then-Equal (nat_cmp a.time b.time) (key_cmp a.key b.key) e)));
+      (λ e. n (exact_keys a.key b.key (then-Equal (key_cmp a.key b.key) _ (then-Equal (nat_cmp a.time b.time) _ e).1).0));
 }
 
 -- so is the order turned round

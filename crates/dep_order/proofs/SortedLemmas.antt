@@ -14,11 +14,11 @@ Ascends [] = Unit {0}
 Ascends (x ∷ xs) = ((d : Departure) → IsIn d xs → leaves_before x d ≡ true) × Ascends xs
 
 -- their keys differ
-abbrev HaveKeys : List Departure → Type 0
+abbrev pub HaveKeys : List Departure → Type 0
 HaveKeys [] = Unit {0}
 HaveKeys (x ∷ xs) = ((d : Departure) → IsIn d xs → d.key ≢ x.key) × HaveKeys xs
 
-placed-in : (d x : Departure) (xs : List Departure) → IsIn d (placed leaves_before x xs) → (x ≡ d) ⊎ IsIn d xs
+pub placed-in : (d x : Departure) (xs : List Departure) → IsIn d (placed leaves_before x xs) → (x ≡ d) ⊎ IsIn d xs
 placed-in d x [] h = h
 placed-in d x (y ∷ ys) h =
     elim (cases_Bool (leaves_before x y)) [
@@ -29,7 +29,7 @@ placed-in d x (y ∷ ys) h =
       ])
     ]
 
-in-placed : (d x : Departure) (xs : List Departure) → (x ≡ d) ⊎ IsIn d xs → IsIn d (placed leaves_before x xs)
+pub in-placed : (d x : Departure) (xs : List Departure) → (x ≡ d) ⊎ IsIn d xs → IsIn d (placed leaves_before x xs)
 in-placed d x [] h = h
 in-placed d x (y ∷ ys) h =
     elim (cases_Bool (leaves_before x y)) [
@@ -41,7 +41,7 @@ in-placed d x (y ∷ ys) h =
       ])
     ]
 
-placed-ascends : (x : Departure) (xs : List Departure) → ((d : Departure) → IsIn d xs → d.key ≢ x.key) → Ascends xs → Ascends (placed leaves_before x xs)
+pub placed-ascends : (x : Departure) (xs : List Departure) → ((d : Departure) → IsIn d xs → d.key ≢ x.key) → Ascends xs → Ascends (placed leaves_before x xs)
 placed-ascends x [] n h = ((λ d k. absurd k), tt)
 placed-ascends x (y ∷ ys) n h =
     let s = before-strict in
@@ -55,33 +55,33 @@ placed-ascends x (y ∷ ys) n h =
           ))
     ]
 
-ordered-in : (d : Departure) (xs : List Departure) → IsIn d (in_order leaves_before xs) → IsIn d xs
+pub ordered-in : (d : Departure) (xs : List Departure) → IsIn d (in_order leaves_before xs) → IsIn d xs
 ordered-in d [] h = h
 ordered-in d (x ∷ xs) h = elim (placed-in d x (in_order leaves_before xs) h) [ inl own ↦ inl own | inr rest ↦ inr (ordered-in d xs rest) ]
 
-in-ordered : (d : Departure) (xs : List Departure) → IsIn d xs → IsIn d (in_order leaves_before xs)
+pub in-ordered : (d : Departure) (xs : List Departure) → IsIn d xs → IsIn d (in_order leaves_before xs)
 in-ordered d [] h = h
 in-ordered d (x ∷ xs) (inl own) = in-placed d x (in_order leaves_before xs) (inl own)
 in-ordered d (x ∷ xs) (inr rest) = in-placed d x (in_order leaves_before xs) (inr (in-ordered d xs rest))
 
-ordered-ascends : (xs : List Departure) → HaveKeys xs → Ascends (in_order leaves_before xs)
+pub ordered-ascends : (xs : List Departure) → HaveKeys xs → Ascends (in_order leaves_before xs)
 ordered-ascends [] h = tt
 ordered-ascends (x ∷ xs) h = placed-ascends x (in_order leaves_before xs) (λ d k. h.0 d (ordered-in d xs k)) (ordered-ascends xs h.1)
 
-there-in : (es : List (Option Departure)) (i : ℕ) (d : Departure) → held es i ≡ Some d → IsIn d (departures_of es)
+pub there-in : (es : List (Option Departure)) (i : ℕ) (d : Departure) → held es i ≡ Some d → IsIn d (departures_of es)
 there-in [] i d h = absurd (cc)
 there-in (None ∷ es) zero d h = absurd (cc)
 there-in (Some e ∷ es) zero d h = let own : e ≡ d = cc in inl own
 there-in (None ∷ es) (suc i) d h = there-in es i d h
 there-in (Some e ∷ es) (suc i) d h = inr (there-in es i d h)
 
-in-there : (es : List (Option Departure)) (d : Departure) → IsIn d (departures_of es) → (i : ℕ) × (held es i ≡ Some d)
+pub in-there : (es : List (Option Departure)) (d : Departure) → IsIn d (departures_of es) → (i : ℕ) × (held es i ≡ Some d)
 in-there [] d h = absurd h
 in-there (None ∷ es) d h = let r = in-there es d h in (suc r.0, r.1)
 in-there (Some e ∷ es) d (inl own) = (0, ap Some own)
 in-there (Some e ∷ es) d (inr rest) = let r = in-there es d rest in (suc r.0, r.1)
 
-have-keys : (es : List (Option Departure)) → HaveDistinctKeys es → HaveKeys (departures_of es)
+pub have-keys : (es : List (Option Departure)) → HaveDistinctKeys es → HaveKeys (departures_of es)
 have-keys [] h = tt
 have-keys (None ∷ es) h = have-keys es (λ i j d e a b k. let r = h (suc i) (suc j) d e a b k in omega arith)
 have-keys (Some x ∷ es) h = (
@@ -119,7 +119,7 @@ from-split d (x ∷ xs) h (inr k) =
     rw (sooner, not-before x d sooner) (from-split d xs h.1 k)
 
 module _ (es : List (Option Departure)) (distinct : HaveDistinctKeys es) where
-  ascends : Ascends (departures_in_order es)
+  pub ascends : Ascends (departures_in_order es)
   ascends = ordered-ascends (departures_of es) (have-keys es distinct)
 
   -- the departures from a number on are that of the number, and those after it

@@ -1,34 +1,38 @@
 -- Departures by number, and the order in which they take place.
 use Rattle.std.specs.Prelude.{◌≡◌, ◌≢◌, ℕ, ◌⊎◌, List, [], ◌∷◌, Bool, true, false, Option, None}
 use Rattle.std.specs.Prelude.{Some, slice_get, slice_set, refl}
-use Rattle.std.specs.Coded.{Coded, code_by, coded×, coded_list, coded_option, coded_ℕ}
+use Rattle.std.specs.Coded.{Coded, code_by, coded×, coded_bool, coded_list, coded_option, coded_ℕ}
 use Rattle.std.specs.Option.{option_map, option_map_or}
 use Rattle.std.specs.declared.cmp.Ordering.{Ordering}
-use Rattle.std.specs.Ordering.{nat_cmp, ordering_then, is_lt}
+use Rattle.std.specs.Ordering.{nat_cmp, bool_cmp, ordering_then, is_lt}
 use Rattle.mt_base.specs.declared.keys.Key.{Key}
 use Rattle.mt_base.specs.contracts.keys.Key.{the_row as key_row}
 use Rattle.mt_base.specs.Order.{key_cmp}
-use Rattle.dep_order.specs.Sorted.{in_order}
+use Rattle.mt_base.specs.Sorted.{in_order}
 use Rattle.dep_order.specs.declared.departure.Departure.{Departure}
 
 -- departures by number: none where no departure has the number
 pub record Numbered : Type 0 where
   pub entries : List (Option Departure)
 
--- a departure as its time and its key
+-- a departure as its fields
 abbrev pub coded_departure : Coded Departure
 coded_departure =
-    code_by (ℕ × Key) (coded× coded_ℕ key_row.coded) (λ d. (d.time, d.key))
-    (λ p. record { time = p.0; key = p.1 }) (λ _. refl)
+    code_by (ℕ × (Key × (ℕ × Bool)))
+    (coded× coded_ℕ (coded× key_row.coded (coded× coded_ℕ coded_bool)))
+    (λ d. (d.time, (d.key, (d.stop, d.board))))
+    (λ p. record { time = p.0; key = p.1.0; stop = p.1.1.0; board = p.1.1.1 }) (λ _. refl)
 
 abbrev pub coded_numbered : Coded Numbered
 coded_numbered =
     code_by (List (Option Departure)) (coded_list (coded_option coded_departure))
     (λ n. n.entries) (λ es. record { entries = es }) (λ _. refl)
 
--- the order of departures: by time, and then by key
+-- the order of departures: by time, and then by key, of which no two are the same
 abbrev pub departure_cmp : Departure → Departure → Ordering
-departure_cmp a b = ordering_then (nat_cmp a.time b.time) (key_cmp a.key b.key)
+departure_cmp a b =
+    ordering_then (nat_cmp a.time b.time) (ordering_then (key_cmp a.key b.key)
+    (ordering_then (nat_cmp a.stop b.stop) (bool_cmp a.board b.board)))
 
 -- departure a takes place before departure b, or stands before it in the same second
 unfoldable pub leaves_before : Departure → Departure → Bool

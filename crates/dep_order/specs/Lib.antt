@@ -1,6 +1,9 @@
 pub mod Departing
+pub mod Inside
 pub mod Linked
+pub mod Loaded
+pub mod Numbered
+pub mod Numbering
 pub mod Ordered
 pub mod Scanned
-pub mod Sorted
 pub mod Stored

@@ -12,8 +12,8 @@ departures_from es number =
     option_map_or from (held es number) []
 
 abbrev pub departures_left : Inside → List Departure
-departures_left s = option_map_or (departures_from s.order.now.entries) s.number []
+departures_left s = option_map_or (departures_from s.numbered.now.entries) s.number []
 
 -- there is a departure that has the number
 abbrev pub IsScan : Inside → Type 0
-IsScan s = (number : ℕ) → s.number ≡ Some number → IsSome (held s.order.now.entries number)
+IsScan s = (number : ℕ) → s.number ≡ Some number → IsSome (held s.numbered.now.entries number)

@@ -6,8 +6,16 @@ ghost use Rattle.dep_order.specs.Departing.{IsFirst, held, leaves_before};
 ghost use Rattle.dep_order.specs.Linked.{IsAhead};
 ghost use Rattle.dep_order.specs.Stored.{AreKept, bucket_count, bucket_of, entries_of};
 
+use crate::departure::Departure;
 use crate::lists::{Lists, NOBODY};
 use mt_base::numbers::Time;
+
+/// A departure, and the number of the departure after it, if there is one.
+#[derive(Clone, Copy)]
+pub(crate) struct Step {
+    pub(crate) departure: Departure,
+    pub(crate) next: Option<u32>,
+}
 
 impl Lists {
     /// The first departure that does not take place before a time.
@@ -27,19 +35,24 @@ impl Lists {
         self.first_ahead(bucket, number)
     }
 
-    /// The departure after this one.
-    pub(crate) fn next(&self, number: u32) -> Option<u32>
+    /// The departure of a number, and the number of the departure after it.
+    #[inline(always)]
+    pub(crate) fn step(&self, number: u32) -> Step
         requires kept { AreKept self.now }
         requires there { IsSome (held (entries_of self.now) number) }
-        ensures { (d : ADeparture) → held (entries_of self.now) number ≡ Some d
-            → IsFirst (entries_of self.now) (leaves_before d) result }
+        ensures departure { held (entries_of self.now) number ≡ Some result.departure }
+        ensures next { IsFirst (entries_of self.now) (leaves_before result.departure) result.next }
     {
         let slot = &self.slots[number as usize];
-        self.first_ahead(self.bucket_of(slot.departure.time), slot.after)
+        Step {
+            departure: slot.departure,
+            next: self.first_ahead(self.bucket_of(slot.departure.time), slot.after),
+        }
     }
 
     /// The departure to which a walk along a bucket has come, or where its end was reached the
     /// first of the later buckets.
+    #[inline(always)]
     fn first_ahead(&self, bucket: usize, number: u32) -> Option<u32>
         requires kept { AreKept self.now }
         requires bucket { bucket < bucket_count self.now }

@@ -46,6 +46,7 @@ impl Lists {
 
     /// Lets the departure of a number take place at another time. No link changes where it keeps
     /// its place among those of its bucket.
+    #[inline]
     pub(crate) fn retime(&mut self, number: u32, time: Time)
         requires kept { AreKept self.old }
         requires there { IsSome (held (entries_of self.old) number) }
@@ -56,6 +57,8 @@ impl Lists {
         let moved = Departure {
             time,
             key: slot.departure.key,
+            stop: slot.departure.stop,
+            board: slot.departure.board,
         };
         if self.keeps_place(slot, &moved) {
             self.slots[number as usize].departure = moved;
@@ -66,6 +69,7 @@ impl Lists {
     }
 
     /// Whether a departure keeps its place in the bucket of a slot, between those beside it.
+    #[inline]
     fn keeps_place(&self, slot: &Slot, moved: &Departure) -> bool
         requires kept { AreKept self.now }
         requires before { held (entries_of self.now) slot.now.before ≡ None
@@ -85,6 +89,7 @@ impl Lists {
     }
 
     /// Whether a departure comes after that of a number, if there is one.
+    #[inline(always)]
     fn comes_after(&self, departure: &Departure, before: u32) -> bool
         requires kept { AreKept self.now }
         requires before { held (entries_of self.now) before ≡ None → before ≡ nobody }
@@ -98,6 +103,7 @@ impl Lists {
     }
 
     /// Whether a departure comes before that of a number, if there is one.
+    #[inline(always)]
     fn comes_before(&self, departure: &Departure, after: u32) -> bool
         requires kept { AreKept self.now }
         requires after { held (entries_of self.now) after ≡ None → after ≡ nobody }

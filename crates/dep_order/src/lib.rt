@@ -7,6 +7,8 @@ pub mod departure;
 mod gap;
 mod links;
 mod lists;
+mod numbered;
+mod numbers;
 pub mod order;
 pub mod scan;
 

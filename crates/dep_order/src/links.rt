@@ -10,6 +10,7 @@ use mt_base::numbers::Time;
 
 impl Lists {
     /// The bucket of a time.
+    #[inline(always)]
     pub(crate) fn bucket_of(&self, time: Time) -> usize
         requires { 0 < bucket_count self.now }
         ensures is { result ≡ min (time / 8) (bucket_count self.now - 1) }

@@ -1,13 +1,14 @@
 //! Departures in slots by number, and the lists of those of each bucket.
 
-ghost use Rattle.std.specs.Prelude.{◌≡◌, ◌≤◌, ◌^◌, IfOk, None, false, replicate};
+ghost use Rattle.std.specs.Prelude.{◌≡◌, ◌<◌, ◌≤◌, ◌^◌, IfOk, IsSome, None, false, length};
+ghost use Rattle.std.specs.Prelude.{replicate, true};
 ghost use Rattle.dep_order.specs.Departing.{held};
 ghost use Rattle.dep_order.specs.Stored.{AreKept, entries_of};
 
 use crate::departure::Departure;
 use mt_base::keys::Key;
 use mt_base::memory::OutOfMemory;
-use mt_base::numbers::{Label, Time, TrainNo};
+use mt_base::numbers::{Label, StopNo, Time, TrainNo};
 use std::alloc::Global;
 
 /// What stands for no departure in a link.
@@ -80,16 +81,14 @@ impl Lists {
         })
     }
 
-    /// The departure that has a number, if there is one.
-    pub(crate) fn get(&self, number: u32) -> Option<Departure>
-        ensures { result ≡ held (entries_of self.now) number }
+    /// Whether a departure has a number.
+    #[inline(always)]
+    pub(crate) fn has(&self, number: u32) -> bool
+        requires { number < length (entries_of self.now) }
+        ensures yes { result ≡ true → IsSome (held (entries_of self.now) number) }
+        ensures no { result ≡ false → held (entries_of self.now) number ≡ None }
     {
-        let slot = self.slots.get(number as usize)?;
-        if slot.there {
-            Some(slot.departure)
-        } else {
-            None
-        }
+        self.slots[number as usize].there
     }
 }
 
@@ -107,6 +106,8 @@ fn free_slot() -> Slot
                 label: Label::new(0),
                 dep: true,
             },
+            stop: StopNo::new(0),
+            board: false,
         },
         before: NOBODY,
         after: NOBODY,

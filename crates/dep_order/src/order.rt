@@ -1,35 +1,42 @@
-//! Departures by number, and in the order in which they take place.
+//! Departures in the order in which they take place, each found by its key.
 
-ghost use Rattle.std.specs.Prelude.{◌≡◌, ◌≤◌, ◌^◌, IfOk, IsSome, None, filter, Some, nat_le};
-ghost use Rattle.std.specs.Prelude.{replicate};
-ghost use Rattle.std.specs.Prelude.{slice_get, slice_set};
-ghost use Rattle.dep_order.specs.declared.departure.Departure.{Departure as ADeparture};
-ghost use Rattle.dep_order.specs.Departing.{HaveDistinctKeys, IsFirst, IsNewKey, held};
-ghost use Rattle.dep_order.specs.Departing.{departures_in_order, leaves_before, with_time};
+ghost use Rattle.std.specs.Prelude.{◌≡◌, ◌≢◌, ℕ, ◌+◌, ◌<◌, ◌≤◌, ◌^◌, All, IfNone, IfOk};
+ghost use Rattle.std.specs.Prelude.{IfSome, IsSome, None, filter, length, nat_le, not, true};
+ghost use Rattle.std.specs.List.{AllPairs, list_any};
+ghost use Rattle.mt_base.specs.Order.{is_before, is_same};
+ghost use Rattle.dep_order.specs.Departing.{held, leaves_before};
+ghost use Rattle.dep_order.specs.Loaded.{first_loaded};
+ghost use Rattle.dep_order.specs.Numbering.{AreNumbers, HasNumber};
+ghost use Rattle.dep_order.specs.Ordered.{moved};
+ghost use Rattle.mt_base.specs.Sorted.{in_order, placed};
 
 use crate::departure::Departure;
-use crate::lists::Lists;
+use crate::numbered::NumberedDepartures;
+use crate::numbers::Numbers;
 use crate::scan::Departures;
+use mt_base::keys::Key;
 use mt_base::memory::OutOfMemory;
 use mt_base::numbers::Time;
 use std::alloc::Global;
 use std::marker::Model;
 
-/// Departures by number, in the order of their times and then of their keys, which all differ. It
-/// is seen as the list, by number, of the departures that are there.
+/// Departures in the order of their times and then of their keys, which all differ. All memory is
+/// taken when it is made. It is seen as the list of the departures in this order, and how many more
+/// there is room for.
 #[derive(Drop)]
 pub struct DepartureOrder {
-    lists: Lists,
+    numbered: NumberedDepartures,
+    numbers: Numbers,
 }
 
 impl Model for DepartureOrder {
-    ghost use Rattle.dep_order.specs.Departing.{Numbered, coded_numbered};
+    ghost use Rattle.dep_order.specs.Ordered.{Ordered, coded_ordered};
 
-    ghost Value = { Numbered };
+    ghost Value = { Ordered };
 
-    ghost coded = { coded_numbered };
+    ghost coded = { coded_ordered };
 
-    ghost use Rattle.dep_order.specs.Ordered.{seen, IsOrdered};
+    ghost use Rattle.dep_order.specs.Inside.{seen, IsOrdered};
 
     ghost view = { seen };
 
@@ -37,94 +44,134 @@ impl Model for DepartureOrder {
 }
 
 impl DepartureOrder {
-    /// No departures, with so many numbers for them, from 0. Most of them are to take place up to
-    /// a time in seconds from the base of day 0; the order is as right, and slower, where many
-    /// take place later.
-    pub fn build(alloc: Global, room: u32, latest: u32) -> Result<DepartureOrder, OutOfMemory>
-        requires { room ≤ 2 ^ 22 }
-        ensures { IfOk result (λ order. order.entries ≡ replicate room None) }
+    /// These departures, which are given in the order of their keys, with room for so many more.
+    pub fn build(
+        alloc: Global,
+        departures: &[Departure],
+        spare: u32,
+    ) -> Result<DepartureOrder, OutOfMemory>
+        requires ascends { AllPairs (λ a b. is_before a.key b.key ≡ true) departures.now }
+        requires few { length departures.now + spare ≤ 2 ^ 22 }
+        ensures { IfOk result (λ order. order ≡ record {
+          departures = in_order leaves_before departures.now;
+          spare = spare;
+        }) }
     {
         Ok(DepartureOrder {
-            lists: Lists::empty(alloc, room, latest)?,
+            numbered: numbered(alloc, departures, spare)?,
+            numbers: Numbers::build(alloc, departures, spare)?,
         })
     }
 
-    /// The same departures once more.
+    /// The same departures once more, with the same room.
     pub fn copy(&self, alloc: Global) -> Result<DepartureOrder, OutOfMemory>
         ensures { IfOk result (λ copy. copy ≡ self.now) }
     {
         Ok(DepartureOrder {
-            lists: self.lists.copy(alloc)?,
+            numbered: self.numbered.copy(alloc)?,
+            numbers: self.numbers.copy(alloc)?,
         })
     }
 
-    /// The departure that has a number, if there is one.
-    pub fn get(&self, number: u32) -> Option<Departure>
-        ensures { result ≡ held self.now.entries number }
+    /// Puts a departure in whose key is not there. It takes no memory.
+    pub fn put(&mut self, departure: &Departure)
+        requires new_key { All (λ d. d.key ≢ departure.now.key) self.old.departures }
+        requires room { 0 < self.old.spare }
+        ensures departures { self.new.departures
+            ≡ placed leaves_before departure.now self.old.departures }
+        ensures room { self.old.spare ≤ self.new.spare + 1 }
     {
-        self.lists.get(number)
+        let number = self.numbers.number_of(&departure.key);
+        self.numbered.put(number, *departure);
     }
 
-    /// Gives a departure a number that no departure has. It takes no memory.
-    pub fn put(&mut self, number: u32, departure: Departure)
-        requires free { slice_get self.old.entries number ≡ Some None }
-        requires new_key { IsNewKey self.old.entries departure.key }
-        ensures { self.new.entries ≡ slice_set self.old.entries number (Some departure) }
+    /// Takes out the departure that has a key, if there is one.
+    pub fn take(&mut self, key: &Key)
+        ensures departures { self.new.departures
+            ≡ filter (λ d. not (is_same d.key key.now)) self.old.departures }
+        ensures room { self.new.spare ≡ self.old.spare }
     {
-        self.lists.insert(number, departure);
-    }
-
-    /// Takes out the departure that has a number.
-    pub fn take(&mut self, number: u32)
-        requires { IsSome (held self.old.entries number) }
-        ensures { self.new.entries ≡ slice_set self.old.entries number None }
-    {
-        self.lists.remove(number);
-    }
-
-    /// Lets the departure that has a number take place at another time. Nothing moves where it
-    /// keeps its place.
-    pub fn move_to(&mut self, number: u32, time: Time)
-        requires { IsSome (held self.old.entries number) }
-        ensures { self.new.entries ≡ with_time number time self.old.entries }
-    {
-        self.lists.retime(number, time);
-    }
-
-    /// The number of the first departure that does not take place before a time, or none where
-    /// all take place before it.
-    pub fn first_from(&self, time: Time) -> Option<u32>
-        ensures { IsFirst self.now.entries (λ d. nat_le time d.time) result }
-    {
-        self.lists.first_from(time)
-    }
-
-    /// The number of the departure that comes after that of this number, or none where that is
-    /// the last.
-    pub fn next(&self, number: u32) -> Option<u32>
-        requires { IsSome (held self.now.entries number) }
-        ensures { (d : ADeparture) → held self.now.entries number ≡ Some d
-            → IsFirst self.now.entries (leaves_before d) result }
-    {
-        self.lists.next(number)
-    }
-
-    /// The departures that do not take place before a time, one after another in their order.
-    pub fn departures_from(&self, time: Time) -> Departures<'_>
-        ensures { result ≡ filter (λ d. nat_le time d.time)
-            (departures_in_order self.now.entries) }
-    {
-        self.keys_are_distinct();
-        Departures {
-            order: self,
-            number: self.first_from(time),
+        if let Some(number) = number_there(&self.numbered, &self.numbers, key) {
+            self.numbered.take(number);
         }
     }
 
-    /// A law: no two departures have the same key.
-    pub fn keys_are_distinct(&self)
-        ensures { HaveDistinctKeys self.now.entries }
+    /// Lets the departure that has a key take place at another time, and answers whether there is
+    /// one. Nothing moves where it keeps its place.
+    #[inline]
+    pub fn move_to(&mut self, key: &Key, time: Time) -> bool
+        ensures there { result ≡ list_any (λ d. is_same d.key key.now) self.old.departures }
+        ensures departures { self.new.departures ≡ moved key.now time self.old.departures }
+        ensures room { self.new.spare ≡ self.old.spare }
     {
-        let _ = &self.lists;
+        match number_there(&self.numbered, &self.numbers, key) {
+            Some(number) => {
+                self.numbered.move_to(number, time);
+                true
+            }
+            None => false,
+        }
+    }
+
+    /// The departures that do not take place before a time, one after another in their order.
+    #[inline]
+    pub fn departures_from(&self, time: Time) -> Departures<'_>
+        ensures { result ≡ filter (λ d. nat_le time d.time) self.now.departures }
+    {
+        self.numbered.departures_from(time)
+    }
+
+    /// A law: each departure leaves before those after it, and no two have the same key.
+    pub fn departures_are_in_order(&self)
+        ensures ascends { AllPairs (λ a b. leaves_before a b ≡ true) self.now.departures }
+        ensures keys { AllPairs (λ a b. a.key ≢ b.key) self.now.departures }
+    {
+        let _ = &self.numbered;
+    }
+}
+
+/// The number of the departure that has a key, if there is one.
+#[inline]
+fn number_there(numbered: &NumberedDepartures, numbers: &Numbers, key: &Key) -> Option<u32>
+    requires numbers { AreNumbers numbers.now }
+    requires slots { length numbered.now.entries
+        ≡ length numbers.now.loaded.items + numbers.now.room }
+    ensures some { IfSome result (λ n. HasNumber numbers.now key.now n) }
+    ensures there { IfSome result (λ n. IsSome (held numbered.now.entries n)) }
+    ensures none { IfNone result ((n : ℕ) → HasNumber numbers.now key.now n
+        → held numbered.now.entries n ≡ None) }
+{
+    let number = numbers.find(key)?;
+    if numbered.has(number) {
+        Some(number)
+    } else {
+        None
+    }
+}
+
+/// These departures with their places as numbers, and so many numbers more.
+fn numbered(
+    alloc: Global,
+    departures: &[Departure],
+    spare: u32,
+) -> Result<NumberedDepartures, OutOfMemory>
+    requires ascends { AllPairs (λ a b. is_before a.key b.key ≡ true) departures.now }
+    requires few { length departures.now + spare ≤ 2 ^ 22 }
+    ensures { IfOk result (λ all. all.entries
+        ≡ first_loaded (length departures.now) departures.now spare) }
+{
+    let room = departures.len() as u32 + spare;
+    let mut all = NumberedDepartures::build(alloc, room, latest(departures))?;
+    for (number, departure) in departures.iter().enumerate() {
+        all.put(number as u32, *departure);
+    }
+    Ok(all)
+}
+
+/// Some hours after the scheduled time of the last departure, in seconds from the base of day 0.
+fn latest(departures: &[Departure]) -> u32 {
+    match departures.last() {
+        Some(departure) => departure.key.time.seconds().saturating_add(14_400),
+        None => 0,
     }
 }

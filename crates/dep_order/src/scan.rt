@@ -3,14 +3,14 @@
 ghost use Rattle.std.specs.Iterator.{YieldsFirst, item_count};
 
 use crate::departure::Departure;
-use crate::order::DepartureOrder;
+use crate::numbered::NumberedDepartures;
 use std::marker::Model;
 
 /// Departures in the order in which they take place, from one on. It is seen as the list of those
 /// still to come.
 #[derive(Drop)]
 pub struct Departures<'a> {
-    pub(crate) order: &'a DepartureOrder,
+    pub(crate) numbered: &'a NumberedDepartures,
     /// The number of the next, if one is still to come.
     pub(crate) number: Option<u32>,
 }
@@ -35,10 +35,12 @@ impl<'a> Iterator for Departures<'a> {
 
     ghost remaining = { item_count (λ s. s) };
 
+    #[inline]
     fn next(&mut self) -> Option<Departure> {
-        self.order.keys_are_distinct();
+        self.numbered.keys_are_distinct();
         let number = self.number?;
-        self.number = self.order.next(number);
-        self.order.get(number)
+        let step = self.numbered.step(number);
+        self.number = step.next;
+        Some(step.departure)
     }
 }

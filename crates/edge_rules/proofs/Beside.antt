@@ -8,7 +8,7 @@ use Rattle.delay_model.specs.Cuts.{before, after}
 use Rattle.delay_model.specs.Effect.{is_call}
 use Rattle.delay_model.specs.Events.{arrival_of, departure_of, events_at}
 use Rattle.train_nodes.specs.Calls.{first_label, last_label}
-use Rattle.train_nodes.proofs.Numbered.{nat_eq-from}
+use Rattle.std.proofs.lemmas.Bool.{eqb-true}
 
 -- a list is cut at the first element that passes
 pub cut-at : {X : Type 0} (p : X → Bool) (xs : List X) (x : X) → find p xs ≡ Some x → xs ≡ before p xs ++ x ∷ after p xs
@@ -24,7 +24,7 @@ pub label-of-found : (cs : List Call) (l : ℕ) (c : Call) → find (is_call l) 
 label-of-found [] l c h = absurd (cc)
 label-of-found (d ∷ ds) l c h =
     cond_both (nat_eq d.label l) (Some d) (find (is_call l) ds) (λ o. o ≡ Some c → c.label ≡ l)
-    (λ e k. let same : d ≡ c = cc in ap (λ (c : Call). c.label) (sym same) ∙ nat_eq-from d.label l e)
+    (λ e k. let same : d ≡ c = cc in ap (λ (c : Call). c.label) (sym same) ∙ eqb-true d.label l e)
     (λ _ k. label-of-found ds l c k)
     h
 

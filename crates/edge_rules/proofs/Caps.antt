@@ -14,7 +14,7 @@ use Rattle.delay_model.specs.Timing.{cap, first_report}
 use Rattle.delay_model.proofs.AlongTrains.{cap-at}
 use Rattle.delay_model.proofs.Apart.{events_at-train, labels-apart}
 use Rattle.train_nodes.specs.Reports.{report_after}
-use Rattle.train_nodes.proofs.Numbered.{nat_eq-from}
+use Rattle.std.proofs.lemmas.Bool.{eqb-true}
 use Rattle.edge_rules.specs.Held.{HasOwnLabels}
 use Rattle.edge_rules.proofs.Beside.{cut-at}
 use Rattle.edge_rules.proofs.Neighbours.{named-at, named-is}
@@ -34,7 +34,7 @@ own-report train [] (v ∷ vs) h =
     let P : Event → Type 0 = λ v. train + 1 ≤ v.key.train in
     let past = All-head P v vs h in
     cond_both (nat_eq v.key.train train && is_some (live_report v)) (live_report v) (first_report train vs) (λ r. r ≡ None)
-    (λ own. let same = nat_eq-from v.key.train train (and_parts _ _ own).0 in absurd (omega arith)) (λ _. own-report train [] vs (All-tail P v vs h))
+    (λ own. let same = eqb-true v.key.train train (and_parts _ _ own).0 in absurd (omega arith)) (λ _. own-report train [] vs (All-tail P v vs h))
 own-report train (v ∷ vs) others h =
     ap (λ r. cond (nat_eq v.key.train train && is_some (live_report v)) (live_report v) r) (own-report train vs others h)
 

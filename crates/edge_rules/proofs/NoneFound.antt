@@ -20,7 +20,7 @@ use Rattle.delay_model.specs.Overrides.{connection, connection_cmp}
 use Rattle.delay_model.specs.Waits.{wait}
 use Rattle.train_nodes.specs.Calls.{has_call}
 use Rattle.train_nodes.proofs.KeepLemmas.{into-each, from-each}
-use Rattle.train_nodes.proofs.Numbered.{nat_eq-from}
+use Rattle.std.proofs.lemmas.Bool.{eqb-true}
 use Rattle.edge_rules.specs.Found.{are_into, can_be_at, first_near, last_near, HaveEvents, planned_with, planned_by, planned_at, kept_with, kept_names, kept_at, of_name, joined_stops, names_near, tables_in}
 use Rattle.edge_rules.specs.Timetabled.{Timetabled}
 use Rattle.edge_rules.specs.declared.wanted.Wanted.{Wanted}
@@ -101,14 +101,14 @@ planned-no_wait g es waits v h = planned-none g es (Into waits) v (λ w u. let z
 no-wait : (nw : Network) (u v : Event) (rows : List RuleRow) → nat_eq (length rows) 0 ≡ true → wait nw.stops rows u.route v.route v.stop ≡ 0
 unfolding wait
 no-wait nw u v [] h = refl
-no-wait nw u v (row ∷ rows) h = absurd (let e = nat_eq-from _ _ h in omega arith)
+no-wait nw u v (row ∷ rows) h = absurd (let e = eqb-true _ _ h in omega arith)
 
 pub planned-no_rules : (g : Timetabled) (es : List Entry) (wanted : Wanted) (v : Event) → nat_eq (length g.network.rules) 0 ≡ true → planned_at g es wanted v ≡ []
 planned-no_rules g es wanted v h = planned-none g es wanted v (λ w u. no-wait-piece g wanted v w u (λ _. no-wait g.network u v g.network.rules h) (λ _. no-wait g.network v u g.network.rules h))
 
 -- nothing is kept or dropped where there is no override
 pub not-chosen : (m : FinMap connection_cmp Override) (a b : Node) → nat_eq (finmap.len m) 0 ≡ true → finmap.get m (connection a b) ≡ None
-not-chosen m a b h = ap (λ m. finmap.get m (connection a b)) (empty_of_len m (nat_eq-from _ _ h)) ∙ get-empty connection_cmp (connection a b)
+not-chosen m a b h = ap (λ m. finmap.get m (connection a b)) (empty_of_len m (eqb-true _ _ h)) ∙ get-empty connection_cmp (connection a b)
 
 no-members : {X : Type 0} (xs : List X) → ((x : X) → Contains xs x → ⊥) → xs ≡ []
 no-members [] none = refl

@@ -15,7 +15,7 @@ use Rattle.delay_model.specs.declared.state.Call.{Call}
 use Rattle.delay_model.specs.declared.state.Train.{Train}
 use Rattle.delay_model.specs.Changes.{kind_of, is_stop}
 use Rattle.delay_model.specs.Effect.{begin_run, end_run, change_event, killed}
-use Rattle.train_nodes.specs.declared.calls.TableCall.{TableCall}
+use Rattle.call_lines.specs.declared.calls.TableCall.{TableCall}
 use Rattle.train_nodes.specs.Loaded.{table_call, table_calls}
 use Rattle.schedule_build.specs.declared.runs.Run.{Run}
 use Rattle.schedule_build.specs.Schedule.{run_calls, run_train, schedule_of}

@@ -48,7 +48,7 @@ then-Equal Less b h = absurd (cc)
 then-Equal Equal b h = (refl, h)
 then-Equal Greater b h = absurd (cc)
 
-exact_bools : (a b : Bool) → bool_cmp a b ≡ Equal → a ≡ b
+pub exact_bools : (a b : Bool) → bool_cmp a b ≡ Equal → a ≡ b
 exact_bools true true h = refl
 exact_bools false false h = refl
 exact_bools true false h = absurd (cc)

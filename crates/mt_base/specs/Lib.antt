@@ -2,3 +2,4 @@ pub mod Order
 pub mod Options
 pub mod Civil
 pub mod Places
+pub mod Sorted

@@ -5,7 +5,7 @@ use Rattle.propagate.proofs.Words.{and_from, or_parts, not-then, list_any}
 use Rattle.propagate.proofs.Words.{All-contains, All-contains_itself}
 use Rattle.propagate.proofs.Words.{Key, Node, is_before, is_same, node_of, is_same_node, before-itself, same_node-is, same-itself, Event, Edge, events, event_named, is_live, edges, incoming, outgoing}
 use Rattle.propagate.proofs.Words.{event_time, IsValid, Contains-filter, events-unique, IsLiveAt, valid-graph, incoming-leads, time-local, local, floor_of, StoredTimes, time_of, has_time, edges_to, edges_from}
-use Rattle.propagate.proofs.Words.{stored_time, local_at, Timetabled, HasItsValue, IsOrderOf, may_change}
+use Rattle.propagate.proofs.Words.{stored_time, local_at, Timetabled, FollowsRule, IsOrderOf, may_change}
 use Rattle.delay_model.proofs.Solve.{local-agree, unique-below, timing-unique, LeadsTo}
 use Rattle.delay_model.proofs.Bounds.{incoming-fit}
 use Rattle.propagate.proofs.{Named.event-found, Named.event-live, Named.any-from, Ordered.key-live, Ordered.live-ordered, Ordered.filtered}
@@ -49,10 +49,10 @@ module _ (g : Timetabled) (valid : IsValid g.network g.state) {order : List Key}
   -- stored times that are what the rule gives at each event before a key are the event times there
   module _ (times : StoredTimes) where
     -- what is stored for the event is its value
-    pub value-is : (k : Key) (at : IsLiveAt es k) → HasItsValue g times k → stored_time times k ≡ local es gs (stored_time times) at.0
+    pub value-is : (k : Key) (at : IsLiveAt es k) → FollowsRule g times k → stored_time times k ≡ local es gs (stored_time times) at.0
     value-is k at own = ap (λ o. unwrap_or o 0) (sym own ∙ by-rule times k at)
 
-    pub time-before : (k : Key) → ((q : Key) → Contains order q → is_before q k ≡ true → HasItsValue g times q) → (q : Key) → Contains order q → is_before q k ≡ true → stored_time times q ≡ event_time g.network g.state q
+    pub time-before : (k : Key) → ((q : Key) → Contains order q → is_before q k ≡ true → FollowsRule g times q) → (q : Key) → Contains order q → is_before q k ≡ true → stored_time times q ≡ event_time g.network g.state q
     unfolding event_time
     time-before k own q h before =
         let at = key-live es order is q h in
@@ -60,7 +60,7 @@ module _ (g : Timetabled) (valid : IsValid g.network g.state) {order : List Key}
         value-is v.key (v, there, refl, live) (own v.key (live-ordered es order is v.key (v, there, refl, live)) sooner)) at.0 at.1 at.3 (ap (λ a. is_before a k) at.2 ∙ before) in
         rw at.2 at r
 
-    pub time-all : ((q : Key) → Contains order q → HasItsValue g times q) → (q : Key) → Contains order q → stored_time times q ≡ event_time g.network g.state q
+    pub time-all : ((q : Key) → Contains order q → FollowsRule g times q) → (q : Key) → Contains order q → stored_time times q ≡ event_time g.network g.state q
     unfolding event_time
     time-all own q h =
         let at = key-live es order is q h in
@@ -68,7 +68,7 @@ module _ (g : Timetabled) (valid : IsValid g.network g.state) {order : List Key}
         value-is v.key (v, there, refl, live) (own v.key (live-ordered es order is v.key (v, there, refl, live)))) at.0 at.1 at.3 in
         rw at.2 at r
 
-    module _ (k : Key) (h : Contains order k) (own : (q : Key) → Contains order q → is_before q k ≡ true → HasItsValue g times q) where
+    module _ (k : Key) (h : Contains order k) (own : (q : Key) → Contains order q → is_before q k ≡ true → FollowsRule g times q) where
       at : IsLiveAt es k
       at = key-live es order is k h
 
@@ -124,7 +124,7 @@ module _ (g : Timetabled) (valid : IsValid g.network g.state) {order : List Key}
         ]
 
     -- what the rule gives another event, that no edge from it reaches, stays
-    pub value-left : (q : Key) → Contains order q → is_same_node (node_of k) (node_of q) ≡ false → HasItsValue g old q → (stored_time old k ≡ stored_time new k) ⊎ (is_reached (stored_time old k) (stored_time new k) q ≡ false) → HasItsValue g new q
+    pub value-left : (q : Key) → Contains order q → is_same_node (node_of k) (node_of q) ≡ false → FollowsRule g old q → (stored_time old k ≡ stored_time new k) ⊎ (is_reached (stored_time old k) (stored_time new k) q ≡ false) → FollowsRule g new q
     unfolding incoming
     value-left q hq other own none =
         let v = key-live es order is q hq in
@@ -135,7 +135,7 @@ module _ (g : Timetabled) (valid : IsValid g.network g.state) {order : List Key}
         by-rule new q v ∙ ap Some (sym stays) ∙ sym (by-rule old q v) ∙ own ∙ sym (others (node_of q) other)
 
     -- and what it gives the event itself, which no edge leads to from itself
-    pub value-own : (y : ℕ) → local_at g old (node_of k) ≡ Some y → time_of new (node_of k) ≡ Some y → HasItsValue g new k
+    pub value-own : (y : ℕ) → local_at g old (node_of k) ≡ Some y → time_of new (node_of k) ≡ Some y → FollowsRule g new k
     value-own y rule later =
         let v = key-live es order is k h in
         let same : All (λ (e : Edge). stored_time new e.from ≡ stored_time old e.from) (incoming gs v.0.key) = λ i d l.

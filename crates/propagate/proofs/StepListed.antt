@@ -1,8 +1,8 @@
 -- The live events that get another time than is stored for them are those that a message changes.
 use Rattle.propagate.proofs.StepWords.{◌≡◌, ◌||◌, ◌^◌, ◌-◌, ◌<◌, Bool, false, not, nat_eq, List, [], ◌∷◌, map, filter, refl, ◌∙◌, ap, suc, arith, inl, inr, get_or, cases_Bool, false_from_ne_true}
 use Rattle.propagate.proofs.StepWords.{eqb-true, All, All-contains_itself, Key, node_of, is_before, State, Network, events, event_time, is_live_key, IsLiveAt, IsValid, live_keys}
-use Rattle.propagate.proofs.StepWords.{key_order, has_another, retimed_at, StoredTimes, no_time, AreStored}
-use Rattle.propagate.specs.declared.retimed.Retimed.{Retimed}
+use Rattle.propagate.proofs.StepWords.{key_order, has_another, time_change_at, StoredTimes, no_time, AreStored}
+use Rattle.propagate.specs.declared.time_changes.TimeChange.{TimeChange}
 use Rattle.std.proofs.lemmas.List.Sorted.{Contains-permutation, IsPermutation-sym}
 use Rattle.std.proofs.lemmas.Simd.{map-map}
 use Rattle.delay_model.proofs.Bounds.{event_time-small}
@@ -25,10 +25,10 @@ module _ (nw : Network) (old new : State) (valid : IsValid nw new) (times : Stor
             rw (new-time nw old new times stored k at none, none, differ) refl
       ]
 
-  pub listed-changed : map (λ (r : Retimed). node_of r.key) (map (retimed_at nw new times) (filter (has_another nw new times) (key_order (events new)))) ≡ map node_of (filter (λ k. not (is_live_key (events old) k) || not (nat_eq (event_time nw old k) (event_time nw new k))) (key_order (events new)))
+  pub listed-changed : map (λ (r : TimeChange). node_of r.key) (map (time_change_at nw new times) (filter (has_another nw new times) (key_order (events new)))) ≡ map node_of (filter (λ k. not (is_live_key (events old) k) || not (nat_eq (event_time nw old k) (event_time nw new k))) (key_order (events new)))
   listed-changed =
       let keys = live_keys (events new) in
       let order = key_order (events new) in
-      map-map (λ (r : Retimed). node_of r.key) (retimed_at nw new times) (filter (has_another nw new times) order)
+      map-map (λ (r : TimeChange). node_of r.key) (time_change_at nw new times) (filter (has_another nw new times) order)
       ∙ ap (map node_of) (filter-same (has_another nw new times) _ order (λ i d l.
       another-is (get_or order i d) (keyed-live (events new) _ (Contains-permutation order keys _ (IsPermutation-sym keys order (in_order-moves is_before keys)) (All-contains_itself order i d l)))))

@@ -3,7 +3,7 @@ use Rattle.propagate.proofs.StepWords.{◌≡◌, ℕ, ◌+◌, ◌≤◌, Bool,
 use Rattle.propagate.proofs.StepWords.{option_map, unwrap_or, cases_Bool, or_parts, All, All-contains, Contains, Contains-filter, Key, node_of, is_same_node, same-is}
 use Rattle.propagate.proofs.StepWords.{same_node-itself, Edge, Event, State, Network, Message, AlongTrain, Planned, edges, events, effect, refusal, incoming, local, time, event_time, later}
 use Rattle.propagate.proofs.StepWords.{floor_of, event_named, named, live_only, is_live_key, is_fed_by, IsLiveAt, IsValid, IsWellFormed, valid-graph, incoming-leads}
-use Rattle.propagate.proofs.StepWords.{subst, false_from_ne_true, All-contains_itself, live_keys, Marked, is_marked, incoming-there, time-local, stays-valid, StoredTimes, no_time, stored_time, may_decide, may_change, HasItsValue, is_fed_first_by, is_unsettled, AreStored}
+use Rattle.propagate.proofs.StepWords.{subst, false_from_ne_true, All-contains_itself, live_keys, Marked, is_marked, incoming-there, time-local, stays-valid, StoredTimes, no_time, stored_time, may_decide, may_change, FollowsRule, is_fed_by_new, is_unsettled, AreStored}
 use Rattle.delay_model.specs.Timing.{counts}
 use Rattle.delay_model.specs.declared.state.EdgeKind.{EdgeKind}
 use Rattle.delay_model.specs.declared.state.EdgeKind.TheVariants.{Kept}
@@ -70,7 +70,7 @@ module _ (nw : Network) (st : State) (m : Message) (valid : IsValid nw st) (well
         let own = same_node-itself (node_of w.key) in let other = rw e at (none-passes (is_same_node (node_of w.key)) (named st m) parts.0 i d l) in absurd (cc))
 
     -- nothing that goes feeds it, and nothing that comes feeds it first
-    unfed : (is_fed_by (edges nw st) gone w.key ≡ false) × (is_fed_first_by (edges nw new) made w.key ≡ false)
+    unfed : (is_fed_by (edges nw st) gone w.key ≡ false) × (is_fed_by_new (edges nw new) made w.key ≡ false)
     unfed = or_parts (is_fed_by (edges nw st) gone w.key) _ (or_parts (list_any (is_same_node (node_of w.key)) (named st m)) _ settled).1
 
     -- each edge to it stays
@@ -110,7 +110,7 @@ module _ (nw : Network) (st : State) (m : Message) (valid : IsValid nw st) (well
         let same : fold (later t) (floor_of w) (incoming (edges nw new) w.key) ≡ fold (later t) (floor_of w) (incoming (edges nw st) w.key) = omega arith in
         rw (same, left.caps is) refl
 
-    value-stays : HasItsValue (record { network = nw; state = new }) times w.key
+    value-stays : FollowsRule (record { network = nw; state = new }) times w.key
     unfolding event_time
     value-stays =
         let es = events st in
@@ -124,11 +124,11 @@ module _ (nw : Network) (st : State) (m : Message) (valid : IsValid nw st) (well
         ∙ sym (old-time nw st new times stored w.key (w, left.there, refl, live))
 
   -- for a live event that is not unsettled its value is stored
-  pub unsettled-value : (k : Key) → IsLiveAt (events new) k → is_unsettled nw st m k ≡ false → HasItsValue (record { network = nw; state = new }) times k
-  unsettled-value k at settled = subst (HasItsValue (record { network = nw; state = new }) times) at.2 (value-stays at.0 at.1 at.3 (rw at.2 settled))
+  pub unsettled-value : (k : Key) → IsLiveAt (events new) k → is_unsettled nw st m k ≡ false → FollowsRule (record { network = nw; state = new }) times k
+  unsettled-value k at settled = subst (FollowsRule (record { network = nw; state = new }) times) at.2 (value-stays at.0 at.1 at.3 (rw at.2 settled))
 
   -- so it is for each live event that is not marked, where what is unsettled is marked
-  pub unmarked-values : (marks : Marked) → ((k : Key) → IsLiveAt (events new) k → is_unsettled nw st m k ≡ true → is_marked marks k ≡ true) → All (λ k. is_marked marks k ≡ false → HasItsValue (record { network = nw; state = new }) times k) (live_keys (events new))
+  pub unmarked-values : (marks : Marked) → ((k : Key) → IsLiveAt (events new) k → is_unsettled nw st m k ≡ true → is_marked marks k ≡ true) → All (λ k. is_marked marks k ≡ false → FollowsRule (record { network = nw; state = new }) times k) (live_keys (events new))
   unmarked-values marks all = λ i d l free.
       let k = get_or (live_keys (events new)) i d in
       let at = keyed-live (events new) k (All-contains_itself (live_keys (events new)) i d l) in

@@ -2,7 +2,7 @@
 use Rattle.propagate.proofs.StepWords.{◌≡◌, ◌++◌, ◌&&◌, ◌||◌, Bool, true, not, nat_eq, List, refl, ap, arith, inl, inr, cases_Bool, filter, list_any, and_parts, or_cases}
 use Rattle.propagate.proofs.StepWords.{any-there, All-contains, Contains, Contains-append_left, Contains-append_right, Contains-filter, Key, node_of, is_same, is_same_node, Edge, Event, State, Network}
 use Rattle.propagate.proofs.StepWords.{Message, events, edges, effect, event_time, live_events, named, changed, is_fed_by, is_live_key, live_only, StoredTimes, no_time, stored_time}
-use Rattle.propagate.proofs.StepWords.{may_change, has_another, is_fed_anew, is_unsettled, AreStored, unwrap_or}
+use Rattle.propagate.proofs.StepWords.{may_change, has_another, has_changed_feeder, is_unsettled, AreStored, unwrap_or}
 use Rattle.delay_model.proofs.Ends.{JoinsLive, edges-join}
 use Rattle.propagate.proofs.StepStored.{fed-from, fed-more, filtered, live-at, old-time, only-there}
 
@@ -62,7 +62,7 @@ module _ (nw : Network) (old new : State) (times : StoredTimes) (stored : AreSto
       ]
 
   -- so what is fed anew is fed by a changed event
-  pub fed-by-changed : (gs : List Edge) (k : Key) → is_fed_anew (record { network = nw; state = new }) times k ≡ true → is_fed_by (gs ++ edges nw new) (changed nw old new) k ≡ true
+  pub fed-by-changed : (gs : List Edge) (k : Key) → has_changed_feeder (record { network = nw; state = new }) times k ≡ true → is_fed_by (gs ++ edges nw new) (changed nw old new) k ≡ true
   fed-by-changed gs k h =
       let hs = edges nw new in
       let another : Edge → Bool = λ e. has_another nw new times e.from in

@@ -20,8 +20,8 @@ pub use Rattle.edge_rules.specs.AtEvent.{stored_time}
 pub use Rattle.edge_rules.specs.Deciding.{may_change, may_decide}
 pub use Rattle.edge_rules.specs.Timetabled.{Timetabled}
 pub use Rattle.rank_order.specs.Marked.{Marked, is_marked}
-pub use Rattle.propagate.specs.LiveKeys.{HasItsTime, has_another, key_order, live_keys, retimed_at}
+pub use Rattle.propagate.specs.LiveKeys.{HasItsTime, has_another, key_order, live_keys, time_change_at}
 pub use Rattle.propagate.specs.Reads.{reads_of}
-pub use Rattle.propagate.specs.Settling.{HasItsValue, is_due, is_fed_anew, reads_at}
-pub use Rattle.propagate.specs.Sorted.{in_order, placed}
-pub use Rattle.propagate.specs.Unsettled.{AreStored, is_fed_first_by, is_unsettled}
+pub use Rattle.propagate.specs.Settling.{FollowsRule, is_due, has_changed_feeder, reads_at}
+pub use Rattle.mt_base.specs.Sorted.{in_order, placed}
+pub use Rattle.propagate.specs.Unsettled.{AreStored, is_fed_by_new, is_unsettled}

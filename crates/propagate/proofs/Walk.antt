@@ -5,7 +5,7 @@ use Rattle.propagate.proofs.Words.{false_from_ne_true, eqb-true, eq-eqb, and_fro
 use Rattle.propagate.proofs.Words.{take-append-drop, All-contains, All-contains_itself, Contains-append_left, Contains-append_right}
 use Rattle.propagate.proofs.Words.{Key, Node, is_before, is_same, node_of, is_same_node, before-itself, before-asymmetric, same-is, same-itself, Edge, events, is_live, edges, outgoing}
 use Rattle.propagate.proofs.Words.{event_time, IsValid, Contains-there, StoredTimes, time_of, has_time, edges_to, edges_from}
-use Rattle.propagate.proofs.Words.{stored_time, local_at, Timetabled, HasItsTime, HasItsValue, HasTimesFor, IsOrderOf, live_keys, retimed_at, Retimed, State, has_another, is_due, is_fed_anew, may_change, reads_at, Marked, is_marked, has_key, AllPairs-before, All-permutation, Contains-permutation, IsPermutation-sym, length_permutation}
+use Rattle.propagate.proofs.Words.{stored_time, local_at, Timetabled, HasItsTime, FollowsRule, HasTimesFor, IsOrderOf, live_keys, time_change_at, TimeChange, State, has_another, is_due, has_changed_feeder, may_change, reads_at, Marked, is_marked, has_key, AllPairs-before, All-permutation, Contains-permutation, IsPermutation-sym, length_permutation}
 use Rattle.std.proofs.Math.Seq.{drop-cons}
 use Rattle.delay_model.proofs.Ends.{JoinsLive, edges-join}
 use Rattle.propagate.proofs.{Named.any-from, Named.find-any, Ordered.key-live, Ordered.live-ordered, Ordered.each-after, Ordered.stands-after, Ordered.filtered}
@@ -35,16 +35,16 @@ ahead-less order k rest (m ∷ ms) h after =
 -- part of a walk along the keys in their order. The keys before the rest are passed: nothing marked is among them, and the events
 -- whose time differs are listed. What is stored for each event that is not marked is what the rule gives it, and for the rest it is
 -- what was stored at first
-pub record IsPart (g : Timetabled) (order : List Key) (old : StoredTimes) (first : Marked) (before : Vec Retimed Global) (start : ℕ) (times : StoredTimes) (marks : Marked) (changed : Vec Retimed Global) (steps : ℕ) : Type 0 where
+pub record IsPart (g : Timetabled) (order : List Key) (old : StoredTimes) (first : Marked) (before : Vec TimeChange Global) (start : ℕ) (times : StoredTimes) (marks : Marked) (changed : Vec TimeChange Global) (steps : ℕ) : Type 0 where
   pub passed : List Key
   pub rest : List Key
   pub whole : order ≡ passed ++ rest
   pub ahead : (q : Key) → is_marked marks q ≡ true → Contains rest q
   pub due : (q : Key) → is_marked marks q ≡ true → is_due g first old q ≡ true
   pub held : All (λ k. has_time times (node_of k) ≡ true) order
-  pub values : (q : Key) → Contains order q → is_marked marks q ≡ false → HasItsValue g times q
+  pub values : (q : Key) → Contains order q → is_marked marks q ≡ false → FollowsRule g times q
   pub left : All (λ k. time_of times (node_of k) ≡ time_of old (node_of k)) rest
-  pub listed : changed.items ≡ before.items ++ map (retimed_at g.network g.state old) (filter (has_another g.network g.state old) passed)
+  pub listed : changed.items ≡ before.items ++ map (time_change_at g.network g.state old) (filter (has_another g.network g.state old) passed)
   pub room : vec_len changed + length rest ≤ vec_capacity changed
   pub limit : marks.room ≡ first.room
   pub capacity : vec_capacity changed ≡ vec_capacity before
@@ -61,8 +61,8 @@ cut-at : {X : Type 0} (xs : List X) (x : X) (h : Contains xs x) → xs ≡ take 
 cut-at xs x h = sym (take-append-drop h.0 xs) ∙ ap (λ ys. take h.0 xs ++ ys) (drop-cons xs h.0 x h.1 ∙ ap (λ y. y ∷ drop (suc h.0) xs) h.2)
 
 -- at first
-pub part-first : (g : Timetabled) (order : List Key) (old : StoredTimes) (first : Marked) (before : Vec Retimed Global) (start : ℕ) → IsOrderOf (events g.state) order → All (λ k. has_time old (node_of k) ≡ true) (live_keys (events g.state)) → All (Contains (live_keys (events g.state))) first.keys
-    → All (λ k. is_marked first k ≡ false → HasItsValue g old k) (live_keys (events g.state)) → vec_len before + length (live_keys (events g.state)) ≤ vec_capacity before → IsPart g order old first before start old first before start
+pub part-first : (g : Timetabled) (order : List Key) (old : StoredTimes) (first : Marked) (before : Vec TimeChange Global) (start : ℕ) → IsOrderOf (events g.state) order → All (λ k. has_time old (node_of k) ≡ true) (live_keys (events g.state)) → All (Contains (live_keys (events g.state))) first.keys
+    → All (λ k. is_marked first k ≡ false → FollowsRule g old k) (live_keys (events g.state)) → vec_len before + length (live_keys (events g.state)) ≤ vec_capacity before → IsPart g order old first before start old first before start
 part-first g order old first before start is held known values room =
     let live = live_keys (events g.state) in
     record {
@@ -72,7 +72,7 @@ part-first g order old first before start is held known values room =
       ahead = λ q h. Contains-permutation live order q is.moved (of-marked (Contains live) first known q h);
       due = λ q h. rw h refl;
       held = All-permutation (λ k. has_time old (node_of k) ≡ true) live order is.moved held;
-      values = λ q h. All-contains (λ k. is_marked first k ≡ false → HasItsValue g old k) order q (All-permutation (λ k. is_marked first k ≡ false → HasItsValue g old k) live order is.moved values) h;
+      values = λ q h. All-contains (λ k. is_marked first k ≡ false → FollowsRule g old k) order q (All-permutation (λ k. is_marked first k ≡ false → FollowsRule g old k) live order is.moved values) h;
       left = λ i d l. refl;
       listed = sym (append-nil before.items);
       room = let long = length_permutation live order is.moved in omega arith;
@@ -82,12 +82,12 @@ part-first g order old first before start is held known values room =
       cost = omega arith;
     }
 
-module _ {g : Timetabled} (valid : IsValid g.network g.state) {order : List Key} (is : IsOrderOf (events g.state) order) {old : StoredTimes} {first : Marked} {before : Vec Retimed Global} {start : ℕ} {times : StoredTimes} {marks : Marked} {changed : Vec Retimed Global} {steps : ℕ} (part : IsPart g order old first before start times marks changed steps) where
+module _ {g : Timetabled} (valid : IsValid g.network g.state) {order : List Key} (is : IsOrderOf (events g.state) order) {old : StoredTimes} {first : Marked} {before : Vec TimeChange Global} {start : ℕ} {times : StoredTimes} {marks : Marked} {changed : Vec TimeChange Global} {steps : ℕ} (part : IsPart g order old first before start times marks changed steps) where
   abbrev live : List Key
   live = live_keys (events g.state)
 
-  abbrev at_time : Key → Retimed
-  at_time = retimed_at g.network g.state old
+  abbrev at_time : Key → TimeChange
+  at_time = time_change_at g.network g.state old
 
   abbrev another : Key → Bool
   another = has_another g.network g.state old
@@ -167,7 +167,7 @@ module _ {g : Timetabled} (valid : IsValid g.network g.state) {order : List Key}
     before-k u h = All-contains (λ w. is_before w k ≡ true) (part.passed ++ us) u (AllPairs-before (λ a b. is_before a b ≡ true) (part.passed ++ us) k vs (subst (AllPairs (λ a b. is_before a b ≡ true)) whole is.ascends)) (Contains-append_right part.passed us u h)
 
     -- what is before the key is not marked
-    own : (q : Key) → Contains order q → is_before q k ≡ true → HasItsValue g times q
+    own : (q : Key) → Contains order q → is_before q k ≡ true → FollowsRule g times q
     own q h sooner =
         part.values q h (not-then _ (λ marked.
         let none = before-itself k in
@@ -254,7 +254,7 @@ module _ {g : Timetabled} (valid : IsValid g.network g.state) {order : List Key}
         fed-due differ q h =
             let r = fed-by q h in
             let may : may_change (stored_time old r.0.from) (event_time g.network g.state r.0.from) r.0 ≡ true = rw (r.2, x-old, y-time) r.4 in
-            or-right (is_marked first q) (is_fed_anew g old q)
+            or-right (is_marked first q) (has_changed_feeder g old q)
             (any-from (λ (e : Edge). is_same e.to q && (another e.from && may_change (stored_time old e.from) (event_time g.network g.state e.from) e)) (edges g.network g.state) r.0 r.1
             (and_from _ _ r.3 (and_from _ _ (rw r.2 (counts differ)) may)))
 
@@ -263,7 +263,7 @@ module _ {g : Timetabled} (valid : IsValid g.network g.state) {order : List Key}
             let none = settled-none us (λ u h. let there : Contains part.rest u = rw (cut-at part.rest k place) (Contains-append_left us (k ∷ vs) u h) in (there, time-before g valid is times k own u (in-order u there) (before-k u h))) in
             rw (filter-append another part.passed us, none) (append-nil (filter another part.passed))
 
-        module _ (more : Marked) (more_room : more.room ≡ less.room) (ins : (q : Key) → is_marked more q ≡ true → (is_marked less q ≡ true) ⊎ ((x ≢ y) × (fed q ≡ true))) (outs : (q : Key) → is_marked more q ≡ false → (is_marked less q ≡ false) × ((x ≡ y) ⊎ (fed q ≡ false))) (next : Vec Retimed Global) (added : next.items ≡ changed.items ++ map at_time (filter another (k ∷ []))) (room : vec_len next + length vs ≤ vec_capacity next) (same : vec_capacity next ≡ vec_capacity changed) where
+        module _ (more : Marked) (more_room : more.room ≡ less.room) (ins : (q : Key) → is_marked more q ≡ true → (is_marked less q ≡ true) ⊎ ((x ≢ y) × (fed q ≡ true))) (outs : (q : Key) → is_marked more q ≡ false → (is_marked less q ≡ false) × ((x ≡ y) ⊎ (fed q ≡ false))) (next : Vec TimeChange Global) (added : next.items ≡ changed.items ++ map at_time (filter another (k ∷ []))) (room : vec_len next + length vs ≤ vec_capacity next) (same : vec_capacity next ≡ vec_capacity changed) where
           part-more : IsPart g order old first before start new more next count
           part-more =
               record {
@@ -285,7 +285,7 @@ module _ {g : Timetabled} (valid : IsValid g.network g.state) {order : List Key}
                 values = λ q h unmarked.
                     let r = outs q unmarked in
                     elim (one-or-other g valid is k q k-there h) [
-                      | inl e ↦ subst (HasItsValue g new) (sym e) (value-own g valid is times new k k-there others-k y (ap (local_at g times) (sym name) ∙ rule) (ap (time_of new) (sym name) ∙ later))
+                      | inl e ↦ subst (FollowsRule g new) (sym e) (value-own g valid is times new k k-there others-k y (ap (local_at g times) (sym name) ∙ rule) (ap (time_of new) (sym name) ∙ later))
                       | inr other ↦
                           let apart = not-then (is_same k q) (λ s. let e = same-is k q s in let own = same_node-itself (node_of k) in let no = rw (← e) at other in cc) in
                           let none : is_marked marks q ≡ false = marked-now q ∙ rw (apart, r.0) refl in
@@ -318,7 +318,7 @@ module _ {g : Timetabled} (valid : IsValid g.network g.state) {order : List Key}
 
         -- an event more whose time differs, and marks more
         pub part-differs : x ≢ y → (more : Marked) → more.room ≡ less.room → ((q : Key) → is_marked more q ≡ (is_marked less q || list_any (λ (e : Edge). is_same e.to q && may_change x y e) (edges_from g n)))
-            → (next : Vec Retimed Global) → next.items ≡ changed.items ++ record { key = k; was = x; is = y } ∷ [] → vec_len next ≡ vec_len changed + 1 → vec_capacity next ≡ vec_capacity changed → IsPart g order old first before start new more next count
+            → (next : Vec TimeChange Global) → next.items ≡ changed.items ++ record { key = k; was = x; is = y } ∷ [] → vec_len next ≡ vec_len changed + 1 → vec_capacity next ≡ vec_capacity changed → IsPart g order old first before start new more next count
         part-differs differ more more_room marked next pushed long same =
             let room = part.room in
             let now : (q : Key) → is_marked more q ≡ (is_marked less q || fed q) = λ q. marked q ∙ rw (name, out-of g valid is k k-there) refl in

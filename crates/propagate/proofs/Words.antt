@@ -34,8 +34,8 @@ unfoldable pub use Rattle.train_nodes.specs.Times.{time_of}
 pub use Rattle.train_nodes.specs.Lists.{change_at}
 pub use Rattle.train_nodes.specs.Times.{AreSized, StoredTimes, has_time, place_of, with_time}
 pub use Rattle.rank_order.specs.Marked.{Ascends, Marked, has_key, is_marked}
-pub use Rattle.propagate.specs.LiveKeys.{HasItsTime, IsOrderOf, has_another, key_order, live_keys, retimed_at}
-pub use Rattle.propagate.specs.Sorted.{in_order, placed}
+pub use Rattle.propagate.specs.LiveKeys.{HasItsTime, IsOrderOf, has_another, key_order, live_keys, time_change_at}
+pub use Rattle.mt_base.specs.Sorted.{in_order, placed}
 pub use Rattle.propagate.specs.TimesFor.{HasTimesFor, next_labels}
-pub use Rattle.propagate.specs.declared.retimed.Retimed.{Retimed}
-pub use Rattle.propagate.specs.Settling.{HasItsValue, is_due, is_fed_anew, reads_at}
+pub use Rattle.propagate.specs.declared.time_changes.TimeChange.{TimeChange}
+pub use Rattle.propagate.specs.Settling.{FollowsRule, is_due, has_changed_feeder, reads_at}

@@ -1,4 +1,3 @@
-pub mod Sorted
 pub mod LiveKeys
 pub mod TimesFor
 pub mod Settling

@@ -11,8 +11,8 @@ use Rattle.delay_model.specs.Events.{live_events}
 use Rattle.delay_model.specs.Timing.{event_time}
 use Rattle.train_nodes.specs.Times.{StoredTimes, time_of}
 use Rattle.edge_rules.specs.AtEvent.{stored_time}
-use Rattle.propagate.specs.Sorted.{in_order}
-use Rattle.propagate.specs.declared.retimed.Retimed.{Retimed}
+use Rattle.mt_base.specs.Sorted.{in_order}
+use Rattle.propagate.specs.declared.time_changes.TimeChange.{TimeChange}
 
 -- the keys of the live events among these
 abbrev pub live_keys : List Event → List Key
@@ -36,8 +36,8 @@ abbrev pub has_another : Network → State → StoredTimes → Key → Bool
 has_another nw st times k = not (nat_eq (stored_time times k) (event_time nw st k))
 
 -- an event that gets its time, in place of the one that is stored for it
-abbrev pub retimed_at : Network → State → StoredTimes → Key → Retimed
-retimed_at nw st times k = record {
+abbrev pub time_change_at : Network → State → StoredTimes → Key → TimeChange
+time_change_at nw st times k = record {
   key = k;
   was = stored_time times k;
   is = event_time nw st k;

@@ -18,8 +18,8 @@ use Rattle.propagate.specs.LiveKeys.{HasItsTime, live_keys}
 
 -- an edge that may change the time of the event to which it leads, where one that has no time yet
 -- gets one, leads to this key from one of these events
-abbrev pub is_fed_first_by : List Edge → List Event → Key → Bool
-is_fed_first_by gs es k = is_fed_by (filter (may_change no_time no_time) gs) es k
+abbrev pub is_fed_by_new : List Edge → List Event → Key → Bool
+is_fed_by_new gs es k = is_fed_by (filter (may_change no_time no_time) gs) es k
 
 -- the event may have another value after a message than the time that is stored for it: the message
 -- names it, or it was fed by an event that the message takes away, or it is fed by one that the
@@ -29,7 +29,7 @@ is_unsettled nw st m k =
     let new = effect st m in
     list_any (is_same_node (node_of k)) (named st m)
     || (is_fed_by (edges nw st) (live_only (events st) (events new)) k
-    || is_fed_first_by (edges nw new) (live_only (events new) (events st)) k)
+    || is_fed_by_new (edges nw new) (live_only (events new) (events st)) k)
 
 -- after a message the time before it is stored for each event that was live, and for each other
 -- live event the time that no event has

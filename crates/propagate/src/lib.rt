@@ -2,9 +2,9 @@
 //! keys.
 #![tactic(auto)]
 
-pub mod retimed;
 mod settling;
 mod successors;
+pub mod time_changes;
 
-pub use retimed::Retimed;
 pub use settling::settle;
+pub use time_changes::TimeChange;

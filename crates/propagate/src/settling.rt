@@ -10,12 +10,12 @@ ghost use Rattle.delay_model.specs.Valid.{IsValid};
 ghost use Rattle.train_nodes.specs.Times.{time_of, has_time};
 ghost use Rattle.edge_rules.specs.AtEvent.{edges_to, stored_time, local_at};
 ghost use Rattle.rank_order.specs.Marked.{is_marked};
-ghost use Rattle.propagate.specs.LiveKeys.{HasItsTime, has_another, key_order, live_keys, retimed_at};
-ghost use Rattle.propagate.specs.Settling.{HasItsValue, is_due, reads_at};
+ghost use Rattle.propagate.specs.LiveKeys.{HasItsTime, has_another, key_order, live_keys, time_change_at};
+ghost use Rattle.propagate.specs.Settling.{FollowsRule, is_due, reads_at};
 ghost use Rattle.propagate.specs.TimesFor.{HasTimesFor};
 
-use crate::retimed::Retimed;
 use crate::successors::mark_successors;
+use crate::time_changes::TimeChange;
 use edge_rules::Graph;
 use mt_base::keys::Node;
 use mt_base::numbers::Time;
@@ -53,22 +53,22 @@ fn settle_one<L: Ledger>(
     (was, is)
 }
 
-/// Stores for each event its time, where what is stored for each event that is not marked is what
-/// the rule gives it. The marked events are settled in the order of their keys, and with them those
-/// that are fed by one whose time differs. It lists the events that get another time, in the order
-/// of their keys, and leaves nothing marked. It takes no memory.
+/// Computes again the times of the marked events, in the order of their keys, and of those that are
+/// fed by an event whose time differs then; nothing is marked afterwards. Before, each event that is
+/// not marked has the time that the rule gives it from the stored ones. The events that get another
+/// time are added to a list, in the order of their keys, with both times. It takes no memory.
 pub fn settle<L: Ledger>(
     graph: &Graph,
     times: &mut NodeTimes,
     marks: &mut Marks,
-    changed: &mut Vec<Retimed>,
+    changed: &mut Vec<TimeChange>,
     steps: &mut Steps<L>,
 )
     requires valid { IsValid graph.now.network graph.now.state }
     requires held { All (λ k. IsTrue (has_time times.old (node_of k)))
         (live_keys (events graph.now.state)) }
     requires marked { All (Contains (live_keys (events graph.now.state))) marks.old.keys }
-    requires settled { All (λ k. is_marked marks.old k ≡ false → HasItsValue graph.now times.old k)
+    requires settled { All (λ k. is_marked marks.old k ≡ false → FollowsRule graph.now times.old k)
         (live_keys (events graph.now.state)) }
     requires room { vec_len changed.old + length (live_keys (events graph.now.state))
         ≤ vec_capacity changed.old }
@@ -77,7 +77,7 @@ pub fn settle<L: Ledger>(
         (live_keys (events graph.now.state)) }
     ensures marks { marks.new ≡ record marks.old { keys = [] } }
     ensures changed { changed.new.items ≡ changed.old.items
-        ++ map (retimed_at graph.now.network graph.now.state times.old)
+        ++ map (time_change_at graph.now.network graph.now.state times.old)
         (filter (has_another graph.now.network graph.now.state times.old)
         (key_order (events graph.now.state))) }
     ensures capacity { vec_capacity changed.new ≡ vec_capacity changed.old }
@@ -90,7 +90,7 @@ pub fn settle<L: Ledger>(
         let n = key.node();
         let (was, is) = settle_one(graph, &n, times, steps);
         if was != is {
-            changed.push_reserved(Retimed { key, was, is });
+            changed.push_reserved(TimeChange { key, was, is });
             mark_successors(graph, &n, was, is, marks);
         }
     }

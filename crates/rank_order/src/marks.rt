@@ -17,6 +17,7 @@ use std::marker::Model;
 pub struct Marks {
     /// The greatest key first, so that the least is taken off the end.
     keys: Vec<Key>,
+    /// How many can be marked at once: so many are sure to fit.
     room: u32,
 }
 

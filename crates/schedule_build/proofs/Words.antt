@@ -19,9 +19,9 @@ pub use Rattle.feed_tables.specs.Lawful.{IsLawful}
 pub use Rattle.delay_model.specs.Events.{arrival_of, departure_of, events_at, events_of, live_report}
 pub use Rattle.delay_model.specs.declared.network.Network.{Network}
 pub use Rattle.delay_model.specs.declared.state.State.{State}
-pub use Rattle.train_nodes.proofs.LoadLemmas.{length-loaded, loaded-is}
+pub use Rattle.call_lines.proofs.LoadedLemmas.{length-loaded, loaded-is}
 pub use Rattle.train_nodes.specs.Loaded.{DoNotFallFrom, call_at, loaded_from, loaded_train, with_train}
-pub use Rattle.train_nodes.specs.declared.calls.TableCall.{TableCall}
+pub use Rattle.call_lines.specs.declared.calls.TableCall.{TableCall}
 pub use Rattle.schedule_build.specs.Directory.{Place, dates_from, day_named, name_of_run, number_from, place_of_row}
 pub use Rattle.schedule_build.specs.Runs.{HasService, all_runs, day_runs, is_set, runs_from, runs_on}
 pub use Rattle.schedule_build.specs.Schedule.{IsFit, count_calls, pushed, run_calls, run_train, schedule, schedule_of, too_many}

@@ -10,7 +10,7 @@ use Rattle.mt_base.specs.declared.tables.What.TheVariants.{Trains, Nodes}
 use Rattle.feed_tables.specs.Calls.{rows_of}
 use Rattle.delay_model.specs.declared.state.Train.{Train}
 use Rattle.delay_model.specs.declared.state.State.{State}
-use Rattle.train_nodes.specs.declared.calls.TableCall.{TableCall}
+use Rattle.call_lines.specs.declared.calls.TableCall.{TableCall}
 use Rattle.train_nodes.specs.Loaded.{loaded_train, with_train, DoNotFall}
 use Rattle.schedule_build.specs.declared.runs.Run.{Run}
 use Rattle.schedule_build.specs.TripCalls.{trip_calls}

@@ -4,7 +4,7 @@ use Rattle.std.specs.List.{filter_map}
 use Rattle.std.specs.Option.{option_map}
 use Rattle.mt_base.specs.declared.tables.CallRow.{CallRow}
 use Rattle.feed_tables.specs.Calls.{in_order, sequence, both_times}
-use Rattle.train_nodes.specs.declared.calls.TableCall.{TableCall}
+use Rattle.call_lines.specs.declared.calls.TableCall.{TableCall}
 
 -- the seconds from the base of day 0 to a time of a service day
 abbrev pub scheduled : ℕ → ℕ → ℕ

@@ -2,7 +2,7 @@
 use Rattle.state_laws.proofs.Words.{◌≡◌, ℕ, Bool, true, false, ◌&&◌, ◌||◌, not, nat_eq, List, [], ◌∷◌, ◌++◌, Option, Some, None, refl, sym, ◌∙◌, ◌≢◌, arith, true_from_ne_false, and_parts}
 use Rattle.state_laws.proofs.Words.{or_parts, eqb-true, false_from_ne_true, All-cons, All-nil, All-contains, All-contains_itself, All-filter, filter_passes, Contains-append_left}
 use Rattle.state_laws.proofs.Words.{Contains-append_right, All, Contains, list_any, is_same, node_of, is_same_node, Key, edges, effect, events, live_events, incoming, cap, local, time}
-use Rattle.state_laws.proofs.Words.{event_time, is_live_key, live_only, retimed, changed, named, is_fed_by, touched, IsValid, Message, Network, Edge, Event, State, IsLiveAt, Contains-filter}
+use Rattle.state_laws.proofs.Words.{event_time, is_live_key, live_only, time_changes, changed, named, is_fed_by, touched, IsValid, Message, Network, Edge, Event, State, IsLiveAt, Contains-filter}
 use Rattle.state_laws.proofs.Words.{valid-graph, incoming-leads, incoming-there, time-local, same-is, same-itself, same_node-itself}
 use Rattle.delay_model.proofs.Bounds.{time-kept}
 use Rattle.state_laws.proofs.Values.{any-there}
@@ -62,7 +62,7 @@ module _ (nw : Network) (old new : State) (k : Key) (free : All (λ x. is_same k
       let t = event_time nw old in
       let u = event_time nw new in
       let x = at.0 in
-      let later = λ (x : Event). Contains-append_right (live_only es fs) (live_only fs es ++ retimed t u es fs) x in
+      let later = λ (x : Event). Contains-append_right (live_only es fs) (live_only fs es ++ time_changes t u es fs) x in
       let is = known es fs (λ x c. later x (Contains-append_left (live_only fs es) _ x c)) at in
       let same = true_from_ne_false (nat_eq (t x.key) (u x.key)) (λ differ.
       unchanged x at.2 (later x (Contains-append_right (live_only fs es) _ x

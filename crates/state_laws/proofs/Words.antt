@@ -42,7 +42,7 @@ pub use Rattle.delay_model.specs.Refusals.{stands_before}
 unfoldable pub use Rattle.delay_model.specs.Timing.{cap, event_time, incoming, local, time}
 pub use Rattle.delay_model.specs.Timing.{after_key, capped, first_report, floor_of, later}
 unfoldable pub use Rattle.delay_model.specs.Touched.{changed, touched}
-pub use Rattle.delay_model.specs.Touched.{is_fed_by, is_live_key, is_reported, live_only, named, names_of, new_events, retimed, since_report}
+pub use Rattle.delay_model.specs.Touched.{is_fed_by, is_live_key, is_reported, live_only, named, names_of, new_events, time_changes, since_report}
 pub use Rattle.delay_model.specs.Valid.{AreReportedFrom, HasDistinctLabels, HasReportsInOrder, HasRoom, IsConnection, IsForward, IsRun, IsSmall, IsTrain, IsValid}
 pub use Rattle.delay_model.specs.declared.messages.Message.{Message}
 pub use Rattle.delay_model.specs.declared.messages.Message.TheVariants.{Cancel, Drop, Extra, Forecast, Keep, Report, Reroute, Rule}

@@ -1,6 +1,6 @@
 -- All live events marked, one after the other.
-use Rattle.timetable.proofs.Words.{◌≡◌, ℕ, ◌⊎◌, ◌||◌, true, List, [], ◌∷◌, ◌++◌, refl, ◌∙◌, arith, inl, inr, All, All-contains_itself, All-left, All-head, All-right, Contains, Contains-append_cases, Contains-cases, Bool, get_or, Key, is_same, same-itself, Event, live_keys, Marked, is_marked, AreMarksOf}
-use Rattle.timetable.proofs.Words.{IsPermutation, All-permutation, Contains-permutation, IsPermutation-sym}
+use Rattle.timetable.proofs.Words.{◌≡◌, ℕ, ◌⊎◌, ◌||◌, true, List, [], ◌∷◌, ◌++◌, refl, ◌∙◌, arith, inl, inr, All, All-contains_itself, All-left, All-head, All-right, Contains, Contains-append_cases, Contains-cases, Bool, Key, is_same, same-itself, Event, live_keys, Marked, is_marked, AreMarksOf}
+use Rattle.timetable.proofs.Words.{IsPermutation, All-permutation, Contains-permutation}
 
 -- all live events but these are marked, and these are live
 pub record AreMarkedBut (es : List Event) (left : List Key) (room : ℕ) (marks : Marked) : Type 0 where

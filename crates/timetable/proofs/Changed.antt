@@ -1,10 +1,10 @@
 -- What a message that leaves the calls leaves: the live events and their order. And the list of the events that a message changes.
-use Rattle.timetable.proofs.Words.{◌≡◌, ◌+◌, Bool, true, not, ◌&&◌, ◌||◌, cond, nat_eq, List, [], ◌∷◌, ◌++◌, map, length, length-append, get_or, refl, sym, ◌∙◌, ap, arith, inl, inr, All}
+use Rattle.timetable.proofs.Words.{◌≡◌, ◌+◌, Bool, true, not, ◌&&◌, ◌||◌, cond, nat_eq, List, [], ◌∷◌, ◌++◌, map, length, length-append, get_or, refl, ◌∙◌, ap, arith, inl, inr, All}
 use Rattle.timetable.proofs.Words.{Contains, filter, and_from, length-map, All-contains_itself, Contains-append_left, Contains-append_right, Contains-append_cases, sum_by-IsPermutation}
 use Rattle.timetable.proofs.Words.{Contains-permutation, length-filter, Key, Node, is_before, is_same, node_of, same-itself, Network, ℕ, Option, Some, None}
 use Rattle.timetable.proofs.Words.{EventValues, State, Event, effect, reported, forecasted, change_calls, change_labelled, change_event, with_event, events, live_events}
-use Rattle.timetable.proofs.Words.{event_time, is_live_key, live_only, retimed, changed, names_of, IsTrain, IsLiveAt, Contains-filter, Contains-map, contains-unmap, mapping-events}
-use Rattle.timetable.proofs.Words.{IsSetting, set_at, set-shape, put_report, put_forecast, filter-none, StoredTimes, message_by_choice, message_by_kind, is_changed, changed_nodes, in_order, live_keys}
+use Rattle.timetable.proofs.Words.{event_time, is_live_key, live_only, time_changes, changed, names_of, IsLiveAt, Contains-filter, Contains-map, contains-unmap, mapping-events}
+use Rattle.timetable.proofs.Words.{IsSetting, set_at, set-shape, put_report, put_forecast, filter-none, message_by_choice, message_by_kind, is_changed, changed_nodes, in_order, live_keys}
 use Rattle.timetable.proofs.Words.{next_labels, suc}
 use Rattle.delay_model.specs.declared.overrides.Override.{Override}
 use Rattle.delay_model.specs.declared.overrides.Override.TheVariants.{Keep, Drop}
@@ -89,7 +89,7 @@ changed-length nw old new =
     let parts = either-length (λ (v : Event). is_live_key es v.key) (λ (v : Event). not (nat_eq (event_time nw old v.key) (event_time nw new v.key))) (live_events fs) in
     rw (length-append, length-map gone (λ (v : Event). node_of v.key), length-map (filter p (in_order is_before keys)) node_of, length-filter p (in_order is_before keys), sum_by-IsPermutation (λ k. cond (p k) 1 0) keys (in_order is_before keys) (in_order-moves is_before keys))
     (rw (← length-filter p keys, ← filter-map (λ (v : Event). v.key) p (live_events fs), length-map)
-    (omega (arith, parts, length-append gone (live_only fs es ++ retimed (event_time nw old) (event_time nw new) es fs), length-append (live_only fs es) (retimed (event_time nw old) (event_time nw new) es fs))))
+    (omega (arith, parts, length-append gone (live_only fs es ++ time_changes (event_time nw old) (event_time nw new) es fs), length-append (live_only fs es) (time_changes (event_time nw old) (event_time nw new) es fs))))
 
 -- an event that is live in the new state, and new or at another time, is listed
 listed-key : (nw : Network) (old new : State) (v : Event) → Contains (live_events (events new)) v → is_changed nw old new v.key ≡ true → Contains (changed_nodes nw old new) (node_of v.key)
@@ -107,9 +107,9 @@ changed-each nw old new v h =
     let es = events old in
     let fs = events new in
     let gone = live_only es fs in
-    elim (Contains-append_cases gone (live_only fs es ++ retimed (event_time nw old) (event_time nw new) es fs) v h) [
+    elim (Contains-append_cases gone (live_only fs es ++ time_changes (event_time nw old) (event_time nw new) es fs) v h) [
       | inl g ↦ Contains-append_left (names_of gone) _ (node_of v.key) (Contains-map (λ (v : Event). node_of v.key) gone v g)
-      | inr r ↦ elim (Contains-append_cases (live_only fs es) (retimed (event_time nw old) (event_time nw new) es fs) v r) [
+      | inr r ↦ elim (Contains-append_cases (live_only fs es) (time_changes (event_time nw old) (event_time nw new) es fs) v r) [
         | inl a ↦ let f = filtered (λ (v : Event). not (is_live_key es v.key)) (live_events fs) v a in listed-key nw old new v f.0 (grind arith)
         | inr b ↦
             let f = filtered (λ (v : Event). is_live_key es v.key && not (nat_eq (event_time nw old v.key) (event_time nw new v.key))) (live_events fs) v b in
@@ -125,7 +125,7 @@ changed-only nw old new = λ i d l.
     let fs = events new in
     let gone = live_only es fs in
     let come = live_only fs es in
-    let moved = retimed (event_time nw old) (event_time nw new) es fs in
+    let moved = time_changes (event_time nw old) (event_time nw new) es fs in
     let keys = live_keys fs in
     let p = is_changed nw old new in
     let ns = names_of gone ++ map node_of (filter p (in_order is_before keys)) in

@@ -8,8 +8,8 @@ unfoldable use Rattle.edge_rules.specs.AtEvent.{outgoing}
 use Rattle.edge_rules.specs.AtEvent.{edges_from}
 use Rattle.edge_rules.specs.Deciding.{may_change}
 use Rattle.train_nodes.specs.Times.{no_time}
-use Rattle.propagate.specs.Unsettled.{is_fed_first_by}
-use Rattle.timetable.specs.Marking.{is_fed_from, is_fed_first_from, is_marked_for, leads_to}
+use Rattle.propagate.specs.Unsettled.{is_fed_by_new}
+use Rattle.timetable.specs.Marking.{is_fed_from, is_fed_from_new, is_marked_by, leads_to}
 use Rattle.std.proofs.lemmas.Option.{same_Some}
 use Rattle.propagate.proofs.Named.{event-found, event-live}
 use Rattle.timetable.proofs.Named.{live-event}
@@ -20,7 +20,7 @@ pub fed-none : (gs : List Edge) (k : Key) → is_fed_by gs [] k ≡ false
 fed-none [] k = refl
 fed-none (e ∷ gs) k = grind (arith, fed-none gs k)
 
-pub fed-first-none : (gs : List Edge) (k : Key) → is_fed_first_by gs [] k ≡ false
+pub fed-first-none : (gs : List Edge) (k : Key) → is_fed_by_new gs [] k ≡ false
 fed-first-none gs k = fed-none (filter (may_change no_time no_time) gs) k
 
 fed-more : (gs : List Edge) (v : Event) (vs : List Event) (k : Key) → is_fed_by gs (v ∷ vs) k ≡ (leads_to (outgoing gs v.key) k || is_fed_by gs vs k)
@@ -53,7 +53,7 @@ module _ (g : Timetabled) (trains : All IsTrain g.state.trains) (k : Key) where
       rw (from-there v (h 0 v (omega arith)), fed-more gs v vs k) (ap (λ b. leads_to (outgoing gs v.key) k || b) (fed-names vs (λ i d l. h (suc i) d (omega arith))))
 
   -- those that they feed first
-  fed-first : (vs : List Event) → All (Contains es) vs → list_any (λ v. is_fed_first_from g k (node_of v.key)) vs ≡ is_fed_first_by gs vs k
+  fed-first : (vs : List Event) → All (Contains es) vs → list_any (λ v. is_fed_from_new g k (node_of v.key)) vs ≡ is_fed_by_new gs vs k
   unfolding outgoing
   fed-first [] h = sym (fed-none (filter (may_change no_time no_time) gs) k)
   fed-first (v ∷ vs) h =
@@ -62,10 +62,10 @@ module _ (g : Timetabled) (trains : All IsTrain g.state.trains) (k : Key) where
       (ap (λ b. leads_to (outgoing (filter may gs) v.key) k || b) (fed-first vs (λ i d l. h (suc i) d (omega arith))))
 
   -- a walk over events marks those that pass, and those that they feed first
-  pub made-walk : (first : ℕ) (vs : List Event) → All (Contains es) vs → list_any (is_marked_for g first k) vs ≡ (list_any (λ v. is_same v.key k) (filter (λ v. v.live && nat_le first v.key.label) vs) || is_fed_first_by gs (filter (λ v. v.live && nat_le first v.key.label) vs) k)
+  pub made-walk : (first : ℕ) (vs : List Event) → All (Contains es) vs → list_any (is_marked_by g first k) vs ≡ (list_any (λ v. is_same v.key k) (filter (λ v. v.live && nat_le first v.key.label) vs) || is_fed_by_new gs (filter (λ v. v.live && nat_le first v.key.label) vs) k)
   made-walk first vs h =
       let p : Event → Bool = λ v. v.live && nat_le first v.key.label in
-      any-either p (λ v. is_same v.key k) (λ v. is_fed_first_from g k (node_of v.key)) vs
+      any-either p (λ v. is_same v.key k) (λ v. is_fed_from_new g k (node_of v.key)) vs
       ∙ ap (λ b. list_any (λ v. is_same v.key k) (filter p vs) || b) (fed-first (filter p vs) (λ i d l. All-contains (Contains es) vs _ h (filtered p vs (get_or (filter p vs) i d) (All-contains_itself (filter p vs) i d l)).0))
 
 -- the edges that leave an event lead to live events

@@ -6,9 +6,10 @@ pub mod Listing
 pub mod Departing
 pub mod Changed
 pub mod Shapes
+pub mod CallsKept
 pub mod Prepared
-pub mod Placing
 pub mod Moved
+pub mod TakenOut
 pub mod Moving
 pub mod AllMarked
 pub mod Stepping

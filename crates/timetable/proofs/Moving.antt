@@ -1,39 +1,116 @@
 -- After a message: the departures that are live still, moved to their times, are the live departures.
-use Rattle.timetable.proofs.Words.{◌≡◌, ◌≢◌, ℕ, ◌+◌, ◌*◌, ◌<◌, ◌≤◌, Bool, true, false, not, nat_eq, List, [], ◌∷◌, ◌++◌, Some, unwrap_or, map, filter, length, get_or, refl, sym, ◌∙◌, ap, subst, arith}
-use Rattle.timetable.proofs.Words.{inl, inr, All, AllPairs, Contains, cases_Bool, false_from_ne_true, eq-eqb, All-contains, All-contains_itself, All-filter, All-map, All-permutation, AllPairs-filter, Contains-append_cases}
-use Rattle.timetable.proofs.Words.{Contains-append_left, Contains-append_right, Contains-filter, Contains-map, Contains-permutation, contains-unmap, filter_passes, length_permutation, length-map, length-filter, count_by-le-length}
-use Rattle.timetable.proofs.Words.{Key, node_of, is_before, is_same, same-is, before-itself, any-there, Network, State, Event, events, live_events, event_time, is_live, is_live_key, live_only, names_of, IsTrain, IsLiveAt, StoredTimes, no_time}
-use Rattle.timetable.proofs.Words.{HasItsTime, has_another, live_keys, key_order, retimed_at, retimed_events, Retimed, Departure, AreRetimed, departing, departing_then, departs, is_departure, is_live_departure, is_of_one, leaves_before, live_departures}
-use Rattle.timetable.proofs.Words.{with_times, IsPrepared, IsDeparture, All-append, ◌&&◌, and_parts, or_parts, not-false, eqb-true, same-itself, stored_time, IsOrderOf, IsPermutation-sym, most_live}
+use Rattle.timetable.proofs.Words.{◌≡◌, ◌≢◌, ◌≤◌, Bool, true, false, not, List, [], ◌∷◌, Some, unwrap_or, map, filter, length, get_or, refl, sym, ◌∙◌, ap, arith}
+use Rattle.timetable.proofs.Words.{inl, inr, All, AllPairs, Contains, cases_Bool, false_from_ne_true, All-contains, All-contains_itself, All-map, AllPairs-filter}
+use Rattle.timetable.proofs.Words.{Contains-append_left, Contains-append_right, Contains-filter, Contains-map, contains-unmap, length_permutation, length-map, length-filter, count_by-le-length}
+use Rattle.timetable.proofs.Words.{Key, node_of, is_before, is_same, same-is, before-itself, any-there, Network, State, Event, events, live_events, is_live_key, live_only, names_of, IsTrain, IsLiveAt, StoredTimes}
+use Rattle.timetable.proofs.Words.{HasItsTime, has_another, live_keys, key_order, time_change_at, time_changes_of, TimeChange, Departure, AreTimeChanges, departing, departing_then, departs, is_of_one, leaves_before, live_departures}
+use Rattle.timetable.proofs.Words.{with_times, IsPrepared, IsDeparture, All-append, ◌&&◌, and_parts, or_parts, not-false, eqb-true, same-itself, stored_time, IsOrderOf}
 use Rattle.propagate.proofs.StepListed.{another-is}
-use Rattle.timetable.proofs.{Departing.departs-each, Departing.departures_total, Departing.exact_departures, Departing.departs-in, Departing.departs-rise, Moved.parts, Moved.parts-differ, Moved.with-is}
-use Rattle.propagate.proofs.{Named.any-from, Named.event-live, Ordered.filtered, Ordered.key-live, Ordered.live-ordered, Sorted.keys-ordered, Sorted.AllPairs-map, Sorted.in_order-moves, Sorted.order-of}
-use Rattle.timetable.proofs.{Prepared.stays-live, Changed.live-key}
+use Rattle.timetable.proofs.{Departing.call-there, Departing.departs-each, Departing.one-in-order, Departing.departs-in, Departing.departs-rise, Moved.parts, Moved.parts-differ}
+use Rattle.propagate.proofs.{Named.any-from, Ordered.filtered, Ordered.key-live, Ordered.live-ordered, Sorted.keys-ordered, Sorted.AllPairs-map}
+use Rattle.timetable.proofs.{Changed.filter-map, Changed.filter-same, Changed.live-key}
+use Rattle.timetable.specs.Shapes.{IsCallKept}
+use Rattle.timetable.proofs.Words.{suc, AreLiveDepartures, IsPermutation, Node, Option, None, Call, None, cond, call_named, has_call, count_new, departing_at, events-unique, is_new_to, is_of_none, is_same_node, may_board, option_map, option_map_or, same_node-is, same_node-itself, stop_of, sum_by-IsPermutation}
 
--- there are no more live departures than live events
-pub live-fit : (nw : Network) (st : State) → length (live_departures nw st) ≤ length (live_keys (events st))
-unfolding live_departures
-live-fit nw st =
-    let keys = live_keys (events st) in
-    let some = filter is_departure keys in
-    omega (arith, length_permutation (map (departing nw st) some) _ (in_order-moves leaves_before (map (departing nw st) some)), length-map some (departing nw st), length-filter is_departure keys, count_by-le-length is_departure keys)
-
--- nor do more events leave than were live
+-- no more events leave than were live
 pub gone-fit : (es fs : List Event) → length (names_of (live_only es fs)) ≤ length (live_keys es)
 gone-fit es fs =
     let gone : Event → Bool = λ v. not (is_live_key fs v.key) in
     omega (arith, length-map (live_only es fs) (λ (v : Event). node_of v.key), length-filter gone (live_events es), count_by-le-length gone (live_events es), length-map (live_events es) (λ (v : Event). v.key))
 
+-- how many elements pass a test
+count-map : {X Y : Type 0} (p : Y → Bool) (f : X → Y) (xs : List X) → length (filter p (map f xs)) ≡ length (filter (λ x. p (f x)) xs)
+count-map p f xs = ap length (sym (filter-map f p xs)) ∙ length-map (filter (λ x. p (f x)) xs) f
+
+count-filter : {X : Type 0} (p q : X → Bool) (xs : List X) → length (filter p (filter q xs)) ≤ length (filter p xs)
+count-filter p q [] = omega arith
+count-filter p q (x ∷ xs) =
+    let rest = count-filter p q xs in
+    elim (cases_Bool (q x)) [
+      | inl passes ↦ rw passes (elim (cases_Bool (p x)) [ inl t ↦ rw t (omega arith) | inr f ↦ rw f rest ])
+      | inr fails ↦ rw fails (elim (cases_Bool (p x)) [ inl t ↦ rw t (omega arith) | inr f ↦ rw f rest ])
+    ]
+
+count-weaker : {X : Type 0} (p q : X → Bool) (xs : List X) → All (λ x. p x ≡ true → q x ≡ true) xs → length (filter p xs) ≤ length (filter q xs)
+count-weaker p q [] h = omega arith
+count-weaker p q (x ∷ xs) h =
+    let rest = count-weaker p q xs (λ i d l. h (suc i) d (omega arith)) in
+    elim (cases_Bool (p x)) [
+      | inl passes ↦ rw (passes, h 0 x (omega arith) passes) (omega arith)
+      | inr fails ↦ rw fails (elim (cases_Bool (q x)) [ inl t ↦ rw t (omega arith) | inr f ↦ rw f rest ])
+    ]
+
+count-permutation : {X : Type 0} (p : X → Bool) (xs ys : List X) → IsPermutation xs ys → length (filter p ys) ≡ length (filter p xs)
+count-permutation p xs ys moved = length-filter p ys ∙ sum_by-IsPermutation (λ x. cond (p x) 1 0) xs ys moved ∙ sym (length-filter p xs)
+
+mapped-or : {X Y : Type 0} (f : X → Y) (d : Y) (a b : Option X) → option_map f a ≡ option_map f b → option_map_or f a d ≡ option_map_or f b d
+mapped-or f d None None h = refl
+mapped-or f d None (Some b) h = absurd (cc)
+mapped-or f d (Some a) None h = absurd (cc)
+mapped-or f d (Some a) (Some b) h = cc
+
+-- what is kept of a call
+stop-kept : (old new : State) (k : Key) → IsCallKept old new k.train k.label → stop_of new k ≡ stop_of old k
+stop-kept old new k kept = mapped-or (λ (c : Call). c.stop) 0 (call_named new k.train k.label) (call_named old k.train k.label) kept.stop
+
+board-kept : (old new : State) (k : Key) → IsCallKept old new k.train k.label → may_board new k ≡ may_board old k
+board-kept old new k kept = mapped-or (λ (c : Call). c.board) false (call_named new k.train k.label) (call_named old k.train k.label) kept.board
+
+-- the departures but those among some events that are live no longer, are those that are live still
+module _ (nw : Network) (old new : State) (trains : All IsTrain old.trains) where
+  abbrev pub lives_still : Departure → Bool
+  lives_still d = is_live_key (events new) d.key
+
+  abbrev gone : List Node
+  gone = names_of (live_only (events old) (events new))
+
+  left-live : (d : Departure) → Contains (live_departures nw old) d → is_of_none gone d ≡ lives_still d
+  left-live d there =
+      let h = All-contains (IsDeparture nw old) (live_departures nw old) d (departs-each nw old) there in
+      elim (cases_Bool (lives_still d)) [
+        | inl still ↦ rw still (ap not (false_from_ne_true _ (λ among.
+            let n = any-there (is_same_node (node_of d.key)) gone among in
+            let w = contains-unmap (λ (v : Event). node_of v.key) (live_only (events old) (events new)) n.0 n.1 in
+            let f = filtered (λ (v : Event). not (is_live_key (events new) v.key)) (live_events (events old)) w.0 w.1 in
+            let own = filtered (λ (v : Event). v.live) (events old) w.0 f.0 in
+            let one = events-unique old trains w.0 h.event own.0 h.there (w.2 ∙ sym (same_node-is (node_of d.key) n.0 n.2) ∙ ap node_of (sym h.key)) in
+            let dead = rw (one, h.key) at f.1 in
+            cc)))
+        | inr dead ↦ rw dead (ap not
+            (any-from (is_same_node (node_of d.key)) gone (node_of h.event.key)
+            (Contains-map (λ (v : Event). node_of v.key) (live_only (events old) (events new)) h.event
+            (Contains-filter (λ (v : Event). not (is_live_key (events new) v.key)) (live_events (events old)) h.event (Contains-filter (λ (v : Event). v.live) (events old) h.event h.there h.live) (rw (h.key, dead) refl)))
+            (rw h.key (same_node-itself (node_of d.key)))))
+      ]
+
+  pub left-are : filter (is_of_none gone) (live_departures nw old) ≡ filter lives_still (live_departures nw old)
+  left-are = filter-same (is_of_none gone) lives_still (live_departures nw old) (λ i d l. let y = get_or (live_departures nw old) i d in left-live y (All-contains_itself (live_departures nw old) i d l))
+
+-- live departures are of live events
+pub departures-live : (nw : Network) (st : State) → AreLiveDepartures st (live_departures nw st)
+departures-live nw st = λ i d l.
+    let x = get_or (live_departures nw st) i d in
+    let h = departs-each nw st i d l in
+    (rw h.key at (Contains-map (λ (v : Event). v.key) (live_events (events st)) h.event (Contains-filter (λ (v : Event). v.live) (events st) h.event h.there h.live)), h.departs)
+
+-- the calls are there of events that leave
+pub gone-there : (st : State) (fs : List Event) → All IsTrain st.trains → All (λ (n : Node). has_call st n.train n.label ≡ true) (names_of (live_only (events st) fs))
+gone-there st fs trains =
+    All-map (λ (n : Node). has_call st n.train n.label ≡ true) (λ (v : Event). node_of v.key) (live_only (events st) fs) (λ i d l.
+    let v = get_or (live_only (events st) fs) i d in
+    let f = filtered (λ (v : Event). not (is_live_key fs v.key)) (live_events (events st)) v (All-contains_itself (live_only (events st) fs) i d l) in
+    call-there st v (filtered (λ (v : Event). v.live) (events st) v f.0).0 trains)
+
 module _ {nw : Network} {old new : State} {times : StoredTimes} (trains : All IsTrain old.trains) (p : IsPrepared nw old new times) where
   abbrev keys : List Key
   keys = key_order (events new)
 
-  abbrev rs : List Retimed
-  rs = retimed_events nw new times
+  abbrev rs : List TimeChange
+  rs = time_changes_of nw new times
 
   -- the departures before the message that are live still
   abbrev ds : List Departure
-  ds = filter (is_live_departure new) (live_departures nw old)
+  ds = filter (lives_still nw old new trains) (live_departures nw old)
 
   order : IsOrderOf (events new) keys
   order = keys-ordered new p.valid.trains
@@ -41,54 +118,66 @@ module _ {nw : Network} {old new : State} {times : StoredTimes} (trains : All Is
   abbrev another : Key → Bool
   another k = has_another nw new times k
 
-  -- a departure that is live still is at the time that is stored for it
+  -- a departure that is live still is at the time that is stored for it, and as it was at its call
   record IsStill (d : Departure) : Type 0 where
     at : IsLiveAt (events new) d.key
     departs : d.key.dep ≡ true
     stored : stored_time times d.key ≡ d.time
+    same : d ≡ departing_at new d.time d.key
 
   still : (d : Departure) → Contains ds d → IsStill d
   still d there =
-      let own = filtered (is_live_departure new) (live_departures nw old) d there in
+      let own = filtered (lives_still nw old new trains) (live_departures nw old) d there in
       let h = All-contains (IsDeparture nw old) (live_departures nw old) d (departs-each nw old) own.0 in
       let key = rw h.key at (Contains-map (λ (v : Event). v.key) (live_events (events old)) h.event (Contains-filter (λ (v : Event). v.live) (events old) h.event h.there h.live)) in
       let stored = All-contains (HasItsTime nw old times) (live_keys (events old)) d.key p.stored.known key in
+      let u = any-there (λ u. u.live && is_same u.key d.key) (events new) own.1 in
+      let both = and_parts u.0.live (is_same u.0.key d.key) u.2 in
+      let is = same-is u.0.key d.key both.1 in
+      let kept = p.calls d.key.train d.key.label (rw h.key at (call-there old h.event h.there trains)) (rw is at (call-there new u.0 u.1 p.valid.trains)) in
       record {
-        at = rw h.key at (stays-live p h.event h.there (rw h.key own.1));
+        at = (u.0, u.1, is, both.0);
         departs = h.departs;
         stored = ap (λ o. unwrap_or o 0) stored ∙ sym h.time;
+        same =
+            let stop = h.stop ∙ sym (stop-kept old new d.key kept) in
+            let board = h.board ∙ sym (board-kept old new d.key kept) in
+            grind arith;
       }
 
-  in-rs : (k : Key) → Contains keys k → another k ≡ true → Contains rs (retimed_at nw new times k)
-  in-rs k there differs = Contains-map (retimed_at nw new times) (filter another keys) k (Contains-filter another keys k there differs)
+  in-rs : (k : Key) → Contains keys k → another k ≡ true → Contains rs (time_change_at nw new times k)
+  in-rs k there differs = Contains-map (time_change_at nw new times) (filter another keys) k (Contains-filter another keys k there differs)
 
-  of-rs : (r : Retimed) → Contains rs r → (k : Key) × Contains keys k × (another k ≡ true) × (retimed_at nw new times k ≡ r)
+  of-rs : (r : TimeChange) → Contains rs r → (k : Key) × Contains keys k × (another k ≡ true) × (time_change_at nw new times k ≡ r)
   of-rs r there =
-      let w = contains-unmap (retimed_at nw new times) (filter another keys) r there in
+      let w = contains-unmap (time_change_at nw new times) (filter another keys) r there in
       let k = filtered another keys w.0 w.1 in
       (w.0, k.0, k.1, w.2)
 
   keys-apart : AllPairs (λ a b. a ≢ b) keys
   keys-apart = λ i j d l m e. let less = order.ascends i j d l m in let none = before-itself (get_or keys j d) in let same = ap (λ k. is_before k (get_or keys j d)) e in absurd (cc)
 
-  pub retimed-are : AreRetimed rs ds
-  retimed-are = record {
-    ascends = AllPairs-filter (λ a b. leaves_before a b ≡ true) (is_live_departure new) (live_departures nw old) (departs-rise nw old trains);
-    once = AllPairs-map (λ (a b : Retimed). a.key ≢ b.key) (retimed_at nw new times) (filter another keys) (AllPairs-filter (λ a b. a ≢ b) another keys keys-apart);
-    other = λ i d l e. let w = of-rs (get_or rs i d) (All-contains_itself rs i d l) in let same = eq-eqb _ _ (ap (λ (r : Retimed). r.was) w.3 ∙ e ∙ ap (λ (r : Retimed). r.is) (sym w.3)) in let differs = w.2 in absurd (cc);
-    times = λ i d l. λ j e m same.
+  pub time-changes-are : AreTimeChanges new rs ds
+  time-changes-are = record {
+    at_calls = λ i d l. (still (get_or ds i d) (All-contains_itself ds i d l)).same;
+    once = AllPairs-map (λ (a b : TimeChange). a.key ≢ b.key) (time_change_at nw new times) (filter another keys) (AllPairs-filter (λ a b. a ≢ b) another keys keys-apart);
+    there = λ i d l.
         let w = of-rs (get_or rs i d) (All-contains_itself rs i d l) in
-        sym (still (get_or ds j e) (All-contains_itself ds j e m)).stored ∙ ap (stored_time times) (sym same ∙ ap (λ (r : Retimed). r.key) (sym w.3)) ∙ ap (λ (r : Retimed). r.was) w.3;
+        let at = key-live (events new) keys order w.0 w.1 in
+        rw (← w.3, ← at.2) (call-there new at.0 at.1 p.valid.trains);
   }
 
-  abbrev moved : List Retimed
+  pub still-rise : AllPairs (λ a b. leaves_before a b ≡ true) ds
+  still-rise = AllPairs-filter (λ a b. leaves_before a b ≡ true) (lives_still nw old new trains) (live_departures nw old) (departs-rise nw old trains)
+
+  abbrev moved : List TimeChange
   moved = filter departs rs
 
   -- each of them is a live departure of the new state
-  parts-live : All (Contains (live_departures nw new)) (parts rs ds)
+  parts-live : All (Contains (live_departures nw new)) (parts new rs ds)
   parts-live =
-      All-append (Contains (live_departures nw new)) (map departing_then moved) (filter (λ d. not (is_of_one moved d)) ds)
-      (All-map (Contains (live_departures nw new)) departing_then moved (λ i d l.
+      All-append (Contains (live_departures nw new)) (map (departing_then new) moved) (filter (λ d. not (is_of_one moved d)) ds)
+      (All-map (Contains (live_departures nw new)) (departing_then new) moved (λ i d l.
       let r = get_or moved i d in
       let own = filtered departs rs r (All-contains_itself moved i d l) in
       let w = of-rs r own.0 in
@@ -100,70 +189,87 @@ module _ {nw : Network} {old new : State} {times : StoredTimes} (trains : All Is
       let s = still y own.0 in
       elim (cases_Bool (another y.key)) [
         | inl differs ↦
-            let r = retimed_at nw new times y.key in
+            let r = time_change_at nw new times y.key in
             let there = Contains-filter departs rs r (in-rs y.key (live-ordered (events new) keys order y.key s.at) differs) s.departs in
             let one = any-from (λ q. is_same q.key y.key) moved r there (same-itself y.key) in
             let both : true ≡ false = sym own.1 ∙ ap not one in
             absurd (cc)
         | inr same ↦
             let time = sym s.stored ∙ eqb-true _ _ (not-false _ same) in
-            let is : departing nw new s.at.0.key ≡ y = rw s.at.2 (grind arith) in
+            let is : departing nw new s.at.0.key ≡ y = rw s.at.2 (ap (λ t. departing_at new t y.key) (sym time) ∙ sym s.same) in
             rw (← is) (departs-in nw new s.at.0 s.at.1 s.at.3 (rw s.at.2 s.departs))
       ])
 
   -- and each of those is one of them
-  live-parts : All (Contains (parts rs ds)) (live_departures nw new)
+  live-parts : All (Contains (parts new rs ds)) (live_departures nw new)
   live-parts = λ i e l.
       let d = get_or (live_departures nw new) i e in
       let h = departs-each nw new i e l in
       let at : IsLiveAt (events new) d.key = (h.event, h.there, h.key, h.live) in
       elim (cases_Bool (another d.key)) [
         | inl differs ↦
-            let r = retimed_at nw new times d.key in
+            let r = time_change_at nw new times d.key in
             let there = Contains-filter departs rs r (in-rs d.key (live-ordered (events new) keys order d.key at) differs) h.departs in
-            let is : departing_then r ≡ d = let time = h.time in grind arith in
-            Contains-append_left (map departing_then moved) _ d (rw is at (Contains-map departing_then moved r there))
+            let is : departing_then new r ≡ d = let time = h.time in let stop = h.stop in let board = h.board in grind arith in
+            Contains-append_left (map (departing_then new) moved) _ d (rw is at (Contains-map (departing_then new) moved r there))
         | inr same ↦
             let unchanged = sym (another-is nw old new p.valid times p.stored d.key at) ∙ same in
             let both = or_parts _ _ unchanged in
             let was = any-there (λ u. u.live && is_same u.key d.key) (events old) (not-false _ both.0) in
             let own = and_parts was.0.live (is_same was.0.key d.key) was.2 in
             let key = same-is was.0.key d.key own.1 in
-            let is : departing nw old was.0.key ≡ d = let time = h.time in let times_same = eqb-true _ _ (not-false _ both.1) in rw key (grind arith) in
+            let kept = p.calls d.key.train d.key.label (rw key at (call-there old was.0 was.1 trains)) (rw h.key at (call-there new h.event h.there p.valid.trains)) in
+            let is : departing nw old was.0.key ≡ d =
+            let time = h.time in
+            let times_same = eqb-true _ _ (not-false _ both.1) in
+            let stop = h.stop ∙ stop-kept old new d.key kept in
+            let board = h.board ∙ board-kept old new d.key kept in
+            rw key (grind arith) in
             let there = rw is at (departs-in nw old was.0 was.1 own.0 (rw key h.departs)) in
-            let live = rw h.key at (event-live new h.event h.there h.live) in
+            let live = live-key (events new) d.key at in
             let none : is_of_one moved d ≡ false = false_from_ne_true _ (λ one.
             let q = any-there (λ s. is_same s.key d.key) moved one in
             let w = of-rs q.0 (filtered departs rs q.0 q.1).0 in
-            let differs = rw (ap (λ (r : Retimed). r.key) w.3 ∙ same-is q.0.key d.key q.2) at w.2 in
+            let differs = rw (ap (λ (r : TimeChange). r.key) w.3 ∙ same-is q.0.key d.key q.2) at w.2 in
             absurd (cc)) in
-            Contains-append_right (map departing_then moved) _ d (Contains-filter (λ d. not (is_of_one moved d)) ds d (Contains-filter (is_live_departure new) (live_departures nw old) d there live) (rw none refl))
+            Contains-append_right (map (departing_then new) moved) _ d (Contains-filter (λ d. not (is_of_one moved d)) ds d (Contains-filter (lives_still nw old new trains) (live_departures nw old) d there live) (rw none refl))
       ]
 
-  pub moved-live : with_times rs ds ≡ live_departures nw new
+  pub moved-live : with_times new rs ds ≡ live_departures nw new
   unfolding with_times
-  moved-live = order-of departures_total exact_departures (parts rs ds) (live_departures nw new) (parts-differ rs ds retimed-are) (departs-rise nw new p.valid.trains) parts-live live-parts
-
-  -- there is room for them
-  pub moved-fit : length (with_times rs ds) ≤ most_live new
-  moved-fit = rw moved-live (omega (arith, live-fit nw new))
+  moved-live = one-in-order (parts new rs ds) (live_departures nw new) (parts-differ new rs ds still-rise time-changes-are) (departs-rise nw new p.valid.trains) parts-live live-parts
 
   -- no more events get other times than are live
-  pub retimed-fit : length rs ≤ length (live_keys (events new))
-  retimed-fit = omega (arith, length-map (filter another keys) (retimed_at nw new times), length-filter another keys, count_by-le-length another keys, length_permutation (live_keys (events new)) keys order.moved)
+  pub time-changes-fit : length rs ≤ length (live_keys (events new))
+  time-changes-fit = omega (arith, length-map (filter another keys) (time_change_at nw new times), length-filter another keys, count_by-le-length another keys, length_permutation (live_keys (events new)) keys order.moved)
 
-  -- where no event is live no longer, each departure stays
-  pub none-gone : names_of (live_only (events old) (events new)) ≡ [] → All (λ d. is_live_departure new d ≡ true) (live_departures nw old)
-  none-gone none = λ i e l.
-      let d = get_or (live_departures nw old) i e in
-      let h = departs-each nw old i e l in
-      elim (cases_Bool (is_live_key (events new) h.event.key)) [
-        | inl is ↦
-            let r = any-there (λ u. u.live && is_same u.key h.event.key) (events new) is in
-            let both = and_parts r.0.live (is_same r.0.key h.event.key) r.2 in
-            rw (same-is r.0.key h.event.key both.1 ∙ h.key) at (event-live new r.0 r.1 both.0)
-        | inr gone ↦
-            let there = Contains-filter (λ (v : Event). not (is_live_key (events new) v.key)) (live_events (events old)) h.event (Contains-filter (λ (v : Event). v.live) (events old) h.event h.there h.live) (rw gone refl) in
-            let l = (rw none at (Contains-map (λ (v : Event). node_of v.key) (live_only (events old) (events new)) h.event there)).1 in
-            absurd (omega arith)
+  -- a departure that is new is that of an event that is live only now
+  is-new : (k : Key) → Contains keys k → is_new_to ds (time_change_at nw new times k) ≡ true → not (is_live_key (events old) k) ≡ true
+  is-new k in_keys h =
+      let both = and_parts k.dep _ h in
+      elim (cases_Bool (is_live_key (events old) k)) [
+        | inl was ↦ absurd (
+            let u = any-there (λ u. u.live && is_same u.key k) (events old) was in
+            let own = and_parts u.0.live (is_same u.0.key k) u.2 in
+            let key = same-is u.0.key k own.1 in
+            let d = departing nw old k in
+            let there = rw key at (departs-in nw old u.0 u.1 own.0 (rw key both.0)) in
+            let at = key-live (events new) keys order k in_keys in
+            let in_ds = Contains-filter (lives_still nw old new trains) (live_departures nw old) d there (live-key (events new) k at) in
+            let any = any-from (λ (e : Departure). is_same e.key k) ds d in_ds (same-itself k) in
+            let none = both.1 in
+            cc)
+        | inr dead ↦ rw dead refl
       ]
+
+  -- so there are no more of them than of these events
+  pub new-fit : count_new ds rs ≤ length (live_only (events new) (events old))
+  new-fit =
+      let dead : Key → Bool = λ k. not (is_live_key (events old) k) in
+      let fresh : Key → Bool = λ k. is_new_to ds (time_change_at nw new times k) in
+      let mapped = count-map (is_new_to ds) (time_change_at nw new times) (filter another keys) in
+      let filtered_keys = count-filter fresh another keys in
+      let weaker = count-weaker fresh dead keys (λ i d l. is-new (get_or keys i d) (All-contains_itself keys i d l)) in
+      let turned = count-permutation dead (live_keys (events new)) keys order.moved in
+      let events_of = count-map dead (λ (v : Event). v.key) (live_events (events new)) in
+      omega (arith, mapped, filtered_keys, weaker, turned, events_of)

@@ -1,5 +1,5 @@
 -- Live events by their names, and their times.
-use Rattle.timetable.proofs.Words.{◌≡◌, Bool, true, false, ◌&&◌, List, Some, None, refl, sym, ap, option_map, All, Contains, and_parts, All-contains, Key, Node, node_of, same_node-is}
+use Rattle.timetable.proofs.Words.{◌≡◌, true, false, ◌&&◌, Some, None, refl, sym, ap, option_map, All, Contains, and_parts, All-contains, Node, node_of, same_node-is}
 use Rattle.timetable.proofs.Words.{Network, State, Event, events, train_events, is_event, is_live, event_time, train_events-there, live_event, live_time, StoredTimes, time_of, HasItsTime, live_keys, ℕ, ◌∙◌}
 use Rattle.propagate.proofs.{Named.find-any, Named.find-none, Ordered.live-keyed}
 

@@ -1,7 +1,8 @@
 -- Accepted messages applied: what is stored then.
 use Rattle.timetable.proofs.Words.{◌≡◌, ℕ, zero, suc, ◌+◌, List, [], ◌∷◌, slice_get, option_map_or, Train, events_of, events_from, train_events, ◌*◌, ◌≤◌, true, not, ◌++◌, map, length, get_or, is_some, sym, ◌∙◌, ap, arith, inl, inr, Contains, length-map, All, All-contains_itself, node_of, Network, Contains-map, Contains-filter}
 use Rattle.timetable.proofs.Words.{contains-unmap, State, Event, events, is_live, live_events, is_live_key, live_only, names_of, IsValid, events-unique, IsLiveAt, StoredTimes}
-use Rattle.timetable.proofs.Words.{changed_nodes, live_keys, IsSettled, HasItsTime, IsPrepared, Retimed, retimed_events}
+use Rattle.timetable.proofs.Words.{changed_nodes, live_keys, IsSettled, HasItsTime, IsPrepared, TimeChange, time_changes_of}
+use Rattle.timetable.specs.Shapes.{AreCallsKept}
 use Rattle.propagate.proofs.{Ordered.filtered, StepListed.listed-changed}
 use Rattle.timetable.proofs.{Changed.live-key, Changed.IsAlike, Changed.none-only, Named.live-event, Shapes.IsReshaped, Shapes.live-count}
 
@@ -23,8 +24,8 @@ module _ (nw : Network) (st new : State) (n : ℕ) (times after : StoredTimes) (
   fs = events new
 
   -- what is stored after the message
-  pub prepared-shape : All (HasItsTime nw st times) (live_keys (events st)) → IsPrepared nw st new after
-  prepared-shape was = record {
+  pub prepared-shape : All (HasItsTime nw st times) (live_keys (events st)) → AreCallsKept st new → length (live_only fs es) + 2 * new.spare_calls ≤ 2 * st.spare_calls → IsPrepared nw st new after
+  prepared-shape was kept few = record {
     valid = now;
     has_times = shape.has_times;
     stored = record {
@@ -39,12 +40,14 @@ module _ (nw : Network) (st new : State) (n : ℕ) (times after : StoredTimes) (
       | inl old ↦ sym old.2 ∙ ap (λ (u : Event). u.key) (events-unique st valid.trains old.0 v old.1 hv (ap node_of old.2 ∙ same))
       | inr made ↦ absurd (made.unknown v hv (sym same))
     ];
+    calls = kept;
+    made = few;
     fewer = omega (arith, shape.fewer, length-map (live_events fs) (λ (v : Event). v.key), length-map (live_events es) (λ (v : Event). v.key));
   }
 
 -- a message that leaves the calls, and which events take place
-pub prepared-same : (nw : Network) (st new : State) (times : StoredTimes) → IsAlike st new → IsValid nw new → IsSettled nw st times → IsPrepared nw st new times
-prepared-same nw st new times same now was = record {
+pub prepared-same : (nw : Network) (st new : State) (times : StoredTimes) → IsAlike st new → IsValid nw new → AreCallsKept st new → IsSettled nw st times → IsPrepared nw st new times
+prepared-same nw st new times same now kept was = record {
   valid = now;
   has_times = record { sized = rw same.labels was.has_times.sized; spare_trains = was.has_times.spare_trains ∙ sym same.spare_trains; spare_calls = was.has_times.spare_calls ∙ sym same.spare_calls };
   stored = record { known = was.times; made = rw (none-only (events new) (events st) same.keys) (λ i d l. absurd (omega arith)) };
@@ -53,6 +56,8 @@ prepared-same nw st new times same now was = record {
       let r = contains-unmap (λ (v : Event). v.key) (live_events (events st)) w.key (rw same.keys at key) in
       let u = filtered (λ (v : Event). v.live) (events st) r.0 r.1 in
       sym r.2 ∙ ap (λ (u : Event). u.key) (events-unique st was.valid.trains r.0 v u.0 hv (ap node_of r.2 ∙ e));
+  calls = kept;
+  made = rw (none-only (events new) (events st) same.keys, same.spare_calls) (omega arith);
   fewer = rw (same.keys, same.spare_calls) (omega arith);
 }
 
@@ -64,6 +69,6 @@ module _ {nw : Network} {old new : State} {times : StoredTimes} (p : IsPrepared 
       (r.event, r.there, p.names v r.event hv r.there r.live r.name, r.live)
 
   -- the names of those that are live no longer, and of those that get other times, are all that the message changes
-  pub names-are : names_of (live_only (events old) (events new)) ++ map (λ (r : Retimed). node_of r.key) (retimed_events nw new times) ≡ changed_nodes nw old new
+  pub names-are : names_of (live_only (events old) (events new)) ++ map (λ (r : TimeChange). node_of r.key) (time_changes_of nw new times) ≡ changed_nodes nw old new
   unfolding changed_nodes
   names-are = ap (λ ns. names_of (live_only (events old) (events new)) ++ ns) (listed-changed nw old new p.valid times p.stored)

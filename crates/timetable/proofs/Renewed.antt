@@ -25,8 +25,8 @@ use Rattle.std.proofs.lemmas.Bool.{le-leb, lt-leb}
 use Rattle.std.proofs.lemmas.Option.{same_Some}
 use Rattle.edge_rules.proofs.EventChanges.{IsNextLabel, made, reroute-next, reroute-there}
 use Rattle.rank_order.specs.Marked.{Marked, is_marked}
-use Rattle.propagate.specs.Unsettled.{is_unsettled, is_fed_first_by}
-use Rattle.timetable.specs.Marking.{AreMarksOf, AreUnsettled, IsMarkedBefore, IsStep, IsStepped, is_fed_from, is_marked_for, named_before, taken}
+use Rattle.propagate.specs.Unsettled.{is_unsettled, is_fed_by_new}
+use Rattle.timetable.specs.Marking.{AreMarksOf, AreUnsettled, IsMarkedBefore, IsStateAfter, IsMarkedAndApplied, is_fed_from, is_marked_by, named_before, leaving_of}
 use Rattle.propagate.proofs.Named.{event-live}
 use Rattle.propagate.proofs.Ordered.{filtered, keyed-live, live-keyed}
 use Rattle.timetable.proofs.Changed.{IsAlike, chosen-alike, live-key, none-only, valued-alike}
@@ -69,26 +69,26 @@ module _ (nw : Network) (st : State) (s : Shape) (valid : IsValid nw st) (well :
   abbrev new : State
   new = effect st m
 
-  turn : IsTurn st new (taken st s) (put_in st s)
+  turn : IsTurn st new (leaving_of st s) (put_in st s)
   turn = shape-turn nw st s valid well accepted
 
   abbrev F : Key → Bool
   F k = is_fed_by (edges nw st) (live_only (events st) (events new)) k
 
-  pub taken-there : All (Contains (events st)) (taken st s)
+  pub taken-there : All (Contains (events st)) (leaving_of st s)
   taken-there = λ i d l.
-      let v = get_or (taken st s) i d in
-      rw turn.before (Contains-append_right turn.front (taken st s ++ turn.back) v (Contains-append_left (taken st s) turn.back v (All-contains_itself (taken st s) i d l)))
+      let v = get_or (leaving_of st s) i d in
+      rw turn.before (Contains-append_right turn.front (leaving_of st s ++ turn.back) v (Contains-append_left (leaving_of st s) turn.back v (All-contains_itself (leaving_of st s) i d l)))
 
   -- the events are listed that are taken away, and those that they feed are marked
-  pub leaving-are : names_of (live_events (taken st s)) ≡ names_of (live_only (events st) (events new))
+  pub leaving-are : names_of (live_events (leaving_of st s)) ≡ names_of (live_only (events st) (events new))
   leaving-are = ap names_of (sym (taken-are valid.trains turn))
 
-  pub before-shape : (marks : Marked) → AreMarksOf (events st) marks → ((k : Key) → Contains (live_keys (events st)) k → is_marked marks k ≡ list_any (is_fed_from (record { network = nw; state = st }) k) (names_of (live_events (taken st s)))) → IsMarkedBefore nw st m marks
+  pub before-shape : (marks : Marked) → AreMarksOf (events st) marks → ((k : Key) → Contains (live_keys (events st)) k → is_marked marks k ≡ list_any (is_fed_from (record { network = nw; state = st }) k) (names_of (live_events (leaving_of st s)))) → IsMarkedBefore nw st m marks
   before-shape marks fit marked =
       record {
         fit = fit;
-        marked = λ k live. rw (named-none st s, taken-are valid.trains turn) (marked k live ∙ fed-names (record { network = nw; state = st }) valid.trains k (live_events (taken st s)) (All-filter (λ (v : Event). v.live) (Contains (events st)) (taken st s) taken-there));
+        marked = λ k live. rw (named-none st s, taken-are valid.trains turn) (marked k live ∙ fed-names (record { network = nw; state = st }) valid.trains k (live_events (leaving_of st s)) (All-filter (λ (v : Event). v.live) (Contains (events st)) (leaving_of st s) taken-there));
       }
 
   pub after : IsValid nw new
@@ -169,7 +169,7 @@ cancel-end nw st n from to valid accepted kept k fed =
     rw (made-are valid.trains (cancel-turn nw st n from to valid accepted), none-killed (stretch st n from to), fed-first-none (edges nw new) k) (fed ∙ sym (or-false _))
 
 -- where the live events are marked that a message made, and those that they feed first
-made-marks : (nw : Network) (st new : State) (out put : List Event) → IsTurn st new out put → All IsTrain st.trains → All IsTrain new.trains → (first n : ℕ) → filter (λ v. v.live && nat_le first v.key.label) (train_events new n) ≡ live_events put → (k : Key) → Contains (live_keys (events new)) k → list_any (is_marked_for (record { network = nw; state = new }) first k) (train_events new n) ≡ (list_any (is_same_node (node_of k)) (names_of put) || is_fed_first_by (edges nw new) (live_only (events new) (events st)) k)
+made-marks : (nw : Network) (st new : State) (out put : List Event) → IsTurn st new out put → All IsTrain st.trains → All IsTrain new.trains → (first n : ℕ) → filter (λ v. v.live && nat_le first v.key.label) (train_events new n) ≡ live_events put → (k : Key) → Contains (live_keys (events new)) k → list_any (is_marked_by (record { network = nw; state = new }) first k) (train_events new n) ≡ (list_any (is_same_node (node_of k)) (names_of put) || is_fed_by_new (edges nw new) (live_only (events new) (events st)) k)
 made-marks nw st new out put turn was now first n are k live =
     let g : Timetabled = record { network = nw; state = new } in
     let there : All (Contains (events new)) put = λ i d l. rw turn.after (Contains-append_right turn.front (put ++ turn.back) (get_or put i d) (Contains-append_left put turn.back (get_or put i d) (All-contains_itself put i d l))) in
@@ -202,14 +202,14 @@ module _ (nw : Network) (st : State) (n from to : ℕ) (cs : List NewCall) (vali
       rw (line, filter-append, filter-append, part-none first s.head (All-left Low s.head (s.mid ++ s.next ∷ s.tail) low), part-all first s.made (rw (← same) s.above), part-none first (s.next ∷ s.tail) back, append-nil)
       (ap live_events (sym s.is_made))
 
-  pub reroute-end : (first : ℕ) → IsNextLabel st n first → (kept final : Marked) (k : Key) → Contains (live_keys (events routed)) k → is_marked kept k ≡ is_fed_by (edges nw st) (live_only (events st) (events routed)) k → is_marked final k ≡ ((is_marked kept k || list_any (is_marked_for (record { network = nw; state = routed }) first k) (train_events routed n)) || is_same_node (node_of k) (node_at n to false)) → is_marked final k ≡ is_unsettled nw st (Reroute n from to cs) k
+  pub reroute-end : (first : ℕ) → IsNextLabel st n first → (kept final : Marked) (k : Key) → Contains (live_keys (events routed)) k → is_marked kept k ≡ is_fed_by (edges nw st) (live_only (events st) (events routed)) k → is_marked final k ≡ ((is_marked kept k || list_any (is_marked_by (record { network = nw; state = routed }) first k) (train_events routed n)) || is_same_node (node_of k) (node_at n to false)) → is_marked final k ≡ is_unsettled nw st (Reroute n from to cs) k
   reroute-end first label kept final k live was is =
       let put = made st n cs in
       let walk = made-marks nw st routed (events_between st n from to) put (reroute-turn nw st n from to cs valid small accepted) valid.trains now.trains first n (made-part first label) k live in
       let p = is_same_node (node_of k) in
       let arrival = node_at n to false in
       let F = is_fed_by (edges nw st) (live_only (events st) (events routed)) k in
-      let P = is_fed_first_by (edges nw routed) (live_only (events routed) (events st)) k in
+      let P = is_fed_by_new (edges nw routed) (live_only (events routed) (events st)) k in
       (let e = rw (was, walk) at is in e)
       ∙ turn-last F (list_any p (names_of put)) P (p arrival)
       ∙ ap (λ b. b || (F || P)) (sym (list_any-append p (names_of put) (arrival ∷ [])))
@@ -228,7 +228,7 @@ module _ (nw : Network) (st : State) (n from to : ℕ) (cs : List NewCall) (vali
       subst (λ m. is_live routed m ≡ true) s.is_next (event-live routed s.next later (ap (λ (v : Event). v.live) (sym one) ∙ r.live))
 
 -- an extra train makes its events
-pub extra-end : (nw : Network) (st : State) (n day route : ℕ) (cs : List NewCall) → let m = Extra n day route cs in let new = effect st m in IsValid nw st → IsWellFormed m → refusal nw st m ≡ None → (kept final : Marked) (k : Key) → Contains (live_keys (events new)) k → is_marked kept k ≡ is_fed_by (edges nw st) (live_only (events st) (events new)) k → is_marked final k ≡ (is_marked kept k || list_any (is_marked_for (record { network = nw; state = new }) 0 k) (train_events new n)) → is_marked final k ≡ is_unsettled nw st m k
+pub extra-end : (nw : Network) (st : State) (n day route : ℕ) (cs : List NewCall) → let m = Extra n day route cs in let new = effect st m in IsValid nw st → IsWellFormed m → refusal nw st m ≡ None → (kept final : Marked) (k : Key) → Contains (live_keys (events new)) k → is_marked kept k ≡ is_fed_by (edges nw st) (live_only (events st) (events new)) k → is_marked final k ≡ (is_marked kept k || list_any (is_marked_by (record { network = nw; state = new }) 0 k) (train_events new n)) → is_marked final k ≡ is_unsettled nw st m k
 extra-end nw st n day route cs valid well accepted kept final k live was is =
     let m = Extra n day route cs in
     let new = effect st m in
@@ -303,13 +303,13 @@ module _ (nw : Network) (st : State) (s : Shape) {m : Message} (says : message_o
   accepted-shape : refusal nw st (message_of_shape s) ≡ None
   accepted-shape = subst (λ m. refusal nw st m ≡ None) (sym says) accepted
 
-  pub shape-taken : All (λ n. is_live st n ≡ true) (names_of (live_events (taken st s)))
-  shape-taken = names-live st (taken st s) (taken-there nw st s valid well-shape accepted-shape)
+  pub shape-taken : All (λ n. is_live st n ≡ true) (names_of (live_events (leaving_of st s)))
+  shape-taken = names-live st (leaving_of st s) (taken-there nw st s valid well-shape accepted-shape)
 
-  pub shape-leaves : names_of (live_events (taken st s)) ≡ names_of (live_only (events st) (events (effect st m)))
-  shape-leaves = subst (λ m. names_of (live_events (taken st s)) ≡ names_of (live_only (events st) (events (effect st m)))) says (leaving-are nw st s valid well-shape accepted-shape)
+  pub shape-leaves : names_of (live_events (leaving_of st s)) ≡ names_of (live_only (events st) (events (effect st m)))
+  shape-leaves = subst (λ m. names_of (live_events (leaving_of st s)) ≡ names_of (live_only (events st) (events (effect st m)))) says (leaving-are nw st s valid well-shape accepted-shape)
 
-  pub shape-before : (marks : Marked) → AreMarksOf (events st) marks → ((k : Key) → Contains (live_keys (events st)) k → is_marked marks k ≡ list_any (is_fed_from (record { network = nw; state = st }) k) (names_of (live_events (taken st s)))) → IsMarkedBefore nw st m marks
+  pub shape-before : (marks : Marked) → AreMarksOf (events st) marks → ((k : Key) → Contains (live_keys (events st)) k → is_marked marks k ≡ list_any (is_fed_from (record { network = nw; state = st }) k) (names_of (live_events (leaving_of st s)))) → IsMarkedBefore nw st m marks
   shape-before marks fit marked = subst (λ m. IsMarkedBefore nw st m marks) says (before-shape nw st s valid well-shape accepted-shape marks fit marked)
 
 -- the marks that are left once those of events are taken off that are not live
@@ -319,7 +319,7 @@ pub record AreKept (new : State) (old kept : Marked) : Type 0 where
   pub roomy : length (live_keys (events new)) ≤ old.room
 
 -- they are of live events after a step
-pub step-fit : (nw : Network) (st new : State) (s : Shape) → IsStep nw st new (message_of_shape s) → (old : Marked) → IsMarkedBefore nw st (message_of_shape s) old → (kept : Marked) → AreKept new old kept → AreMarksOf (events new) kept
+pub step-fit : (nw : Network) (st new : State) (s : Shape) → IsStateAfter nw st new (message_of_shape s) → (old : Marked) → IsMarkedBefore nw st (message_of_shape s) old → (kept : Marked) → AreKept new old kept → AreMarksOf (events new) kept
 step-fit nw st new s step old before kept =
     subst (λ new. AreKept new old kept → AreMarksOf (events new) kept) (sym step.made) (λ are. kept-fit nw st s step.valid step.well_formed step.accepted old before kept are.keys are.room are.roomy)
 
@@ -327,28 +327,28 @@ step-fit nw st new s step old before kept =
 abbrev pub AreFedMarks : Network → State → State → Marked → Type 0
 AreFedMarks nw st new kept = (k : Key) → Contains (live_keys (events new)) k → is_marked kept k ≡ is_fed_by (edges nw st) (live_only (events st) (events new)) k
 
-pub step-fed : (nw : Network) (st new : State) (s : Shape) → IsStep nw st new (message_of_shape s) → (old : Marked) → IsMarkedBefore nw st (message_of_shape s) old → (kept : Marked) → AreKept new old kept → AreFedMarks nw st new kept
+pub step-fed : (nw : Network) (st new : State) (s : Shape) → IsStateAfter nw st new (message_of_shape s) → (old : Marked) → IsMarkedBefore nw st (message_of_shape s) old → (kept : Marked) → AreKept new old kept → AreFedMarks nw st new kept
 step-fed nw st new s step old before kept =
     subst (λ new. AreKept new old kept → AreFedMarks nw st new kept) (sym step.made) (λ are. kept-marked nw st s step.valid step.well_formed step.accepted old before kept are.keys)
 
 -- and then the events that a message made, what these feed first, and others
 pub record AreMadeMarks (nw : Network) (new : State) (kept : Marked) (first n : ℕ) (others : Key → Bool) (final : Marked) : Type 0 where
   pub fit : AreMarksOf (events new) final
-  pub marked : (k : Key) → Contains (live_keys (events new)) k → is_marked final k ≡ ((is_marked kept k || list_any (is_marked_for (record { network = nw; state = new }) first k) (train_events new n)) || others k)
+  pub marked : (k : Key) → Contains (live_keys (events new)) k → is_marked final k ≡ ((is_marked kept k || list_any (is_marked_by (record { network = nw; state = new }) first k) (train_events new n)) || others k)
 
-pub cancel-after : (nw : Network) (st new : State) (n from to : ℕ) → let m = Cancel n from to in IsStep nw st new m → (kept : Marked) → AreMarksOf (events new) kept → AreFedMarks nw st new kept → AreUnsettled nw st m kept
+pub cancel-after : (nw : Network) (st new : State) (n from to : ℕ) → let m = Cancel n from to in IsStateAfter nw st new m → (kept : Marked) → AreMarksOf (events new) kept → AreFedMarks nw st new kept → AreUnsettled nw st m kept
 cancel-after nw st new n from to step kept =
     let m = Cancel n from to in
     subst (λ new. AreMarksOf (events new) kept → AreFedMarks nw st new kept → AreUnsettled nw st m kept) (sym step.made) (λ fit fed. record { live = fit.live; marked = λ k live. cancel-end nw st n from to step.valid step.accepted kept k (fed k live) })
 
-pub reroute-after : (nw : Network) (st new : State) (n from to : ℕ) (cs : List NewCall) → let m = Reroute n from to cs in IsStep nw st new m → (kept final : Marked) (first : ℕ) → IsNextLabel st n first → AreFedMarks nw st new kept → AreMadeMarks nw new kept first n (λ k. is_same_node (node_of k) (node_at n to false)) final → AreUnsettled nw st m final
+pub reroute-after : (nw : Network) (st new : State) (n from to : ℕ) (cs : List NewCall) → let m = Reroute n from to cs in IsStateAfter nw st new m → (kept final : Marked) (first : ℕ) → IsNextLabel st n first → AreFedMarks nw st new kept → AreMadeMarks nw new kept first n (λ k. is_same_node (node_of k) (node_at n to false)) final → AreUnsettled nw st m final
 reroute-after nw st new n from to cs step kept final first label =
     let others : Key → Bool = λ k. is_same_node (node_of k) (node_at n to false) in
     let m = Reroute n from to cs in
     subst (λ new. AreFedMarks nw st new kept → AreMadeMarks nw new kept first n others final → AreUnsettled nw st m final) (sym step.made) (λ fed are.
     record { live = are.fit.live; marked = λ k live. reroute-end nw st n from to cs step.valid step.well_formed step.accepted first label kept final k live (fed k live) (are.marked k live) })
 
-pub extra-after : (nw : Network) (st new : State) (n day route : ℕ) (cs : List NewCall) → let m = Extra n day route cs in IsStep nw st new m → (kept final : Marked) → AreFedMarks nw st new kept → AreMadeMarks nw new kept 0 n (λ k. false) final → AreUnsettled nw st m final
+pub extra-after : (nw : Network) (st new : State) (n day route : ℕ) (cs : List NewCall) → let m = Extra n day route cs in IsStateAfter nw st new m → (kept final : Marked) → AreFedMarks nw st new kept → AreMadeMarks nw new kept 0 n (λ k. false) final → AreUnsettled nw st m final
 extra-after nw st new n day route cs step kept final =
     let m = Extra n day route cs in
     subst (λ new. AreFedMarks nw st new kept → AreMadeMarks nw new kept 0 n (λ k. false) final → AreUnsettled nw st m final) (sym step.made) (λ fed are.
@@ -361,7 +361,7 @@ pub record IsRouted (old new : State) (n to : ℕ) (cs : List NewCall) : Type 0 
   pub arrival : is_live new (node_at n to false) ≡ true
   pub trains : All IsTrain new.trains
 
-pub routed-by : (nw : Network) (st new : State) (n from to : ℕ) (cs : List NewCall) → IsStep nw st new (Reroute n from to cs) → IsRouted st new n to cs
+pub routed-by : (nw : Network) (st new : State) (n from to : ℕ) (cs : List NewCall) → IsStateAfter nw st new (Reroute n from to cs) → IsRouted st new n to cs
 routed-by nw st new n from to cs step =
     let known = and_parts (stands_before from to (calls_of st n)) _ (not-false _ (accepted-by nw st (Reroute n from to cs) step.accepted).known) in
     subst (λ new. IsRouted st new n to cs) (sym step.made) (record {
@@ -372,5 +372,5 @@ routed-by nw st new n from to cs step =
     })
 
 -- so after the marks of dead events were taken off
-pub stepped-fit : (g : Timetabled) (s : Shape) (old : Marked) → IsStepped g (message_of_shape s) old → (kept : Marked) → AreKept g.state old kept → AreMarksOf (events g.state) kept
+pub stepped-fit : (g : Timetabled) (s : Shape) (old : Marked) → IsMarkedAndApplied g (message_of_shape s) old → (kept : Marked) → AreKept g.state old kept → AreMarksOf (events g.state) kept
 stepped-fit g s old stepped kept are = step-fit g.network stepped.old g.state s stepped.step old stepped.before kept are

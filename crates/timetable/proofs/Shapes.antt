@@ -6,7 +6,7 @@ use Rattle.timetable.proofs.Words.{length-filter, count_by-le-length, slice_get_
 use Rattle.timetable.proofs.Words.{Call, Train, State, Event, effect, change_train, change_calls, kill_in, stretch, new_calls, new_train, rerouted, begin_run, end_run, events}
 use Rattle.timetable.proofs.Words.{events_at, events_of, events_from, calls_of, live_events, IsWellFormed, IsSmallCall, refusal, refused_if, stands_before, are_at_stops, IsTrain}
 use Rattle.timetable.proofs.Words.{IsValid, events_at-train, IsLiveAt, accepted-by, or-none, refused-none, contains-change, contains-unmap, mapping-events, events-from_each, trains-each}
-use Rattle.timetable.proofs.Words.{events_at-each, StoredTimes, time_of, has_time, no_time, with_train_times, with_labels, message_of_shape, next_labels, HasTimesFor, HasRoomFor, changed_train, live_keys, ◌-◌}
+use Rattle.timetable.proofs.Words.{events_at-each, StoredTimes, time_of, has_time, no_time, with_train_times, with_labels, message_of_shape, next_labels, HasTimesFor, HasRoomFor, changed_train, ◌-◌}
 use Rattle.timetable.proofs.Words.{with_made}
 use Rattle.train_nodes.specs.declared.kinds.Shape.{Shape}
 use Rattle.train_nodes.specs.declared.kinds.Shape.TheVariants as Shapes
@@ -37,10 +37,10 @@ pub record IsReshaped (old new : State) (n : ℕ) (times after : StoredTimes) : 
 pub live-count : (es fs : List Event) → length (live_events (es ++ fs)) ≡ length (live_events es) + length (live_events fs)
 live-count es fs = rw (filter-append, length-append) refl
 
-live-le : (es : List Event) → length (live_events es) ≤ length es
+pub live-le : (es : List Event) → length (live_events es) ≤ length es
 live-le es = omega (arith, length-filter (λ (v : Event). v.live) es, count_by-le-length (λ (v : Event). v.live) es)
 
-events-count : (n route : ℕ) (cs : List Call) → length (events_at n route cs) ≡ 2 * length cs
+pub events-count : (n route : ℕ) (cs : List Call) → length (events_at n route cs) ≡ 2 * length cs
 events-count n route [] = refl
 events-count n route (c ∷ cs) = omega (arith, events-count n route cs)
 
@@ -100,12 +100,17 @@ train-of : (o : Option Train) (from to : ℕ) → stands_before from to (option_
 train-of None from to h = absurd (cc)
 train-of (Some t) from to h = (t, refl)
 
-length-new : (label : ℕ) (cs : List NewCall) → length (new_calls label cs) ≡ length cs
+pub length-new : (label : ℕ) (cs : List NewCall) → length (new_calls label cs) ≡ length cs
 length-new label [] = refl
 length-new label (c ∷ cs) = ap suc (length-new (label + 1) cs)
 
-spare-of : (spare n : ℕ) → refused_if (nat_lt spare n) (Full Calls) ≡ None → n ≤ spare
+pub spare-of : (spare n : ℕ) → refused_if (nat_lt spare n) (Full Calls) ≡ None → n ≤ spare
 spare-of spare n h = ltb-false spare n (refused-none (nat_lt spare n) (Full Calls) h)
+
+-- for the calls of an extra train there is room
+pub extra-room : (nw : Network) (st : State) (n day route : ℕ) (cs : List NewCall) → refusal nw st (Extra n day route cs) ≡ None → length cs ≤ st.spare_calls
+extra-room nw st n day route cs h =
+    spare-of st.spare_calls (length cs) (or-none (refused_if (nat_eq st.spare_trains 0) (Full Trains)) _ (accepted-by nw st (Extra n day route cs) h).room).1
 
 reroute-reshaped : (nw : Network) (st : State) (n from to : ℕ) (via : List NewCall) (times : StoredTimes) → IsValid nw st → All IsSmallCall via → refusal nw st (Reroute n from to via) ≡ None → HasTimesFor st times → IsReshaped st (effect st (Reroute n from to via)) n times (with_labels n (length via) times)
 unfolding effect events
@@ -154,6 +159,9 @@ length-end [] = refl
 length-end (c ∷ []) = refl
 length-end (c ∷ d ∷ ds) = ap suc (length-end (d ∷ ds))
 
+pub length-extra : (cs : List NewCall) → length (begin_run (end_run (new_calls 0 cs))) ≡ length cs
+length-extra cs = length-begin (end_run (new_calls 0 cs)) ∙ length-end (new_calls 0 cs) ∙ length-new 0 cs
+
 -- the number of an extra train is the next one
 next-number : (nw : Network) (st : State) (n day route : ℕ) (cs : List NewCall) → refusal nw st (Extra n day route cs) ≡ None → n ≡ length st.trains
 next-number nw st n day route cs h =
@@ -176,7 +184,7 @@ extra-reshaped nw st n day route cs times small h has =
     let es = events st in
     let es_new = events_of n t in
     let is_new : events_from 0 (st.trains ++ t ∷ []) ≡ es ++ es_new = rw (events-push 0 n st.trains t (omega arith), append-nil) refl in
-    let enough : length cs ≤ st.spare_calls = spare-of st.spare_calls (length cs) (or-none (refused_if (nat_eq st.spare_trains 0) (Full Trains)) _ (accepted-by nw st (Extra n day route cs) h).room).1 in
+    let enough = extra-room nw st n day route cs h in
     let long = sized-trains st times has.sized in
     record {
       known = λ w hw live.
@@ -193,8 +201,7 @@ extra-reshaped nw st n day route cs times small h has =
       others = λ v hv _. rw is_new (Contains-append_left es es_new v hv);
       fewer =
           let own = ap (λ vs. length (live_events vs)) is_new in
-          let long = length-begin (end_run (new_calls 0 cs)) ∙ length-end (new_calls 0 cs) ∙ length-new 0 cs in
-          omega (arith, live-count es es_new, live-le es_new, events-count n route t.calls);
+          omega (arith, live-count es es_new, live-le es_new, events-count n route t.calls, length-extra cs);
       has_times = record { sized = rw (map-append next_of st.trains (t ∷ [])) (sized-push (next_labels st) times (length cs) has.sized); spare_trains = ap (λ x. x - 1) has.spare_trains; spare_calls = ap (λ x. x - length cs) has.spare_calls };
       kept = λ m. pushed-old (length cs) times m;
     }

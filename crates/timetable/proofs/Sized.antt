@@ -1,7 +1,7 @@
 -- How many times are kept for each train, where there are two for each label that it has used.
-use Rattle.timetable.proofs.Words.{◌≡◌, ℕ, zero, suc, ◌+◌, ◌*◌, ◌<◌, true, false, List, [], ◌∷◌, ◌++◌, Some, map, length, length-append, set, slice_get, refl, ◌∙◌, ap, arith, option_map}
-use Rattle.timetable.proofs.Words.{All, length-map, length-replicate, map-append, length-set, Node, node_of, Train, State, Event, change_train, node_at, events, IsTrain, events-from_each}
-use Rattle.timetable.proofs.Words.{trains-each, events_at-each, StoredTimes, has_time, with_time, place_of, change_at, no_time, AreSized, blank_times, with_train_times, with_labels, next_labels, HasTimesFor}
+use Rattle.timetable.proofs.Words.{◌≡◌, ℕ, zero, suc, ◌+◌, ◌*◌, ◌<◌, true, false, List, [], ◌∷◌, ◌++◌, Some, map, length, length-append, slice_get, refl, ap, arith, option_map}
+use Rattle.timetable.proofs.Words.{All, length-map, length-replicate, map-append, node_of, Train, State, Event, change_train, node_at, events, IsTrain, events-from_each}
+use Rattle.timetable.proofs.Words.{trains-each, events_at-each, StoredTimes, has_time, change_at, no_time, AreSized, blank_times, with_train_times, with_labels, next_labels}
 use Rattle.std.proofs.lemmas.Option.{slice_get-map}
 use Rattle.train_nodes.proofs.TimeLemmas.{held}
 

@@ -1,22 +1,22 @@
 -- What is marked and stored after an accepted message is what settling asks for, and it reads no more than a message may take.
 use Rattle.timetable.proofs.Words.{◌≡◌, ◌≤◌, ◌∙◌, false, refl, sym, filter, All, Network, State, Message, effect, events, refusal, None, IsValid, IsWellFormed, live_keys, key_order, StoredTimes, IsPrepared, Marked, is_marked, AreUnsettled}
-use Rattle.timetable.proofs.Words.{IsMarkedBefore, IsStep, Timetabled}
+use Rattle.timetable.proofs.Words.{IsMarkedBefore, IsStateAfter, Timetabled}
 use Rattle.std.specs.List.{sum_by}
 use Rattle.propagate.specs.Reads.{reads_of}
-use Rattle.propagate.specs.Settling.{HasItsValue, is_due, reads_at}
+use Rattle.propagate.specs.Settling.{FollowsRule, is_due, reads_at}
 use Rattle.propagate.proofs.{Ordered.live-keyed, StepStays.unmarked-values, StepCosts.step-cost}
 
 module _ {nw : Network} {st : State} {m : Message} (valid : IsValid nw st) (well : IsWellFormed m) (accepted : refusal nw st m ≡ None) where
   -- a message that is accepted makes the state after it
-  pub step-made : IsStep nw st (effect st m) m
+  pub step-made : IsStateAfter nw st (effect st m) m
   step-made = record { valid = valid; well_formed = well; accepted = accepted; made = refl }
 
   -- so the events are marked that may have another value
-  pub step-due : {marks after : Marked} (g : Timetabled) → g ≡ record { network = nw; state = effect st m } → IsMarkedBefore nw st m marks → ((old : State) → IsStep g.network old g.state m → IsMarkedBefore g.network old m marks → AreUnsettled g.network old m after) → AreUnsettled nw st m after
+  pub step-due : {marks after : Marked} (g : Timetabled) → g ≡ record { network = nw; state = effect st m } → IsMarkedBefore nw st m marks → ((old : State) → IsStateAfter g.network old g.state m → IsMarkedBefore g.network old m marks → AreUnsettled g.network old m after) → AreUnsettled nw st m after
   step-due g is before h = (rw is at h) st step-made before
 
 module _ {nw : Network} {st : State} {m : Message} {times : StoredTimes} (p : IsPrepared nw st (effect st m) times) {marks : Marked} (due : AreUnsettled nw st m marks) where
-  pub step-values : IsStep nw st (effect st m) m → All (λ k. is_marked marks k ≡ false → HasItsValue (record { network = nw; state = effect st m }) times k) (live_keys (events (effect st m)))
+  pub step-values : IsStateAfter nw st (effect st m) m → All (λ k. is_marked marks k ≡ false → FollowsRule (record { network = nw; state = effect st m }) times k) (live_keys (events (effect st m)))
   step-values step =
       unmarked-values nw st m step.valid step.well_formed step.accepted times p.stored marks (λ k at h. due.marked k (live-keyed (events (effect st m)) k at) ∙ h)
 

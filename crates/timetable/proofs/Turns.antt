@@ -2,6 +2,7 @@
 use Rattle.timetable.proofs.Words.{◌≡◌, ◌≢◌, ◌⊎◌, ℕ, suc, ◌&&◌, ◌<◌, ◌≤◌, true, false, List, [], ◌∷◌, ◌++◌, None, Some, append-nil, get_or, map, refl, sym, ◌∙◌, ap, subst, arith, inl, inr}
 use Rattle.timetable.proofs.Words.{cases_Bool, and_parts, not-false, false_from_ne_true, filter-append, All, All-contains, All-contains_itself, AllPairs, Contains, Contains-append_cases, Contains-append_left, Contains-append_right}
 use Rattle.timetable.proofs.Words.{slice_get, slice_get_within, Contains-filter, node_of, is_same, same-is, Network, State, Event, Train, NewCall, Cancel, Reroute, Extra, events, events_of, train_events, live_events, calls_of, stands_before}
+use Rattle.timetable.proofs.Words.{◌+◌, ◌*◌, length, Option, option_map_or, events_at, new_calls}
 use Rattle.timetable.proofs.Words.{effect, new_train, stretch, is_live_key, live_only, IsTrain, IsValid, IsWellFormed, IsSmallCall, AreApart, refusal, events-apart, events_at-each, events_at-train, trains-each, accepted-by, message_of_shape}
 use Rattle.train_nodes.specs.declared.kinds.Shape.{Shape}
 use Rattle.train_nodes.specs.declared.kinds.Shape.TheVariants as Shapes
@@ -16,9 +17,9 @@ use Rattle.state_laws.proofs.Parts.{All-left}
 use Rattle.edge_rules.specs.Held.{HasOwnLabels}
 use Rattle.edge_rules.specs.Indexing.{entry_of}
 use Rattle.edge_rules.proofs.EventChanges.{cancel-exchange, reroute-exchange, killed-entries, made}
-use Rattle.timetable.specs.Marking.{taken}
+use Rattle.timetable.specs.Marking.{leaving_of}
 use Rattle.propagate.proofs.Named.{own-event}
-use Rattle.timetable.proofs.Changed.{live-key}
+use Rattle.timetable.proofs.{Changed.live-key, Shapes.events-count, Shapes.extra-room, Shapes.length-extra, Shapes.length-new, Shapes.live-le, Shapes.spare-of}
 
 -- of a state's events some are taken out, and others put in their place, of which none that is live has the name of one that was there
 pub record IsTurn (old new : State) (out put : List Event) : Type 0 where
@@ -116,6 +117,11 @@ put_in st (Shapes.Cancel n from to) = map (kill_at (stretch st n from to)) (stre
 put_in st (Shapes.Reroute n from to via) = made st n via.now
 put_in st (Shapes.Extra n day route calls) = train_events (effect st (Extra n day route calls.now)) n
 
+-- the new calls of a train have two events each
+made-count : (n : ℕ) (via : List NewCall) (o : Option Train) → length (option_map_or (λ (t : Train). events_at n t.route (new_calls t.next_label via)) o []) ≤ 2 * length via
+made-count n via None = omega arith
+made-count n via (Some t) = omega (arith, events-count n t.route (new_calls t.next_label via), length-new t.next_label via)
+
 -- none of those that are cancelled is live
 pub none-killed : (es : List Event) → live_events (map (kill_at es) es) ≡ []
 none-killed es = elim (live_events (map (kill_at es) es)) as (λ vs. map entry_of vs ≡ [] → vs ≡ []) [ [] ↦ λ h. refl | v ∷ vs ↦ λ h. absurd (cc) ] (killed-entries es)
@@ -178,8 +184,25 @@ extra-turn nw st n day route cs h =
           let less = slice_get_within st.trains v.key.train r.0 r.1 in absurd (omega arith);
     }
 
-pub shape-turn : (nw : Network) (st : State) (s : Shape) → let m = message_of_shape s in IsValid nw st → IsWellFormed m → refusal nw st m ≡ None → IsTurn st (effect st m) (taken st s) (put_in st s)
+pub shape-turn : (nw : Network) (st : State) (s : Shape) → let m = message_of_shape s in IsValid nw st → IsWellFormed m → refusal nw st m ≡ None → IsTurn st (effect st m) (leaving_of st s) (put_in st s)
 unfolding put_in
 shape-turn nw st (Shapes.Cancel n from to) valid well h = cancel-turn nw st n from to valid h
 shape-turn nw st (Shapes.Reroute n from to via) valid well h = reroute-turn nw st n from to via.now valid well h
 shape-turn nw st (Shapes.Extra n day route calls) valid well h = extra-turn nw st n day route calls.now h
+
+-- those that a message puts in take spare calls, two of them one
+put-few : (nw : Network) (st : State) (s : Shape) → let m = message_of_shape s in refusal nw st m ≡ None → length (live_events (put_in st s)) + 2 * (effect st m).spare_calls ≤ 2 * st.spare_calls
+unfolding put_in effect
+put-few nw st (Shapes.Cancel n from to) h = rw (none-killed (stretch st n from to)) (omega arith)
+put-few nw st (Shapes.Reroute n from to via) h =
+    let enough = spare-of st.spare_calls (length via.now) (accepted-by nw st (Reroute n from to via.now) h).room in
+    omega (arith, live-le (made st n via.now), made-count n via.now (slice_get st.trains n))
+put-few nw st (Shapes.Extra n day route calls) h =
+    let t = new_train day route calls.now in
+    let enough = extra-room nw st n day route calls.now h in
+    let own : train_events (effect st (Extra n day route calls.now)) n ≡ events_of n t = rw (extra-number nw st n day route calls.now h, get-push st.trains t) refl in
+    let count = ap length own in
+    omega (arith, live-le (train_events (effect st (Extra n day route calls.now)) n), events-count n route t.calls, length-extra calls.now)
+
+pub shape-made : (nw : Network) (st : State) (s : Shape) → let m = message_of_shape s in IsValid nw st → IsWellFormed m → refusal nw st m ≡ None → length (live_only (events (effect st m)) (events st)) + 2 * (effect st m).spare_calls ≤ 2 * st.spare_calls
+shape-made nw st s valid well h = rw (made-are valid.trains (shape-turn nw st s valid well h)) (put-few nw st s h)

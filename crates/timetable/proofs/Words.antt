@@ -8,7 +8,7 @@ pub use Rattle.state_laws.proofs.Words.{capped, cases_Bool, change_calls, change
 pub use Rattle.state_laws.proofs.Words.{event_named, events-apart, events-unique, events_at, events_at-train, events_from, events_of, false, false_from_ne_true, filter_passes, find}
 pub use Rattle.state_laws.proofs.Words.{floor_of, forecasted, get_or, incoming-leads, inl, inr, is_call, is_eq, is_event, is_live, is_live_key, is_some, kill_in}
 pub use Rattle.state_laws.proofs.Words.{killed, leb-true, length, length-append, list_any, live_events, live_only, ltb-false, map, map-append, names_of, nat_cmp, nat_eq, nat_le, nat_lt}
-pub use Rattle.state_laws.proofs.Words.{new_calls, new_train, node_at, node_of, not, not-false, option_map, option_map_or, or_parts, refl, refused_if, reported, rerouted, retimed}
+pub use Rattle.state_laws.proofs.Words.{new_calls, new_train, node_at, node_of, not, not-false, option_map, option_map_or, or_parts, refl, refused_if, reported, rerouted, time_changes}
 pub use Rattle.state_laws.proofs.Words.{same-is, same-itself, same_node-is, same_node-itself, slice_get, slice_get_within, stands_before, stretch, subst, suc, sym, time-local, train_events}
 pub use Rattle.state_laws.proofs.Words.{true, unwrap_or, up_to, valid-graph, with_event, zero, ℕ, ◌&&◌, ◌++◌, ◌+◌, ◌-◌, ◌<◌, ◌^◌, ◌||◌, ◌∙◌, ◌∷◌, ◌≡◌, ◌≢◌, ◌≤◌, ◌⊎◌}
 unfoldable pub use Rattle.state_laws.proofs.Words.{cap, changed, edges, effect, event_time, events, incoming, is_before, is_same, is_same_node, local, refusal, time}
@@ -38,6 +38,7 @@ pub use Rattle.state_laws.proofs.Stays.{stays-valid}
 pub use Rattle.state_laws.proofs.Stretches.{All-from, All-up_to, events_at-each}
 pub use Rattle.state_laws.proofs.Values.{IsSetting, any-there, put_forecast, put_report, set-shape, set_at}
 unfoldable pub use Rattle.train_nodes.specs.Times.{time_of}
+pub use Rattle.train_nodes.specs.Calls.{call_named, has_call}
 pub use Rattle.train_nodes.specs.Lists.{change_at}
 pub use Rattle.train_nodes.specs.Times.{AreSized, StoredTimes, blank_times, has_time, no_time, place_of, with_labels, with_time, with_train_times}
 pub use Rattle.train_nodes.specs.Kinds.{changed_train, message_by_choice, message_by_kind, message_of, message_of_shape}
@@ -45,19 +46,20 @@ pub use Rattle.edge_rules.specs.AtStops.{AreAtStops, IsAtStop}
 unfoldable pub use Rattle.timetable.specs.Changed.{changed_nodes}
 pub use Rattle.timetable.specs.Changed.{AreInOrder, IsChangedEvent, is_changed}
 unfoldable pub use Rattle.timetable.specs.Departures.{live_departures}
-pub use Rattle.timetable.specs.Departures.{AreListed, IsDeparture, departing, departing_at, departure_cmp, departures_from, is_departure, stored_departure}
-pub use Rattle.timetable.specs.Departures.{leaves_before}
+pub use Rattle.timetable.specs.Departures.{AreListed, IsDeparture, departing, departing_at, departures_from, is_departure, may_board, stop_of, stored_departure}
+pub use Rattle.dep_order.specs.Departing.{departure_cmp}
+unfoldable pub use Rattle.dep_order.specs.Departing.{leaves_before}
 unfoldable pub use Rattle.timetable.specs.Moved.{with_times}
-pub use Rattle.timetable.specs.Moved.{AreRetimed, departing_then, departs, is_live_departure, is_of_one, retimed_events}
+pub use Rattle.timetable.specs.Moved.{AreLiveDepartures, AreTimeChanges, IsAtCall, count_new, departing_then, departs, is_new_to, is_of_none, is_of_one, time_changes_of}
 pub use Rattle.timetable.specs.LiveTimes.{live_event, live_keys, live_time}
 pub use Rattle.timetable.specs.Running.{Running}
 pub use Rattle.timetable.specs.Settled.{HasItsTime, HasTimesFor, IsRoomy, IsSettled, most_live}
 pub use Rattle.timetable.specs.Shapes.{HasRoomFor, IsPrepared, with_made}
-pub use Rattle.propagate.specs.Sorted.{in_order, placed}
-pub use Rattle.timetable.specs.declared.departure_list.Departure.{Departure}
-pub use Rattle.propagate.specs.LiveKeys.{IsOrderOf, has_another, key_order, retimed_at}
+pub use Rattle.mt_base.specs.Sorted.{in_order, placed}
+pub use Rattle.dep_order.specs.declared.departure.Departure.{Departure}
+pub use Rattle.propagate.specs.LiveKeys.{IsOrderOf, has_another, key_order, time_change_at}
 pub use Rattle.propagate.specs.TimesFor.{next_labels}
 pub use Rattle.rank_order.specs.Marked.{Marked, is_marked}
-pub use Rattle.timetable.specs.Marking.{AreMarksOf, AreUnsettled, IsMarkedBefore, IsStep, IsStepped}
+pub use Rattle.timetable.specs.Marking.{AreMarksOf, AreUnsettled, IsMarkedBefore, IsStateAfter, IsMarkedAndApplied}
 pub use Rattle.propagate.specs.Unsettled.{AreStored}
-pub use Rattle.propagate.specs.declared.retimed.Retimed.{Retimed}
+pub use Rattle.propagate.specs.declared.time_changes.TimeChange.{TimeChange}

@@ -11,7 +11,7 @@ use Rattle.delay_model.specs.Events.{events}
 use Rattle.delay_model.specs.Timing.{event_time}
 use Rattle.delay_model.specs.Touched.{changed, is_live_key, live_only, names_of}
 use Rattle.timetable.specs.LiveTimes.{live_keys}
-use Rattle.propagate.specs.Sorted.{in_order}
+use Rattle.mt_base.specs.Sorted.{in_order}
 
 -- an event that is live in the new state was not live in the old one, or has another time
 abbrev pub is_changed : Network → State → State → Key → Bool

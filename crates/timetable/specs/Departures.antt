@@ -1,53 +1,58 @@
 -- The live departures of a state, each with its time, in the order of their times.
-use Rattle.std.specs.Prelude.{◌≡◌, ℕ, List, Bool, true, nat_le, Contains, filter, map}
+use Rattle.std.specs.Prelude.{◌≡◌, ℕ, List, Bool, true, false, nat_le, Contains, filter, map}
 use Rattle.std.specs.List.{AllPairs}
 use Rattle.std.specs.List.Sorted.{IsPermutation}
-use Rattle.std.specs.declared.cmp.Ordering.{Ordering}
-use Rattle.std.specs.Ordering.{nat_cmp, ordering_then, is_lt}
+use Rattle.std.specs.Option.{option_map_or}
 use Rattle.mt_base.specs.declared.keys.Key.{Key}
-use Rattle.mt_base.specs.Order.{key_cmp}
+use Rattle.mt_base.specs.Order.{is_before}
 use Rattle.delay_model.specs.declared.network.Network.{Network}
+use Rattle.delay_model.specs.declared.state.Call.{Call}
 use Rattle.delay_model.specs.declared.state.State.{State}
 use Rattle.delay_model.specs.declared.state.Event.{Event}
 use Rattle.delay_model.specs.Events.{events}
 use Rattle.delay_model.specs.Timing.{event_time}
+use Rattle.train_nodes.specs.Calls.{call_named}
 use Rattle.train_nodes.specs.Times.{StoredTimes}
 use Rattle.edge_rules.specs.AtEvent.{stored_time}
-use Rattle.timetable.specs.declared.departure_list.Departure.{Departure}
+use Rattle.dep_order.specs.declared.departure.Departure.{Departure}
+pub use Rattle.dep_order.specs.Departing.{leaves_before}
+use Rattle.mt_base.specs.Sorted.{in_order}
 use Rattle.timetable.specs.LiveTimes.{live_keys}
-use Rattle.propagate.specs.Sorted.{in_order}
-
--- departures are ordered by their times, and at one time by their keys
-abbrev pub departure_cmp : Departure → Departure → Ordering
-departure_cmp a b = ordering_then (nat_cmp a.time b.time) (key_cmp a.key b.key)
-
-abbrev pub leaves_before : Departure → Departure → Bool
-leaves_before a b = is_lt (departure_cmp a b)
 
 -- each leaves before those after it
 abbrev pub AreInOrder : List Departure → Type 0
 AreInOrder ds = AllPairs (λ a b. leaves_before a b ≡ true) ds
 
+-- the stop of an event
+abbrev pub stop_of : State → Key → ℕ
+stop_of st k = option_map_or (λ (c : Call). c.stop) (call_named st k.train k.label) 0
+
+-- whether passengers may board at the call of an event
+abbrev pub may_board : State → Key → Bool
+may_board st k = option_map_or (λ (c : Call). c.board) (call_named st k.train k.label) false
+
 -- the departure of this key at this time
-abbrev pub departing_at : ℕ → Key → Departure
-departing_at time k = record { time = time; key = k }
+abbrev pub departing_at : State → ℕ → Key → Departure
+departing_at st time k =
+    record { time = time; key = k; stop = stop_of st k; board = may_board st k }
 
 -- the departure of this key, at its event's time
 abbrev pub departing : Network → State → Key → Departure
-departing nw st k = record { time = event_time nw st k; key = k }
+departing nw st k = departing_at st (event_time nw st k) k
 
 -- the departure of this key, at the time that is stored for it
-abbrev pub stored_departure : StoredTimes → Key → Departure
-stored_departure times k = record { time = stored_time times k; key = k }
+abbrev pub stored_departure : State → StoredTimes → Key → Departure
+stored_departure st times k = departing_at st (stored_time times k) k
 
 abbrev pub is_departure : Key → Bool
 is_departure k = k.dep
 
 -- these are the departures among the events of these keys, each at the time that is stored for it,
--- in their order
-pub record AreListed (times : StoredTimes) (keys : List Key) (ds : List Departure) : Type 0 where
-  pub moved : IsPermutation (map (stored_departure times) (filter is_departure keys)) ds
-  pub ascends : AreInOrder ds
+-- in the order of their keys
+pub record AreListed (st : State) (times : StoredTimes) (keys : List Key) (ds : List Departure) :
+    Type 0 where
+  pub moved : IsPermutation (map (stored_departure st times) (filter is_departure keys)) ds
+  pub ascends : AllPairs (λ a b. is_before a.key b.key ≡ true) ds
 
 -- the live departures of a state, in their order
 unfoldable pub live_departures : Network → State → List Departure
@@ -66,3 +71,5 @@ pub record IsDeparture (nw : Network) (st : State) (d : Departure) : Type 0 wher
   pub key : event.key ≡ d.key
   pub departs : d.key.dep ≡ true
   pub time : d.time ≡ event_time nw st d.key
+  pub stop : d.stop ≡ stop_of st d.key
+  pub board : d.board ≡ may_board st d.key

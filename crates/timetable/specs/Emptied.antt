@@ -7,7 +7,6 @@ use Rattle.timetable.specs.Settled.{IsRoomy}
 pub record AreEmpty (most : ℕ) (lists : Lists) : Type 0 where
   pub changed : lists.changed.items ≡ []
   pub unmarked : lists.marks.keys ≡ []
-  pub retimed : lists.retimed.items ≡ []
-  pub departures : lists.departures.items ≡ []
+  pub time_changes : lists.time_changes.items ≡ []
   pub roomy : IsRoomy most (vec_capacity lists.changed) lists.marks.room
-      (vec_capacity lists.retimed) (vec_capacity lists.departures)
+      (vec_capacity lists.time_changes)

@@ -1,5 +1,5 @@
 -- How a timetable is seen, and what holds of it.
-use Rattle.std.specs.Prelude.{◌≡◌, [], vec_capacity}
+use Rattle.std.specs.Prelude.{◌≡◌, ◌*◌, ◌≤◌, [], vec_capacity}
 use Rattle.timetable.specs.declared.timetable.Timetable.TheInside.{Inside}
 use Rattle.timetable.specs.Departures.{live_departures}
 use Rattle.timetable.specs.Running.{Running}
@@ -17,7 +17,8 @@ seen a = record {
 -- there is room for all events that can be live
 pub record IsTimed (a : Inside) : Type 0 where
   pub settled : IsSettled a.graph.network a.graph.state a.times
-  pub departures : a.departures.items ≡ live_departures a.graph.network a.graph.state
+  pub departures : a.departures.departures ≡ live_departures a.graph.network a.graph.state
+  pub departures_room : 2 * a.graph.state.spare_calls ≤ a.departures.spare
   pub unmarked : a.marks.keys ≡ []
   pub roomy : IsRoomy (most_live a.graph.state) (vec_capacity a.changed) a.marks.room
-      (vec_capacity a.retimed) (vec_capacity a.departures)
+      (vec_capacity a.time_changes)

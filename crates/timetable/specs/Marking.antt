@@ -28,10 +28,10 @@ use Rattle.propagate.specs.LiveKeys.{live_keys}
 use Rattle.propagate.specs.Unsettled.{is_unsettled}
 
 -- the events of which a message takes the live ones away
-abbrev pub taken : State → Shape → List Event
-taken st (Shapes.Cancel train from to) = stretch st train from to
-taken st (Shapes.Reroute train from to via) = events_between st train from to
-taken st (Shapes.Extra train day route calls) = []
+abbrev pub leaving_of : State → Shape → List Event
+leaving_of st (Shapes.Cancel train from to) = stretch st train from to
+leaving_of st (Shapes.Reroute train from to via) = events_between st train from to
+leaving_of st (Shapes.Extra train day route calls) = []
 
 -- only live events among these are marked, and there is room for marks of them all
 pub record AreMarksOf (es : List Event) (marks : Marked) : Type 0 where
@@ -54,14 +54,14 @@ is_fed_from g k n = leads_to (edges_from g n) k
 
 -- an edge that may change a time, where the event that it leaves gets its first time, leads to this
 -- key from the event of this name
-abbrev pub is_fed_first_from : Timetabled → Key → Node → Bool
-is_fed_first_from g k n = leads_to (filter (may_change no_time no_time) (edges_from g n)) k
+abbrev pub is_fed_from_new : Timetabled → Key → Node → Bool
+is_fed_from_new g k n = leads_to (filter (may_change no_time no_time) (edges_from g n)) k
 
 -- the event is live, its label is one of those from `first` on, and this key is its own or that of
--- an event that it feeds first
-abbrev pub is_marked_for : Timetabled → ℕ → Key → Event → Bool
-is_marked_for g first k v = (v.live && nat_le first v.key.label)
-    && (is_same v.key k || is_fed_first_from g k (node_of v.key))
+-- an event whose time it may change
+abbrev pub is_marked_by : Timetabled → ℕ → Key → Event → Bool
+is_marked_by g first k v = (v.live && nat_le first v.key.label)
+    && (is_same v.key k || is_fed_from_new g k (node_of v.key))
 
 -- the events that a message names, where they are known before it is applied
 abbrev pub named_before : State → Message → List Node
@@ -86,14 +86,14 @@ pub record AreUnsettled (nw : Network) (st : State) (m : Message)
       → is_marked marks k ≡ is_unsettled nw st m k
 
 -- an accepted message makes the one state of the other
-pub record IsStep (nw : Network) (old new : State) (m : Message) : Type 0 where
+pub record IsStateAfter (nw : Network) (old new : State) (m : Message) : Type 0 where
   pub valid : IsValid nw old
   pub well_formed : IsWellFormed m
   pub accepted : refusal nw old m ≡ None
   pub made : new ≡ effect old m
 
 -- a message was applied, before which events were marked
-pub record IsStepped (g : Timetabled) (m : Message) (marks : Marked) : Type 0 where
+pub record IsMarkedAndApplied (g : Timetabled) (m : Message) (marks : Marked) : Type 0 where
   pub old : State
-  pub step : IsStep g.network old g.state m
+  pub step : IsStateAfter g.network old g.state m
   pub before : IsMarkedBefore g.network old m marks

@@ -1,49 +1,70 @@
 -- Departures that get other times, moved to their places.
-use Rattle.std.specs.Prelude.{◌≡◌, ◌≢◌, List, ◌++◌, Bool, not, All, filter, map}
+use Rattle.std.specs.Prelude.{◌≡◌, ◌≢◌, ℕ, List, ◌++◌, Bool, true, ◌&&◌, not, All, Contains, IsTrue, filter, length, map}
 use Rattle.std.specs.List.{AllPairs, list_any}
-use Rattle.mt_base.specs.Order.{is_same, node_of}
+use Rattle.mt_base.specs.declared.keys.Node.{Node}
+use Rattle.mt_base.specs.Order.{is_same, is_same_node, node_of}
 use Rattle.delay_model.specs.declared.network.Network.{Network}
 use Rattle.delay_model.specs.declared.state.State.{State}
-use Rattle.delay_model.specs.Events.{events, is_live}
+use Rattle.delay_model.specs.Events.{events}
+use Rattle.train_nodes.specs.Calls.{has_call}
 use Rattle.train_nodes.specs.Times.{StoredTimes}
-use Rattle.propagate.specs.declared.retimed.Retimed.{Retimed}
-use Rattle.propagate.specs.LiveKeys.{has_another, key_order, retimed_at}
-use Rattle.propagate.specs.Sorted.{in_order}
-use Rattle.timetable.specs.declared.departure_list.Departure.{Departure}
-use Rattle.timetable.specs.Departures.{AreInOrder, leaves_before}
+use Rattle.propagate.specs.declared.time_changes.TimeChange.{TimeChange}
+use Rattle.propagate.specs.LiveKeys.{has_another, key_order, live_keys, time_change_at}
+use Rattle.dep_order.specs.declared.departure.Departure.{Departure}
+use Rattle.mt_base.specs.Sorted.{in_order}
+use Rattle.timetable.specs.Departures.{departing_at, leaves_before}
 
 -- the event is a departure
-abbrev pub departs : Retimed → Bool
+abbrev pub departs : TimeChange → Bool
 departs r = r.key.dep
 
 -- the departure of an event that gets another time, at that time
-abbrev pub departing_then : Retimed → Departure
-departing_then r = record { time = r.is; key = r.key }
+abbrev pub departing_then : State → TimeChange → Departure
+departing_then st r = departing_at st r.is r.key
 
 -- the departure is of one of these events
-abbrev pub is_of_one : List Retimed → Departure → Bool
+abbrev pub is_of_one : List TimeChange → Departure → Bool
 is_of_one rs d = list_any (λ r. is_same r.key d.key) rs
 
 -- these departures, and those among the events that get other times at these, in their order
-unfoldable pub with_times : List Retimed → List Departure → List Departure
-with_times rs ds =
+unfoldable pub with_times : State → List TimeChange → List Departure → List Departure
+with_times st rs ds =
     let moved = filter departs rs in
     in_order leaves_before
-    (map departing_then moved ++ filter (λ d. not (is_of_one moved d)) ds)
+    (map (departing_then st) moved ++ filter (λ d. not (is_of_one moved d)) ds)
 
--- these departures are in their order. Each of these events gets one time, which is another than it
--- had, and its departure, if it is there, is at the time that it had
-pub record AreRetimed (rs : List Retimed) (ds : List Departure) : Type 0 where
-  pub ascends : AreInOrder ds
+-- these departures are those of live events
+abbrev pub AreLiveDepartures : State → List Departure → Type 0
+AreLiveDepartures st ds = All (λ d. Contains (live_keys (events st)) d.key × (d.key.dep ≡ true)) ds
+
+-- the call of an event is there
+abbrev pub HasCall : State → TimeChange → Type 0
+HasCall st r = IsTrue (has_call st r.key.train r.key.label)
+
+-- the departure is what it is at its call
+abbrev pub IsAtCall : State → Departure → Type 0
+IsAtCall st d = d ≡ departing_at st d.time d.key
+
+-- these departures are as they are at their calls, each of these events is there, and it gets one
+-- time
+pub record AreTimeChanges (st : State) (rs : List TimeChange) (ds : List Departure) : Type 0 where
+  pub at_calls : All (IsAtCall st) ds
   pub once : AllPairs (λ a b. a.key ≢ b.key) rs
-  pub other : All (λ r. r.was ≢ r.is) rs
-  pub times : All (λ r. All (λ d. r.key ≡ d.key → d.time ≡ r.was) ds) rs
+  pub there : All (HasCall st) rs
 
--- the departure is that of an event that is live
-abbrev pub is_live_departure : State → Departure → Bool
-is_live_departure st d = is_live st (node_of d.key)
+-- the event departs, and its departure is not among these
+abbrev pub is_new_to : List Departure → TimeChange → Bool
+is_new_to ds r = departs r && not (list_any (λ d. is_same d.key r.key) ds)
+
+-- how many departures of these events are not among these
+abbrev pub count_new : List Departure → List TimeChange → ℕ
+count_new ds rs = length (filter (is_new_to ds) rs)
+
+-- the departure is not that of one of these events
+abbrev pub is_of_none : List Node → Departure → Bool
+is_of_none ns d = not (list_any (is_same_node (node_of d.key)) ns)
 
 -- the live events for which another time than theirs is stored, in the order of their keys
-abbrev pub retimed_events : Network → State → StoredTimes → List Retimed
-retimed_events nw st times =
-    map (retimed_at nw st times) (filter (has_another nw st times) (key_order (events st)))
+abbrev pub time_changes_of : Network → State → StoredTimes → List TimeChange
+time_changes_of nw st times =
+    map (time_change_at nw st times) (filter (has_another nw st times) (key_order (events st)))

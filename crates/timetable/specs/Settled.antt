@@ -21,8 +21,7 @@ most_live st = length (live_keys (events st)) + 2 * st.spare_calls
 
 -- so many events can be marked, and fit into lists of these capacities: into the first one twice,
 -- those that a message takes away and those that it leaves
-pub record IsRoomy (most changed_room marks_room retimed_room departures_room : ℕ) : Type 0 where
+pub record IsRoomy (most changed_room marks_room time_changes_room : ℕ) : Type 0 where
   pub changed : 2 * most ≤ changed_room
   pub marks : most ≤ marks_room
-  pub retimed : most ≤ retimed_room
-  pub departures : most ≤ departures_room
+  pub time_changes : most ≤ time_changes_room

@@ -7,7 +7,7 @@ ghost use Rattle.delay_model.specs.Effect.{events_between, stretch};
 ghost use Rattle.delay_model.specs.Events.{events, is_event, live_events, train_events};
 ghost use Rattle.delay_model.specs.Touched.{is_reported, names_of, since_report};
 ghost use Rattle.timetable.specs.LiveTimes.{live_keys};
-ghost use Rattle.timetable.specs.Marking.{taken};
+ghost use Rattle.timetable.specs.Marking.{leaving_of};
 
 use delay_model::state::Event;
 use mt_base::keys::Node;
@@ -76,7 +76,7 @@ fn list_between(list: &mut Vec<Node>, trains: &Trains, t: TrainNo, from: Label, 
 pub(crate) fn list_leaving(list: &mut Vec<Node>, trains: &Trains, s: &Shape<'_>)
     requires empty { list.old.items ≡ [] }
     requires room { length (live_keys (events trains.now)) ≤ vec_capacity list.old }
-    ensures list { list.new.items ≡ names_of (live_events (taken trains.now s.now)) }
+    ensures list { list.new.items ≡ names_of (live_events (leaving_of trains.now s.now)) }
     ensures capacity { vec_capacity list.new ≡ vec_capacity list.old }
 {
     match s {

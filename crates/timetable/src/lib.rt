@@ -4,7 +4,7 @@
 //! nowhere else.
 #![tactic(auto)]
 
-mod departure_list;
+mod departures;
 mod events;
 pub mod laws;
 mod leaving;
@@ -13,9 +13,8 @@ mod loading;
 mod marking;
 mod messages;
 mod prepare;
-mod retiming;
 mod scheduled;
 pub mod timetable;
 
-pub use departure_list::{Departure, Departures};
+pub use dep_order::{Departure, Departures};
 pub use timetable::Timetable;

@@ -3,10 +3,9 @@
 ghost use Rattle.std.specs.Prelude.{◌≡◌, ◌≤◌, IfOk, vec_capacity};
 ghost use Rattle.timetable.specs.Emptied.{AreEmpty};
 
-use crate::departure_list::Departure;
 use mt_base::keys::Node;
 use mt_base::memory::OutOfMemory;
-use propagate::Retimed;
+use propagate::TimeChange;
 use rank_order::Marks;
 use std::alloc::Global;
 
@@ -18,9 +17,7 @@ pub(crate) struct Lists {
     /// The events that are to be settled.
     pub(crate) marks: Marks,
     /// The events to which a message gives other times.
-    pub(crate) retimed: Vec<Retimed>,
-    /// The live departures.
-    pub(crate) departures: Vec<Departure>,
+    pub(crate) time_changes: Vec<TimeChange>,
 }
 
 /// Nothing listed or marked, with room for so many live events, and in the list of those that a
@@ -30,13 +27,11 @@ pub(crate) fn empty_lists(alloc: Global, room: u32) -> Result<Lists, OutOfMemory
 {
     let marks = Marks::build(alloc, room)?;
     let changed = Vec::with_capacity(alloc, 2 * room as usize)?;
-    let retimed = Vec::with_capacity(alloc, room as usize)?;
-    let departures = Vec::with_capacity(alloc, room as usize)?;
+    let time_changes = Vec::with_capacity(alloc, room as usize)?;
     Ok(Lists {
         changed,
         marks,
-        retimed,
-        departures,
+        time_changes,
     })
 }
 
@@ -56,27 +51,21 @@ pub(crate) fn copy_lists(
     alloc: Global,
     changed: &Vec<Node>,
     marks: &Marks,
-    retimed: &Vec<Retimed>,
-    departures: &Vec<Departure>,
+    time_changes: &Vec<TimeChange>,
 ) -> Result<Lists, OutOfMemory>
     ensures changed { IfOk result (λ lists. lists.changed.items ≡ changed.now.items) }
     ensures marks { IfOk result (λ lists. lists.marks ≡ marks.now) }
-    ensures departures { IfOk result (λ lists. lists.departures.items ≡ departures.now.items) }
     ensures changed_room { IfOk result (λ lists.
         vec_capacity changed.now ≤ vec_capacity lists.changed) }
-    ensures retimed_room { IfOk result (λ lists.
-        vec_capacity retimed.now ≤ vec_capacity lists.retimed) }
-    ensures departures_room { IfOk result (λ lists.
-        vec_capacity departures.now ≤ vec_capacity lists.departures) }
+    ensures time_changes_room { IfOk result (λ lists.
+        vec_capacity time_changes.now ≤ vec_capacity lists.time_changes) }
 {
     let marks = marks.copy(alloc)?;
     let changed = copy_with_room(alloc, changed, changed.capacity())?;
-    let retimed = Vec::with_capacity(alloc, retimed.capacity())?;
-    let departures = copy_with_room(alloc, departures, departures.capacity())?;
+    let time_changes = Vec::with_capacity(alloc, time_changes.capacity())?;
     Ok(Lists {
         changed,
         marks,
-        retimed,
-        departures,
+        time_changes,
     })
 }

@@ -1,6 +1,6 @@
 //! The times of all events, and the departures, as they are at first.
 
-ghost use Rattle.std.specs.Prelude.{◌≡◌, ◌<◌, ◌≤◌, [], IsTrue, OnOk, All, true, false, length, vec_capacity};
+ghost use Rattle.std.specs.Prelude.{◌≡◌, ◌+◌, ◌*◌, ◌<◌, ◌≤◌, [], IsTrue, IfOk, OnOk, All, true, false, length, vec_capacity};
 ghost use Rattle.mt_base.specs.Order.{node_of};
 ghost use Rattle.delay_model.specs.declared.state.State.{State as AState};
 ghost use Rattle.delay_model.specs.Events.{events};
@@ -12,13 +12,14 @@ ghost use Rattle.timetable.specs.LiveTimes.{live_keys};
 ghost use Rattle.timetable.specs.Marking.{AreMarksOf};
 ghost use Rattle.timetable.specs.Settled.{IsSettled, HasItsTime, HasTimesFor};
 
-use crate::departure_list::{Departure, list_departures};
+use crate::departures::list_departures;
 use crate::events::{list_keys, live_keys};
 use crate::marking::mark;
 use crate::scheduled::have_schedule_alone;
+use dep_order::DepartureOrder;
 use edge_rules::Graph;
 use mt_base::memory::OutOfMemory;
-use propagate::{Retimed, settle};
+use propagate::{TimeChange, settle};
 use rank_order::Marks;
 use std::alloc::Global;
 use std::sync::ledger::{Blank, Ledger};
@@ -68,62 +69,63 @@ fn time_all<L: Ledger>(
     graph: &Graph,
     times: &mut NodeTimes,
     marks: &mut Marks,
-    retimed: &mut Vec<Retimed>,
+    time_changes: &mut Vec<TimeChange>,
     steps: &mut Steps<L>,
 ) -> Result<(), OutOfMemory>
     requires valid { IsValid graph.now.network graph.now.state }
     requires held { All (λ k. IsTrue (has_time times.old (node_of k)))
         (live_keys (events graph.now.state)) }
     requires unmarked { marks.old.keys ≡ [] }
-    requires empty { retimed.old.items ≡ [] }
-    requires room { length (live_keys (events graph.now.state)) ≤ vec_capacity retimed.old }
+    requires empty { time_changes.old.items ≡ [] }
+    requires room { length (live_keys (events graph.now.state)) ≤ vec_capacity time_changes.old }
     requires marks_room { length (live_keys (events graph.now.state)) ≤ marks.old.room }
     ensures times { OnOk result (All (HasItsTime graph.now.network graph.now.state times.new)
         (live_keys (events graph.now.state))) }
     ensures has_times { (st : AState) → HasTimesFor st times.old → HasTimesFor st times.new }
     ensures unmarked { OnOk result (marks.new.keys ≡ []) }
     ensures marks_room { marks.new.room ≡ marks.old.room }
-    ensures capacity { vec_capacity retimed.new ≡ vec_capacity retimed.old }
+    ensures capacity { vec_capacity time_changes.new ≡ vec_capacity time_changes.old }
 {
     if !store_schedule(graph, times) {
         mark_all(alloc, graph.trains(), marks)?;
-        settle(graph, times, marks, retimed, steps);
+        settle(graph, times, marks, time_changes, steps);
     }
     Ok(())
 }
 
-/// Stores the time of each live event, lists the departures, of which none were listed, and counts
-/// no step.
+/// Stores the time of each live event, and puts the departures in order, with room for one at each
+/// arrival and departure of the calls that are still to be made. It counts no step.
 pub(crate) fn settle_all<L: Ledger>(
     alloc: Global,
     graph: &Graph,
     times: &mut NodeTimes,
     marks: &mut Marks,
-    retimed: &mut Vec<Retimed>,
-    departures: &mut Vec<Departure>,
+    time_changes: &mut Vec<TimeChange>,
     blank: Blank,
-) -> Result<(), OutOfMemory>
+) -> Result<DepartureOrder, OutOfMemory>
     requires name { blank.name ≡ L.name }
     requires parts { blank.parts ≡ L.parts }
     requires some { 0 < blank.parts }
     requires valid { IsValid graph.now.network graph.now.state }
+    requires few { length (live_keys (events graph.now.state)) + 2 * graph.now.state.spare_calls
+        ≤ 2097152 }
     requires has_times { HasTimesFor graph.now.state times.old }
     requires unmarked { marks.old.keys ≡ [] }
-    requires empty { retimed.old.items ≡ [] }
-    requires none { departures.old.items ≡ [] }
+    requires empty { time_changes.old.items ≡ [] }
     requires marks_room { length (live_keys (events graph.now.state)) ≤ marks.old.room }
-    requires retimed_room { length (live_keys (events graph.now.state)) ≤ vec_capacity retimed.old }
-    requires room { length (live_keys (events graph.now.state)) ≤ vec_capacity departures.old }
+    requires time_changes_room { length (live_keys (events graph.now.state))
+        ≤ vec_capacity time_changes.old }
     ensures settled { OnOk result (IsSettled graph.now.network graph.now.state times.new) }
-    ensures departures { OnOk result (departures.new.items
-        ≡ live_departures graph.now.network graph.now.state) }
-    ensures capacity { vec_capacity departures.old ≤ vec_capacity departures.new }
-    ensures retimed_capacity { vec_capacity retimed.new ≡ vec_capacity retimed.old }
+    ensures departures { IfOk result (λ order. order ≡ record {
+      departures = live_departures graph.now.network graph.now.state;
+      spare = 2 * graph.now.state.spare_calls;
+    }) }
+    ensures time_changes_capacity { vec_capacity time_changes.new ≡ vec_capacity time_changes.old }
     ensures unmarked { OnOk result (marks.new.keys ≡ []) }
     ensures marks_room { marks.new.room ≡ marks.old.room }
 {
     let mut steps = Steps::<L>::open(blank);
-    time_all(alloc, graph, times, marks, retimed, &mut steps)?;
-    list_departures(departures, graph.trains(), times, &mut steps);
-    Ok(())
+    time_all(alloc, graph, times, marks, time_changes, &mut steps)?;
+    let list = list_departures(alloc, graph.trains(), times, &mut steps)?;
+    DepartureOrder::build(alloc, &list, 2 * graph.trains().spare_calls())
 }

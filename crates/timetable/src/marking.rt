@@ -1,6 +1,6 @@
 //! Marks the events that a message may give another value: before it is applied those that it names
 //! and those that are fed by an event that it takes away, and after it the events that it makes and
-//! those that these feed first.
+//! those whose times these may change.
 
 ghost use Rattle.std.specs.Prelude.{◌≡◌, ◌≤◌, List, ◌||◌, ◌&&◌, nat_le, [], None, All, Contains, IsTrue, filter, length, vec_capacity};
 ghost use Rattle.std.specs.List.{list_any};
@@ -16,7 +16,7 @@ ghost use Rattle.delay_model.specs.Valid.{IsTrain, IsValid};
 ghost use Rattle.train_nodes.specs.Kinds.{message_of_shape, message_of_value};
 ghost use Rattle.rank_order.specs.Marked.{is_marked};
 ghost use Rattle.timetable.specs.LiveTimes.{live_keys};
-ghost use Rattle.timetable.specs.Marking.{AreMarksOf, AreUnsettled, CanBeMarked, IsMarkedBefore, IsStep, IsStepped, is_fed_first_from, is_fed_from, is_marked_for};
+ghost use Rattle.timetable.specs.Marking.{AreMarksOf, AreUnsettled, CanBeMarked, IsMarkedBefore, IsStateAfter, IsMarkedAndApplied, is_fed_from_new, is_fed_from, is_marked_by};
 
 use crate::leaving::{list_leaving, list_since_report};
 use delay_model::state::Event;
@@ -103,7 +103,7 @@ fn mark_fed_first(graph: &Graph, n: &Node, marks: &mut Marks)
     requires fit { AreMarksOf (events graph.now.state) marks.old }
     ensures fit { AreMarksOf (events graph.now.state) marks.new }
     ensures marked { (q : AKey) → Contains (live_keys (events graph.now.state)) q
-        → is_marked marks.new q ≡ (is_marked marks.old q || is_fed_first_from graph.now q n.now) }
+        → is_marked marks.new q ≡ (is_marked marks.old q || is_fed_from_new graph.now q n.now) }
     ensures room { marks.new.room ≡ marks.old.room }
 {
     let no_time = Time::new(33_554_431);
@@ -112,14 +112,14 @@ fn mark_fed_first(graph: &Graph, n: &Node, marks: &mut Marks)
     }
 }
 
-/// Marks an event that a message made, and each event that it feeds first.
+/// Marks an event that a message made, and each event whose time it may change.
 fn mark_one_made(graph: &Graph, k: &Key, marks: &mut Marks)
     requires live { Contains (live_keys (events graph.now.state)) k.now }
     requires fit { AreMarksOf (events graph.now.state) marks.old }
     ensures fit { AreMarksOf (events graph.now.state) marks.new }
     ensures marked { (q : AKey) → Contains (live_keys (events graph.now.state)) q
         → is_marked marks.new q ≡ (is_marked marks.old q
-        || (is_same k.now q || is_fed_first_from graph.now q (node_of k.now))) }
+        || (is_same k.now q || is_fed_from_new graph.now q (node_of k.now))) }
     ensures room { marks.new.room ≡ marks.old.room }
 {
     mark(marks, k);
@@ -134,13 +134,13 @@ fn is_made(event: &Event, first: u32) -> bool
 }
 
 /// Marks the live events of a train whose labels are new, those from `first` on, and each event
-/// that these feed first.
+/// whose time these may change.
 fn mark_made(graph: &Graph, t: TrainNo, first: u32, marks: &mut Marks)
     requires fit { AreMarksOf (events graph.now.state) marks.old }
     ensures fit { AreMarksOf (events graph.now.state) marks.new }
     ensures marked { (q : AKey) → Contains (live_keys (events graph.now.state)) q
         → is_marked marks.new q ≡ (is_marked marks.old q
-        || list_any (is_marked_for graph.now first q) (train_events graph.now.state t)) }
+        || list_any (is_marked_by graph.now first q) (train_events graph.now.state t)) }
     ensures room { marks.new.room ≡ marks.old.room }
 {
     for event in graph.trains().events(t) {
@@ -211,9 +211,9 @@ pub(crate) fn mark_before(graph: &Graph, m: &Msg, changed: &mut Vec<Node>, marks
 
 /// Marks what a message made that changed the calls of a train, or which of its events take place.
 fn mark_shape(graph: &Graph, s: &Shape<'_>, marks: &mut Marks)
-    requires stepped { IsStepped graph.now (message_of_shape s.now) marks.old }
+    requires stepped { IsMarkedAndApplied graph.now (message_of_shape s.now) marks.old }
     requires room { length (live_keys (events graph.now.state)) ≤ marks.old.room }
-    ensures marked { (st : AState) → IsStep graph.now.network st graph.now.state
+    ensures marked { (st : AState) → IsStateAfter graph.now.network st graph.now.state
         (message_of_shape s.now) → IsMarkedBefore graph.now.network st (message_of_shape s.now)
         marks.old → AreUnsettled graph.now.network st (message_of_shape s.now) marks.new }
     ensures room { marks.new.room ≡ marks.old.room }
@@ -233,13 +233,13 @@ fn mark_shape(graph: &Graph, s: &Shape<'_>, marks: &mut Marks)
 
 /// After a message was applied, before which the events were marked that it names, and those that
 /// are fed by an event that it takes away: takes the marks off events that it took away, and marks
-/// the events that it made, the arrival to which a rerouting leads, and each event that a made one
-/// feeds first. Then the events are marked that may have another value, and no others. It takes no
-/// memory.
+/// the events that it made, the arrival to which a rerouting leads, and each event whose time a made
+/// one may change. Then the events are marked that may have another value, and no others. It takes
+/// no memory.
 pub(crate) fn mark_after(graph: &Graph, m: &Msg, marks: &mut Marks)
-    requires stepped { IsStepped graph.now m.now marks.old }
+    requires stepped { IsMarkedAndApplied graph.now m.now marks.old }
     requires room { length (live_keys (events graph.now.state)) ≤ marks.old.room }
-    ensures marked { (st : AState) → IsStep graph.now.network st graph.now.state m.now
+    ensures marked { (st : AState) → IsStateAfter graph.now.network st graph.now.state m.now
         → IsMarkedBefore graph.now.network st m.now marks.old
         → AreUnsettled graph.now.network st m.now marks.new }
     ensures room { marks.new.room ≡ marks.old.room }

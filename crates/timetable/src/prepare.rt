@@ -13,7 +13,7 @@ use cancel_reroute::apply_shape;
 use edge_rules::Graph;
 use graph_edit::{apply_choice, apply_value};
 use mt_base::keys::Node;
-use propagate::Retimed;
+use propagate::TimeChange;
 use train_nodes::kinds::{Kind, Shape};
 use train_nodes::{Msg, NodeTimes};
 
@@ -50,13 +50,13 @@ pub(crate) fn apply(graph: &mut Graph, times: &mut NodeTimes, m: &Msg)
 }
 
 /// Adds the names of events that get other times to a list.
-pub(crate) fn push_names(changed: &mut Vec<Node>, retimed: &[Retimed])
-    requires { vec_len changed.old + length retimed.now ≤ vec_capacity changed.old }
+pub(crate) fn push_names(changed: &mut Vec<Node>, time_changes: &[TimeChange])
+    requires { vec_len changed.old + length time_changes.now ≤ vec_capacity changed.old }
     ensures names { changed.new.items ≡ changed.old.items
-        ++ map (λ r. node_of r.key) retimed.now }
+        ++ map (λ r. node_of r.key) time_changes.now }
     ensures capacity { vec_capacity changed.new ≡ vec_capacity changed.old }
 {
-    for one in retimed {
+    for one in time_changes {
         changed.push_reserved(one.key.node());
     }
 }

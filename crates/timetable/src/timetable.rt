@@ -16,22 +16,22 @@ ghost use Rattle.timetable.specs.LiveTimes.{live_time};
 ghost use Rattle.timetable.specs.Running.{stepped};
 ghost use Rattle.timetable.specs.Settled.{HasTimesFor, most_live};
 
-use crate::departure_list::{Departure, Departures, departures_from, leave_live};
+use crate::departures::{move_departures, take_departures};
 use crate::events::count_live;
 use crate::lists::{Lists, copy_lists, empty_lists};
 use crate::loading::settle_all;
 use crate::marking::{mark_after, mark_before};
 use crate::messages::check;
 use crate::prepare::{apply, push_names};
-use crate::retiming::move_departures;
 use change_times::Changes;
 use delay_model::messages::Refusal;
+use dep_order::{DepartureOrder, Departures};
 use edge_rules::Graph;
 use mt_base::keys::Node;
 use mt_base::memory::OutOfMemory;
 use mt_base::numbers::Time;
 use mt_base::options::Opts;
-use propagate::{Retimed, settle};
+use propagate::{TimeChange, settle};
 use rank_order::Marks;
 use std::alloc::Global;
 use std::marker::{Brand, Model};
@@ -53,9 +53,9 @@ pub struct Timetable {
     marks: Marks,
     /// The events to which the last accepted message gave other times, with these. It has room for
     /// as many as can be live.
-    retimed: Vec<Retimed>,
-    /// The live departures. It has room for as many as can be live.
-    departures: Vec<Departure>,
+    time_changes: Vec<TimeChange>,
+    /// The live departures. It has room for two at each call that can still be made.
+    departures: DepartureOrder,
 }
 
 impl Model for Timetable {
@@ -110,6 +110,7 @@ impl Timetable {
     ) -> Result<Timetable, OutOfMemory>
         requires valid { IsValid graph.network graph.state }
         requires has_times { HasTimesFor graph.state times }
+        requires few { most_live graph.state ≤ 2097152 }
         requires empty { AreEmpty (most_live graph.state) lists }
         ensures { IfOk result (λ t. t ≡ record {
           network = graph.network;
@@ -120,13 +121,12 @@ impl Timetable {
     {
         let mut times = times;
         let mut lists = lists;
-        settle_all::<Brand>(
+        let departures = settle_all::<Brand>(
             alloc,
             &graph,
             &mut times,
             &mut lists.marks,
-            &mut lists.retimed,
-            &mut lists.departures,
+            &mut lists.time_changes,
             Blank::new(1),
         )?;
         Ok(Timetable {
@@ -135,8 +135,8 @@ impl Timetable {
             count: 0,
             changed: lists.changed,
             marks: lists.marks,
-            retimed: lists.retimed,
-            departures: lists.departures,
+            time_changes: lists.time_changes,
+            departures,
         })
     }
 
@@ -146,21 +146,16 @@ impl Timetable {
     {
         let graph = self.graph.copy(alloc)?;
         let times = self.times.copy(alloc)?;
-        let lists = copy_lists(
-            alloc,
-            &self.changed,
-            &self.marks,
-            &self.retimed,
-            &self.departures,
-        )?;
+        let departures = self.departures.copy(alloc)?;
+        let lists = copy_lists(alloc, &self.changed, &self.marks, &self.time_changes)?;
         Ok(Timetable {
             graph,
             times,
             count: self.count,
             changed: lists.changed,
             marks: lists.marks,
-            retimed: lists.retimed,
-            departures: lists.departures,
+            time_changes: lists.time_changes,
+            departures,
         })
     }
 
@@ -188,19 +183,23 @@ impl Timetable {
     {
         check(&self.graph, m)?;
         mark_before(&self.graph, m, &mut self.changed, &mut self.marks);
+        take_departures(&mut self.departures, self.graph.trains(), &self.changed);
         apply(&mut self.graph, &mut self.times, m);
         mark_after(&self.graph, m, &mut self.marks);
-        self.retimed.clear();
+        self.time_changes.clear();
         settle(
             &self.graph,
             &mut self.times,
             &mut self.marks,
-            &mut self.retimed,
+            &mut self.time_changes,
             steps,
         );
-        leave_live(&mut self.departures, &self.changed, self.graph.trains());
-        move_departures(&mut self.departures, &self.retimed);
-        push_names(&mut self.changed, &self.retimed);
+        move_departures(
+            &mut self.departures,
+            self.graph.trains(),
+            &self.time_changes,
+        );
+        push_names(&mut self.changed, &self.time_changes);
         self.count = self.count.saturating_add(1);
         Ok(self.changed.len() as u64)
     }
@@ -219,7 +218,7 @@ impl Timetable {
     pub fn departures(&self, from: Time) -> Departures<'_>
         ensures { result ≡ departures_from self.now.network self.now.state from }
     {
-        departures_from(&self.departures, from)
+        self.departures.departures_from(from)
     }
 
     /// How many messages were accepted. Past 2^64 - 1 it stays there.

@@ -1,13 +1,14 @@
 -- A cancellation, by the places of calls.
-use Rattle.train_nodes.proofs.WordsShapes.{is_among, change_train, node_at, kill_in, change_calls, stretch, calls_of, Cancel, Event, State, Train, Node, ◌≡◌, ℕ, ◌+◌, ◌-◌, List, Bool, true, false}
-use Rattle.train_nodes.proofs.WordsShapes.{◌&&◌, ◌||◌, not, nat_eq, nat_lt, Some, length, refl, sym, ◌∙◌, ap, subst, arith, slice_get, map, nat_le, get_or, nat_tests, slice_get_within, slice_get_read}
-use Rattle.train_nodes.proofs.WordsShapes.{retain_keys, len, Vec, vec_capacity, Global, stands, IsLineChange, IsChangedBy, nat_eq-is, nat_eq-from, nat_eq-same, IsRowAt, edited-stored, changed-line}
-use Rattle.train_nodes.proofs.WordsShapes.{IsEdit, then-renewed, edited-trains, killed_by, IsKilledCall, IsKilled, IsPartOf, call_of, is_between, IsTrainLine, IsRenewed, IsCurrentAt, NumberedTrain}
-use Rattle.train_nodes.proofs.WordsShapes.{is_end, is_removed, names_removed, first_slot, seen, IsStored, Overrides, Row, Part, StoredCall, Inside, effect}
+use Rattle.train_nodes.proofs.Words.{is_among, change_train, node_at, kill_in, change_calls, stretch, calls_of, Cancel, Event, State, Train, Node, ◌≡◌, ℕ, ◌+◌, ◌-◌, List}
+use Rattle.train_nodes.proofs.Words.{Bool, true, false, ◌&&◌, ◌||◌, not, nat_eq, nat_lt, Some, length, refl, sym, ◌∙◌, ap, subst, arith, slice_get, map, nat_le, get_or}
+use Rattle.train_nodes.proofs.Words.{nat_tests, slice_get_within, slice_get_read, retain_keys, len, Vec, Global, stands, IsLineChange, IsChangedBy, eq-eqb}
+use Rattle.train_nodes.proofs.Words.{eqb-true, nat_eq-same, killed_by, IsKilledCall, IsKilled, IsPartOf, call_of, is_between, IsTrainLine, IsRenewed, IsCurrentAt}
+use Rattle.train_nodes.proofs.Words.{NumberedTrain, is_end, is_removed, names_removed, first_slot, seen, IsStored, Overrides, Row, Part, StoredCall, Inside, effect}
+use Rattle.train_nodes.proofs.Words.{begins, ends, same-tests, standing-test, one-of}
+use Rattle.std.specs.Prelude.{vec_capacity}
 use Rattle.train_nodes.proofs.FoundParts.{IsFoundPart, between-test, found-part, part-found}
-use Rattle.train_nodes.proofs.PartLemmas.{begins, ends, same-tests, standing-test}
 use Rattle.train_nodes.proofs.RemovedLemmas.{cancel-among, removed-seen}
-use Rattle.train_nodes.proofs.TrainLines.{one-of}
+use Rattle.train_nodes.proofs.StoredLemmas.{IsRowAt, edited-stored, changed-line, IsEdit, then-renewed, edited-trains}
 
 -- the row that was read is the train's
 pub row-read : {a : Inside} {t : ℕ} {r : Row} {n : NumberedTrain} {k : ℕ} (x : Row) → IsRowAt a t r n → k ≡ t → x ≡ get_or a.rows.items k x → x ≡ r
@@ -36,13 +37,13 @@ module _ {a : Inside} {t from to : ℕ} {p : Part} {r : Row} {n : NumberedTrain}
   label-test l slot i x c h e =
       same-tests (nat_eq x.label l) (nat_eq i slot)
       (λ yes.
-      let number = rw (e, nat_eq-from x.label l yes) at (w.of.stored.numbered i x h) in
+      let number = rw (e, eqb-true x.label l yes) at (w.of.stored.numbered i x h) in
       let one = sym c.number ∙ number in
-      let same : i ≡ slot = cc in nat_eq-is i slot same)
+      let same : i ≡ slot = cc in eq-eqb i slot same)
       (λ yes.
       let k = w.of.stored.named t l slot c.number in
-      let is = one-of a.calls.items i x k.call h (ap (slice_get a.calls.items) (nat_eq-from i slot yes) ∙ k.stored) in
-      nat_eq-is x.label l (ap (λ (z : StoredCall). z.label) is ∙ k.label_is))
+      let is = one-of a.calls.items i x k.call h (ap (slice_get a.calls.items) (eqb-true i slot yes) ∙ k.stored) in
+      eq-eqb x.label l (ap (λ (z : StoredCall). z.label) is ∙ k.label_is))
 
   -- whether a call of the train stands between the ends
   within-test : (i : ℕ) (x : StoredCall) → slice_get a.calls.items i ≡ Some x → x.train ≡ t → test x.label ≡ (x.current && (nat_lt p.first x.place && nat_lt x.place p.last))
@@ -55,7 +56,7 @@ module _ {a : Inside} {t from to : ℕ} {p : Part} {r : Row} {n : NumberedTrain}
       let first = label-test from p.from i x w.part.start h e ∙ standing-test part i x (begins part) h in
       let last = label-test to p.to i x w.part.end h e ∙ standing-test part i x (ends part) h in
       let within = within-test i x h e in
-      let mine = nat_eq-is x.train t e in
+      let mine = eq-eqb x.train t e in
       let arrival : is_among es (node_at t x.label false) ≡ (x.current && (nat_lt p.first x.place && nat_le x.place p.last)) =
       rw (among-test (node_at t x.label false), nat_eq-same t, last, within, mine) (grind (arith, nat_tests, w.part.order)) in
       let departure : is_among es (node_at t x.label true) ≡ (x.current && (nat_le p.first x.place && nat_lt x.place p.last)) =

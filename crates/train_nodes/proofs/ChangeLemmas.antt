@@ -1,12 +1,10 @@
 -- One train changed: its row, its numbers and its calls, and nothing of other trains.
-use Rattle.train_nodes.proofs.WordsStored.{◌≡◌, ◌≢◌, ℕ, zero, suc, ◌+◌, ◌-◌, ◌<◌, ◌≤◌, inl, inr, List, [], ◌∷◌, true}
-use Rattle.train_nodes.proofs.WordsStored.{Some, length, refl, sym, ◌∙◌, ap, arith, slice_get, map, option_map}
-use Rattle.train_nodes.proofs.WordsStored.{cases_eq, Train, change_train, Row, StoredCall, Inside}
-use Rattle.train_nodes.proofs.WordsStored.{last_label, call_of, slot_after, HasNextReports, IsLineAt, IsPlacedAt}
-use Rattle.train_nodes.proofs.WordsStored.{NumberedTrain, first_slot, line_of, train_by, trains_by, AreLabelled}
-use Rattle.train_nodes.proofs.WordsStored.{IsLinked, IsTrainStored}
+use Rattle.train_nodes.proofs.Words.{◌≡◌, ◌≢◌, ℕ, zero, suc, ◌+◌, ◌-◌, ◌<◌, ◌≤◌, inl, inr, List, [], ◌∷◌, true, Some, length, refl, sym, ◌∙◌, ap, arith, slice_get, map}
+use Rattle.train_nodes.proofs.Words.{option_map, cases_eq, Train, change_train, Row, StoredCall, Inside, last_label, call_of, slot_after, HasNextReports, IsLineAt}
+use Rattle.train_nodes.proofs.Words.{IsPlacedAt, NumberedTrain, first_slot, line_of, train_by, trains_by, AreLabelled, IsLinked, IsTrainStored, same-gets, slot-at}
+use Rattle.train_nodes.proofs.Words.{line-length, placed-linked, placed-at}
 use Rattle.train_nodes.proofs.StoredLemmas.{IsRowAt, kept-line, kept-stored, trains-get}
-use Rattle.train_nodes.proofs.TrainLines.{same-gets, stored-line, slot-at, line-length, placed-linked, placed-at}
+use Rattle.train_nodes.proofs.StoredLines.{stored-line}
 
 -- the calls of other trains stay as they are
 pub record AreOthersKept (t : ℕ) (cs ds : List StoredCall) : Type 0 where

@@ -1,13 +1,9 @@
 -- A change of one event's values, in the storage and in the state.
-use Rattle.train_nodes.proofs.WordsStored.{◌≡◌, ◌≢◌, ℕ, ◌-◌, ◌≤◌, List, Bool, true, false, nat_eq, Some, None, length}
-use Rattle.train_nodes.proofs.WordsStored.{refl, ◌∙◌, subst, arith, slice_get, vec_capacity, inl, inr, set}
-use Rattle.train_nodes.proofs.WordsStored.{Vec, Global, option_map, cond_both, cases_eq, length-set, slice_get_within}
-use Rattle.train_nodes.proofs.WordsStored.{slice_get_cases, Call, change_labelled, change_event, Forecast, Row}
-use Rattle.train_nodes.proofs.WordsStored.{StoredCall, Inside, edited, walk, call_of, call_report, HasPlaces}
-use Rattle.train_nodes.proofs.WordsStored.{HasNextReports, IsEdited, IsRenewed, IsTrainLine, NumberedTrain, Numbering}
-use Rattle.train_nodes.proofs.WordsStored.{slot_of, first_slot, line_of, nat_eq-is, nat_eq-apart}
-use Rattle.train_nodes.proofs.RenewLemmas.{slice_get-set_same, slice_get-set_other}
-use Rattle.train_nodes.proofs.LineLemmas.{IsChangedBy, IsLineChange, KeepsReport, kept-places, kept-reports}
+use Rattle.train_nodes.proofs.Words.{◌≡◌, ◌≢◌, ℕ, List, Bool, true, false, nat_eq, Some, refl, ◌∙◌, subst, arith, slice_get, vec_capacity, inl}
+use Rattle.train_nodes.proofs.Words.{inr, set, Vec, Global, cond_both, cases_eq, length-set, slice_get_within, Call, change_labelled}
+use Rattle.train_nodes.proofs.Words.{change_event, Forecast, Row, StoredCall, Inside, edited, walk, call_of, call_report, HasPlaces, HasNextReports, IsEdited, IsRenewed}
+use Rattle.train_nodes.proofs.Words.{IsTrainLine, NumberedTrain, first_slot, line_of, eq-eqb, nat_eq-apart, slice_get-set_same}
+use Rattle.train_nodes.proofs.Words.{slice_get-set_other, IsChangedBy, IsLineChange, KeepsReport, kept-places, kept-reports}
 use Rattle.train_nodes.proofs.StoredLemmas.{IsRowAt, row-stored, IsFound, IsEdit, then-renewed, changed-line}
 
 module _ (a : Inside) (t l slot : ℕ) (x y : StoredCall) (r : Row) (n : NumberedTrain) (h : Call → Call) (w : IsFound a t l slot x r n) (call : call_of y ≡ h (call_of x)) (rest : IsEdited x y) where
@@ -18,7 +14,7 @@ module _ (a : Inside) (t l slot : ℕ) (x y : StoredCall) (r : Row) (n : Numbere
   new = set old slot y
 
   own-change : IsChangedBy t (change_labelled l h) x y
-  own-change = grind (arith, call, rest, w.train_is, nat_eq-is x.label l w.label_is)
+  own-change = grind (arith, call, rest, w.train_is, eq-eqb x.label l w.label_is)
 
   -- no other call has its label
   other-label : (i : ℕ) (z : StoredCall) → slice_get old i ≡ Some z → i ≢ slot → z.train ≡ t → z.label ≢ l
@@ -70,24 +66,3 @@ renewed-edit a calls t len g mid r n w k e renew capacity =
     let f = first_slot n in
     let done = (rw e at renew) f (changed-line a t g mid r n w k) in
     record { of = w; change = then-renewed t r.len f g a.calls.items mid calls.items k done; capacity = capacity; places = done.places; reports = done.reports }
-
--- with how many calls a train was loaded
-pub record IsLoadedBy (ns : List NumberedTrain) (t k : ℕ) : Type 0 where
-  pub train : NumberedTrain
-  pub there : slice_get ns t ≡ Some train
-  pub loaded : train.loaded ≡ k
-  pub some : 1 ≤ k
-  pub within : k ≤ length train.slots
-
-pub loaded-read : (ns : List NumberedTrain) (t k : ℕ) → ((t : ℕ) (n : NumberedTrain) → slice_get ns t ≡ Some n → (1 ≤ n.loaded) × (n.loaded ≤ length n.slots)) → option_map (λ (n : NumberedTrain). n.loaded) (slice_get ns t) ≡ Some k → IsLoadedBy ns t k
-loaded-read ns t k law h = elim (slice_get_cases ns t).1 [
-  | inl n ↦ grind (arith, n.2, h, law t n.0 n.2)
-  | inr past ↦ grind (arith, past.1, h)
-]
-
--- the slot of its last call
-pub last-there : (nb : Numbering) (t k : ℕ) → IsLoadedBy nb.trains t k → slot_of nb t (k - 1) ≡ None → ⊥
-last-there nb t k w h = elim (slice_get_cases w.train.slots (k - 1)).1 [
-  | inl s ↦ grind (arith, w.there, s.2, h)
-  | inr past ↦ absurd (omega (arith, past.0, w.some, w.within))
-]

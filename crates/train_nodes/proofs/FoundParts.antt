@@ -1,11 +1,12 @@
 -- A part of a train that was found by the labels of its ends.
-use Rattle.train_nodes.proofs.WordsShapes.{is_call, calls_between, calls_of, has_call, stands_before, HasDistinctLabels, Call, State, ◌≡◌, ℕ, zero, suc, ◌+◌, ◌-◌, ◌<◌, ◌≤◌, ◌^◌, inl, inr, List, []}
-use Rattle.train_nodes.proofs.WordsShapes.{◌∷◌, Bool, false, ◌&&◌, nat_lt, None, Some, length, take, drop, refl, sym, ◌∙◌, ap, subst, arith, slice_get, map, ◌⊎◌, Option, MatchOption, is_some}
-use Rattle.train_nodes.proofs.WordsShapes.{cases_Bool, or_parts, cases_lt, nat_tests, take-append-drop, length-map, slice_get_within, list_any, first-within, first-drop, none-any, past-none}
-use Rattle.train_nodes.proofs.WordsShapes.{stands, stands-no-first, stands-no-last, stands-not, between-at, IsRowAt, row-stored, row-calls, IsFound, found, none-named, IsPlacedAt, IsPart, IsPartOf}
-use Rattle.train_nodes.proofs.WordsShapes.{HasNoPart, call_of, slot_after, is_between, IsCurrentAt, HasNoCurrent, NumberedTrain, slot_of, IsFirst, AreInOrder, first_slot, line_of, seen, IsStored, Row}
-use Rattle.train_nodes.proofs.WordsShapes.{Part, StoredCall, Inside, list_any-append}
-use Rattle.train_nodes.proofs.TrainLines.{one-of, stored-line}
+use Rattle.train_nodes.proofs.Words.{is_call, calls_between, calls_of, has_call, stands_before, HasDistinctLabels, Call, State, ◌≡◌, ℕ, zero, suc, ◌+◌, ◌-◌, ◌<◌, ◌≤◌}
+use Rattle.train_nodes.proofs.Words.{◌^◌, inl, inr, List, [], ◌∷◌, Bool, false, ◌&&◌, nat_lt, None, Some, length, take, drop, refl, sym, ◌∙◌, ap, subst, arith, slice_get}
+use Rattle.train_nodes.proofs.Words.{map, ◌⊎◌, Option, MatchOption, is_some, cases_Bool, or_parts, cases_lt, nat_tests, take-append-drop, length-map, slice_get_within}
+use Rattle.train_nodes.proofs.Words.{list_any, first-within, first-drop, none-any, past-none, stands, stands-no-first, stands-no-last, stands-not, between-at, IsPlacedAt}
+use Rattle.train_nodes.proofs.Words.{IsPart, IsPartOf, HasNoPart, call_of, slot_after, is_between, IsCurrentAt, HasNoCurrent, NumberedTrain, slot_of, IsFirst, AreInOrder}
+use Rattle.train_nodes.proofs.Words.{first_slot, line_of, seen, IsStored, Row, Part, StoredCall, Inside, list_any-append, one-of}
+use Rattle.train_nodes.proofs.StoredLemmas.{IsRowAt, row-stored, row-calls, IsFound, found, none-named}
+use Rattle.train_nodes.proofs.StoredLines.{stored-line}
 
 -- where no element passes a test, none of a front or of the rest does
 none-parts : {X : Type 0} (p : X → Bool) (j : ℕ) (xs : List X) → list_any p xs ≡ false → (list_any p (take j xs) ≡ false) × (list_any p (drop j xs) ≡ false)

@@ -1,109 +1,19 @@
 -- A train at the end, in the storage and in the state.
-use Rattle.train_nodes.proofs.WordsStored.{◌≡◌, ℕ, zero, suc, ◌+◌, ◌-◌, ◌<◌, ◌≤◌, ◌^◌, ◌⊎◌, inl, inr, List, []}
-use Rattle.train_nodes.proofs.WordsStored.{◌∷◌, ◌++◌, true, Option, Some, None, length, refl}
-use Rattle.train_nodes.proofs.WordsStored.{sym, ◌∙◌, ap, arith, map, slice_get, vec_capacity, Vec, Global}
-use Rattle.train_nodes.proofs.WordsStored.{option_and_then, cases_lt, length-map, length-append, slice_get_within}
-use Rattle.train_nodes.proofs.WordsStored.{slice_get_cases, NewCall, Call, Train}
-use Rattle.train_nodes.proofs.WordsStored.{begin_run, end_run, new_calls, new_train, TableCall, Row, StoredCall}
-use Rattle.train_nodes.proofs.WordsStored.{Inside, last_label, walk, call_of, report_of, slot_after, HasNextReports}
-use Rattle.train_nodes.proofs.WordsStored.{IsLaid, AreLaid, table_call, table_calls, call_at, loaded_from, loaded_train}
-use Rattle.train_nodes.proofs.WordsStored.{with_train, by_table, NumberedTrain, Numbering, slot_of, slots_from}
-use Rattle.train_nodes.proofs.WordsStored.{with_numbered, first_slot, line_of, train_by, trains_by, seen, IsInLine}
-use Rattle.train_nodes.proofs.WordsStored.{IsLinked, IsTrainStored, IsCallAt, IsStored, numbered-loaded}
-use Rattle.train_nodes.proofs.WordsStored.{numbered-distinct, numbered-below, nat_tests, State}
-use Rattle.train_nodes.proofs.LinkLemmas.{get-more, get-push, get-end}
-use Rattle.train_nodes.proofs.LineLemmas.{walk-next, linked-kept, kept-after}
+use Rattle.train_nodes.proofs.Words.{◌≡◌, ℕ, zero, suc, ◌+◌, ◌-◌, ◌<◌, ◌≤◌, ◌^◌, ◌⊎◌, inl, inr, List, [], ◌∷◌, ◌++◌, true, Some, length, refl, ◌∙◌, ap}
+use Rattle.train_nodes.proofs.Words.{arith, map, slice_get, vec_capacity, Vec, Global, length-map, length-append, slice_get_within}
+use Rattle.train_nodes.proofs.Words.{slice_get_cases, TableCall, Row, StoredCall, Inside}
+use Rattle.train_nodes.proofs.Words.{walk, call_of, slot_after, HasNextReports, IsLaid, AreLaid, call_at, loaded_from, loaded_train}
+use Rattle.train_nodes.proofs.Words.{with_train, NumberedTrain, slots_from, with_numbered, first_slot, line_of, train_by, trains_by, seen}
+use Rattle.train_nodes.proofs.Words.{IsInLine, IsLinked, IsTrainStored, IsCallAt, IsStored, numbered-loaded, numbered-distinct, numbered-below, State}
+use Rattle.train_nodes.proofs.Words.{get-push, walk-next, linked-kept, kept-after, last-loaded, loaded-is, length-loaded, loaded-report}
 use Rattle.train_nodes.proofs.StoredLemmas.{kept-line, kept-stored, same-trains}
-
--- one more call is laid
-pub laid-more : (train first count place : ℕ) (calls : List TableCall) (c : TableCall) (call : Call) (old mid new : List StoredCall) → AreLaid train first calls place old mid → slice_get calls place ≡ Some c → count ≡ length calls → call ≡ call_at count place c → (x : StoredCall) × (new ≡ mid ++ x ∷ []) × IsLaid train first count place call x → AreLaid train first calls (place + 1) old new
-laid-more train first count place calls c call old mid new w there count-is call-is k =
-    let x = k.0 in
-    let more : length new ≡ length mid + 1 = omega (arith, ap length k.1, length-append mid (x ∷ [])) in
-    record {
-      count = omega (arith, w.count);
-      stay = λ i z is. rw k.1 (get-more mid (x ∷ []) i z (w.stay i z is));
-      added = λ at d l is. elim (cases_lt at place) [
-        | inl before ↦ (let z = w.added at d before is in (z.0, rw k.1 (get-more mid (x ∷ []) (length old + at) z.0 z.1), z.2))
-        | inr past ↦ (
-            let here : at ≡ place = omega arith in
-            let same : c ≡ d = (let e = ap (slice_get calls) here in cc) in
-            (x, rw k.1 (get-end mid [] x (length old + at) (omega (arith, w.count))), rw (here, ← same, ← count-is, ← call-is) k.2))
-      ];
-    }
-
-later-loaded : (count k : ℕ) (cs : List TableCall) → 1 ≤ k → count ≡ k + length cs → loaded_from count k cs ≡ end_run (table_calls k cs)
-later-loaded count k [] l e = refl
-later-loaded count k (c ∷ []) l e = grind (arith, nat_tests)
-later-loaded count k (c ∷ d ∷ ds) l e =
-    grind (arith, nat_tests, later-loaded count (k + 1) (d ∷ ds) (omega arith) (omega arith))
-
--- the calls that are stored are those of the train
-pub loaded-is : (cs : List TableCall) → loaded_from (length cs) 0 cs ≡ begin_run (end_run (table_calls 0 cs))
-loaded-is [] = refl
-loaded-is (c ∷ []) = refl
-loaded-is (c ∷ d ∷ ds) =
-    grind (arith, nat_tests, later-loaded (length (c ∷ d ∷ ds)) (0 + 1) (d ∷ ds) (omega arith) (omega arith))
-
-pub length-loaded : (count k : ℕ) (cs : List TableCall) → length (loaded_from count k cs) ≡ length cs
-length-loaded count k [] = refl
-length-loaded count k (c ∷ cs) = ap suc (length-loaded count (k + 1) cs)
-
-extra-calls : (k : ℕ) (cs : List NewCall) → table_calls k (map by_table cs) ≡ new_calls k cs
-extra-calls k [] = refl
-extra-calls k (c ∷ cs) = ap (λ ds. table_call k (by_table c) ∷ ds) (extra-calls (k + 1) cs)
-
--- an extra train is one as the timetable would have it
-pub extra-train : (day route : ℕ) (cs : List NewCall) → loaded_train day route (map by_table cs) ≡ new_train day route cs
-extra-train day route cs = rw (length-map cs by_table, extra-calls 0 cs) refl
-
-pub extra-length : (day route : ℕ) (cs : List NewCall) → length (new_train day route cs).calls ≡ length cs
-extra-length day route cs =
-    let calls = map by_table cs in
-    ap (λ (t : Train). length t.calls) (sym (extra-train day route cs))
-    ∙ ap length (sym (loaded-is calls)) ∙ length-loaded (length calls) 0 calls ∙ length-map cs by_table
-
-slots-length : (first n : ℕ) → length (slots_from first n) ≡ n
-slots-length first zero = refl
-slots-length first (suc n) = ap suc (slots-length (first + 1) n)
-
-slots-at : (first n l : ℕ) → l < n → slice_get (slots_from first n) l ≡ Some (first + l)
-slots-at first zero l h = absurd (omega arith)
-slots-at first (suc n) zero h = ap Some (omega arith)
-slots-at first (suc n) (suc l) h = slots-at (first + 1) n l (omega arith) ∙ ap Some (omega arith)
-
-slots-only : (first n l i : ℕ) → slice_get (slots_from first n) l ≡ Some i → (l < n) × (i ≡ first + l)
-slots-only first n l i h = grind (arith, slots-length first n, slice_get_within (slots_from first n) l i, slots-at first n l)
-
-module _ (nb : Numbering) (n : NumberedTrain) where
-  abbrev slots_with : ℕ → ℕ → Option ℕ
-  slots_with u l = option_and_then (λ (n : NumberedTrain). slice_get n.slots l) (slice_get (nb.trains ++ n ∷ []) u)
-
-  -- with one more train each call keeps its slot
-  slot-stays : (u l i : ℕ) → slot_of nb u l ≡ Some i → slots_with u l ≡ Some i
-  slot-stays u l i h = grind (arith, h, λ (m : NumberedTrain). get-more nb.trains (n ∷ []) u m)
-
-  -- and no others have slots but those of that train
-  slot-only : (u l i : ℕ) → slots_with u l ≡ Some i → (slot_of nb u l ≡ Some i) ⊎ ((u ≡ length nb.trains) × (slice_get n.slots l ≡ Some i))
-  slot-only u l i h = grind (arith, h, λ (m : NumberedTrain). get-push nb.trains n u m)
-
-  slot-new : (l : ℕ) → slots_with (length nb.trains) l ≡ slice_get n.slots l
-  slot-new l = rw (get-end nb.trains [] n (length nb.trains) refl) refl
+use Rattle.train_nodes.proofs.Words.{range-get, range-only, slots-from, slots_at, push-stays, push-only, push-made}
 
 pushed-trains : (cs : List StoredCall) (rs : List Row) (ns : List NumberedTrain) (r : Row) (n : NumberedTrain) → length rs ≡ length ns → trains_by cs (rs ++ r ∷ []) (ns ++ n ∷ []) ≡ trains_by cs rs ns ++ train_by cs r n ∷ []
 pushed-trains cs [] [] r n e = refl
 pushed-trains cs [] (m ∷ ns) r n e = absurd (omega arith)
 pushed-trains cs (q ∷ rs) [] r n e = absurd (omega arith)
 pushed-trains cs (q ∷ rs) (m ∷ ns) r n e = ap (λ ts. train_by cs q m ∷ ts) (pushed-trains cs rs ns r n (omega arith))
-
-loaded-report : (count k : ℕ) (cs : List TableCall) → report_of (loaded_from count k cs) ≡ None
-loaded-report count k [] = refl
-loaded-report count k (c ∷ cs) = grind (arith, loaded-report count (k + 1) cs)
-
-last-loaded : (count k : ℕ) (cs : List TableCall) → 1 ≤ length cs → last_label (loaded_from count k cs) ≡ Some (k + (length cs - 1))
-last-loaded count k [] l = absurd (omega arith)
-last-loaded count k (c ∷ []) l = ap Some (omega arith)
-last-loaded count k (c ∷ d ∷ ds) l = last-loaded count (k + 1) (d ∷ ds) (omega arith) ∙ ap Some (omega arith)
 
 -- a train of the timetable, or an extra one, is stored
 pub record IsLoad (a : Inside) (rows : Vec Row Global) (calls : Vec StoredCall Global) (day route : ℕ) (cs : List TableCall) : Type 0 where
@@ -173,7 +83,7 @@ module _ (a : Inside) (rows : Vec Row Global) (calls : Vec StoredCall Global) (d
       })
 
   first-is : first_slot numbers ≡ start
-  first-is = rw (slots-at a.slots.used (length cs) 0 (omega (arith, w.two))) (omega (arith, w.before.calls_count))
+  first-is = rw (range-get a.slots.used (length cs) 0 (omega (arith, w.two))) (omega (arith, w.before.calls_count))
 
   whole-line : IsNewLine 0 (first_slot numbers) (first_slot numbers) cs (walk calls.items (length cs) (first_slot numbers))
   whole-line = new-line 0 _ _ cs (omega arith) (λ i d is. (let j : 0 + i ≡ i = omega arith in ap (slice_get cs) j ∙ is)) (λ _. omega (arith, first-is)) (λ _. omega (arith, first-is))
@@ -181,7 +91,7 @@ module _ (a : Inside) (rows : Vec Row Global) (calls : Vec StoredCall Global) (d
   new-stored : IsTrainStored spare calls.items number (length cs) numbers
   new-stored =
       let l = whole-line in
-      let next = slots-length a.slots.used (length cs) in
+      let next = slots-from a.slots.used (length cs) in
       let loaded = loaded_from (length cs) 0 cs in
       let numbered = numbered-loaded (length cs) 0 cs in
       let len = length-loaded (length cs) 0 cs in
@@ -234,22 +144,22 @@ module _ (a : Inside) (rows : Vec Row Global) (calls : Vec StoredCall Global) (d
   abbrev pushed : Inside
   pushed = record a { rows = rows; calls = calls; slots = with_numbered (length cs) a.slots }
 
-  pushed-numbered : (i : ℕ) (y : StoredCall) → slice_get calls.items i ≡ Some y → slots_with a.slots numbers y.train y.label ≡ Some i
+  pushed-numbered : (i : ℕ) (y : StoredCall) → slice_get calls.items i ≡ Some y → slots_at (a.slots.trains ++ numbers ∷ []) y.train y.label ≡ Some i
   pushed-numbered i y h = elim (call-cases i y h) [
-    | inl old ↦ slot-stays a.slots numbers y.train y.label i (w.before.numbered i y old)
+    | inl old ↦ push-stays a.slots.trains numbers y.train y.label i (w.before.numbered i y old)
     | inr new ↦ (
         let train : y.train ≡ length a.slots.trains = omega (arith, new.laid.train_is, w.before.rows_count) in
-        let slot = slots-at a.slots.used (length cs) new.place new.within in
-        grind (arith, train, new.laid.call_is, new.slot, slot, slot-new a.slots numbers new.place, w.before.calls_count))
+        let slot = range-get a.slots.used (length cs) new.place new.within in
+        grind (arith, train, new.laid.call_is, new.slot, slot, push-made a.slots.trains numbers new.place, w.before.calls_count))
   ]
 
-  pushed-named : (u l i : ℕ) → slots_with a.slots numbers u l ≡ Some i → IsCallAt calls.items u l i
-  pushed-named u l i h = elim (slot-only a.slots numbers u l i h) [
+  pushed-named : (u l i : ℕ) → slots_at (a.slots.trains ++ numbers ∷ []) u l ≡ Some i → IsCallAt calls.items u l i
+  pushed-named u l i h = elim (push-only a.slots.trains numbers u l i h) [
     | inl old ↦ (
         let k = w.before.named u l i old in
         grind (arith, k, w.laid.stay i k.call k.stored))
     | inr new ↦ (
-        let at = slots-only a.slots.used (length cs) l i new.1 in
+        let at = range-only a.slots.used (length cs) l i new.1 in
         let slot : i ≡ start + l = omega (arith, at.1, w.before.calls_count) in
         let z = new-at l at.0 in
         grind (arith, slot, z, new.0, w.before.rows_count))
@@ -302,6 +212,6 @@ module _ (a : Inside) (rows : Vec Row Global) (calls : Vec StoredCall Global) (d
       (let line = kept-line a.calls.items calls.items u q.len m a.slots.spare_calls 0 (w.before.trains u q m is has) (old-linked u q m is has) in
       let same : train_by calls.items q m ≡ train_by a.calls.items q m = rw line refl in same) in
       let calls-are = whole-line.is ∙ loaded-is cs in
-      let new : train_by calls.items row numbers ≡ loaded_train day route cs = rw (calls-are, slots-length a.slots.used (length cs)) refl in
+      let new : train_by calls.items row numbers ≡ loaded_train day route cs = rw (calls-are, slots-from a.slots.used (length cs)) refl in
       let count : length (loaded_train day route cs).calls ≡ length cs = omega (arith, length-loaded (length cs) 0 cs, ap length (loaded-is cs)) in
       rw (w.added, pushed-trains calls.items rs ns row numbers w.before.rows_count, same-trains a.calls.items calls.items rs ns kept, new, count) refl

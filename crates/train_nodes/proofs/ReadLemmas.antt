@@ -1,17 +1,13 @@
 -- What the look-ups of stored trains read.
-use Rattle.train_nodes.proofs.WordsStored.{◌≡◌, ◌≢◌, ℕ, zero, suc, ◌+◌, ◌-◌, ◌<◌, ◌≤◌, ◌^◌, List, [], ◌∷◌, true, false}
-use Rattle.train_nodes.proofs.WordsStored.{IsTrue, length, get_or, drop, refl, sym, ◌∙◌, ap, arith, Some, None}
-use Rattle.train_nodes.proofs.WordsStored.{slice_get, is_some, map, All, inl, inr, vec_capacity, option_map, length-map}
-use Rattle.train_nodes.proofs.WordsStored.{slice_get_within, slice_get_cases, slice_get_past, slice_get-map}
-use Rattle.train_nodes.proofs.WordsStored.{slice_get-get_or, slice_get_read, Train, State, calls_of, events_at}
-use Rattle.train_nodes.proofs.WordsStored.{train_events, HasDistinctLabels, Row, StoredCall, Inside, call_named}
-use Rattle.train_nodes.proofs.WordsStored.{has_call, first_label, label_after, label_before, walk, call_of, IsCurrentAt}
-use Rattle.train_nodes.proofs.WordsStored.{HasNoCurrent, NumberedTrain, slot_of, first_slot, line_of, train_by, seen}
-use Rattle.train_nodes.proofs.WordsStored.{IsStored}
-use Rattle.train_nodes.proofs.EventLemmas.{event_of_call, label_after-at, label_before-at, label_before-none}
-use Rattle.train_nodes.proofs.LineLemmas.{walk-some, walk-at, linked-next}
-use Rattle.train_nodes.proofs.StoredLemmas.{train-none, seen-length, IsRowAt, row-numbered, row-there, row-stored, row-train}
-use Rattle.train_nodes.proofs.StoredLemmas.{row-calls, IsFound, found, found-named, none-named}
+use Rattle.train_nodes.proofs.Words.{◌≡◌, ◌≢◌, ℕ, suc, ◌+◌, ◌-◌, ◌<◌, ◌≤◌, ◌^◌, List, IsTrue, length, get_or, refl, sym, ◌∙◌, ap, arith}
+use Rattle.train_nodes.proofs.Words.{Some, None, slice_get, is_some, map, All, inl, inr, vec_capacity, option_map, length-map, slice_get_within, slice_get_cases}
+use Rattle.train_nodes.proofs.Words.{slice_get_past, slice_get-map, slice_get-get_or, slice_get_read, Train, State, calls_of, events_at, train_events, HasDistinctLabels}
+use Rattle.train_nodes.proofs.Words.{Row, StoredCall, Inside, call_named, first_label, label_after, label_before, walk, call_of, IsCurrentAt, HasNoCurrent, NumberedTrain}
+use Rattle.train_nodes.proofs.Words.{slot_of, first_slot, line_of, train_by, seen, IsStored, label_after-at, label_before-at, label_before-none}
+use Rattle.train_nodes.proofs.Words.{walk-at, linked-next}
+use Rattle.call_lines.specs.Calls.{has_call}
+use Rattle.train_nodes.proofs.StoredLemmas.{train-none, seen-length, IsRowAt, row-numbered, row-there, row-stored, row-train, row-calls, IsFound, found, found-named}
+use Rattle.train_nodes.proofs.StoredLemmas.{none-named}
 
 -- a train of the state is there
 pub there-seen : (a : Inside) (st : State) (t : ℕ) → IsStored a → seen a ≡ st → t < length st.trains → (t < length a.rows.items) × (t < length a.slots.trains)
@@ -158,20 +154,6 @@ events-read a st t i first r cs s v l e is calls h =
     let slot = rw w.1.number at h in
     let start : first_slot w.0 ≡ first = rw slot refl in
     rw (calls, w.2, ← start) refl
-
--- no events are left where there is no call
-pub walk-none : (cs : List StoredCall) (n s : ℕ) → slice_get cs s ≡ None → walk cs n s ≡ []
-walk-none cs zero s h = refl
-walk-none cs (suc n) s h = rw h refl
-
-module _ (cs : List StoredCall) (left slot : ℕ) (x : StoredCall) (some : left ≢ 0) (stored : slice_get cs slot ≡ Some x) (t route : ℕ) where
-  -- the next event is the arrival of the call in the slot
-  pub next-arrives : events_at t route (map call_of (walk cs left slot)) ≡ event_of_call t route false (call_of x) ∷ drop 1 (events_at t route (map call_of (walk cs left slot)))
-  next-arrives = rw (walk-some cs left slot x some stored) refl
-
-  -- or its departure, after which come the events of the calls after it
-  pub next-departs : drop 1 (events_at t route (map call_of (walk cs left slot))) ≡ event_of_call t route true (call_of x) ∷ events_at t route (map call_of (walk cs (left - 1) x.after))
-  next-departs = rw (walk-some cs left slot x some stored) refl
 
 -- a copy with room is stored as well
 pub copied-stored : (a b : Inside) → IsStored a → b.rows.items ≡ a.rows.items → b.calls.items ≡ a.calls.items → b.slots ≡ a.slots → length b.rows.items + b.slots.spare_trains ≤ vec_capacity b.rows → length b.calls.items + b.slots.spare_calls ≤ vec_capacity b.calls → IsStored b

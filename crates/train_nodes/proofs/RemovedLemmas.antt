@@ -1,10 +1,11 @@
 -- What a cancellation or a rerouting takes out of a train, by the train's calls.
+use Rattle.train_nodes.proofs.Words.{up_to, before, after, is_call, is_among, events_between, calls_between, node_at, stretch, names_one_of, without_overrides_of}
+use Rattle.train_nodes.proofs.Words.{calls_of, events_at, is_event, arrival_of, departure_of, has_call, stands_before, Connection, Call, Event}
+use Rattle.train_nodes.proofs.Words.{State, is_same_node, Node, ◌≡◌, ℕ, ◌+◌, ◌-◌, inl, inr, List, [], ◌∷◌, Bool, true, false, cond, ◌&&◌, ◌||◌, not, nat_eq, None, Some}
+use Rattle.train_nodes.proofs.Words.{refl, sym, ◌∙◌, ap, subst, arith, Option, cases_Bool, and_parts, and_right, eqb-true, nat_tests, slice_get_cases}
+use Rattle.train_nodes.proofs.Words.{retain_keys, len, name-test, is_between, Numbering, is_removed}
+use Rattle.train_nodes.proofs.Words.{names_removed, seen, Overrides, Part, StoredCall, Inside, beq}
 use Rattle.delay_model.specs.Cuts as Cuts
-use Rattle.train_nodes.proofs.WordsShapes.{up_to, before, after, is_call, is_among, events_between, calls_between, node_at, stretch, names_one_of, without_overrides_of, calls_of, events_at, is_event}
-use Rattle.train_nodes.proofs.WordsShapes.{arrival_of, departure_of, connection_cmp, has_call, stands_before, Connection, Override, Call, Event, State, is_same_node, Node, ◌≡◌, ℕ, ◌+◌, ◌-◌, inl, inr}
-use Rattle.train_nodes.proofs.WordsShapes.{List, [], ◌∷◌, Bool, true, false, cond, ◌&&◌, ◌||◌, not, nat_eq, None, Some, length, refl, sym, ◌∙◌, ap, subst, arith, Option, cases_Bool, and_parts}
-use Rattle.train_nodes.proofs.WordsShapes.{and_right, eqb-true, nat_tests, slice_get_cases, passes, retain_keys, len, len-entries, entries-from_sorted, from_sorted, is_sorted, name-test, is_between}
-use Rattle.train_nodes.proofs.WordsShapes.{Numbering, is_removed, names_removed, seen, Overrides, Part, StoredCall, Inside, beq}
 
 turned : (a b : ℕ) → nat_eq a b ≡ nat_eq b a
 turned a b = grind (arith, nat_tests)
@@ -82,10 +83,6 @@ reroute-among st train from to n =
       | inl t ↦ rw (t.2, turned n.train train) (calls-among train t.0.route (calls_between from to t.0.calls) n)
       | inr none ↦ rw none.1 (sym (and_right (nat_eq n.train train) false refl))
     ]
-
--- there are as many entries as rows
-pub sorted-len : (es : List (Connection × Override)) → is_sorted connection_cmp es ≡ true → len (from_sorted {R = connection_cmp} es) ≡ length es
-sorted-len es s = len-entries (from_sorted es) ∙ ap length (entries-from_sorted connection_cmp es (passes _ s))
 
 names-same : (es : List Event) (train : ℕ) (test : ℕ → Bool) (ends : Option (ℕ × ℕ)) → ((n : Node) → is_among es n ≡ is_removed train test ends n) → (p : Connection) → names_removed train test ends p ≡ names_one_of es p
 names-same es train test ends h p = rw (h p.arrival, h p.departure) refl

@@ -1,11 +1,8 @@
 -- The reports after an event, by the calls after its own.
-use Rattle.train_nodes.proofs.WordsSlots.{arith, ◌≡◌, ℕ, zero, suc, List, [], ◌∷◌, Bool, true, false, cond, drop, refl, sym, ◌∙◌, ap, Option, Some, slice_get, map, option_or, option_map_or}
-use Rattle.train_nodes.proofs.WordsSlots.{Node, Call, Train, State, after, is_call, node_at, events_at, is_event, first_report, StoredCall, call_of, live_report, report_of, next_report_of}
-use Rattle.train_nodes.proofs.WordsSlots.{HasNextReports, IsFirst, report_after, line_of, Row, NumberedTrain}
-use Rattle.train_nodes.specs.Stored.{seen}
-use Rattle.train_nodes.specs.declared.trains.Trains.TheInside.{Inside}
-use Rattle.train_nodes.proofs.Numbered.{nat_eq-same}
-use Rattle.train_nodes.proofs.EventLemmas.{name-test}
+use Rattle.train_nodes.proofs.Words.{arith, ◌≡◌, ℕ, zero, suc, List, [], ◌∷◌, Bool, true, false, cond, drop, refl, sym, ◌∙◌, ap, Option, Some, slice_get, map, option_or}
+use Rattle.train_nodes.proofs.Words.{option_map_or, Node, Call, Train, State, after, is_call, node_at, events_at, is_event, first_report, StoredCall, call_of}
+use Rattle.train_nodes.proofs.Words.{live_report, report_of, next_report_of, HasNextReports, IsFirst, report_after, line_of, Row, NumberedTrain, seen, Inside}
+use Rattle.train_nodes.proofs.Words.{nat_eq-same, name-test}
 use Rattle.train_nodes.proofs.StoredLemmas.{IsFound, row-train, row-stored}
 
 -- the first report of calls, by their events

@@ -1,20 +1,21 @@
 -- A rerouting of a stored train.
-use Rattle.train_nodes.proofs.WordsShapes.{is_call, is_among, new_calls, rerouted, change_train, events_between, HasDistinctLabels, Reroute, Call, State, Train, Node, NewCall, ◌≡◌, ◌≢◌, ℕ, zero, suc}
-use Rattle.train_nodes.proofs.WordsShapes.{◌+◌, ◌-◌, ◌<◌, ◌≤◌, inl, inr, List, [], ◌∷◌, ◌++◌, false, ◌&&◌, ◌||◌, not, nat_eq, None, Some, length, take, drop, refl, sym, ◌∙◌, ap, subst, arith}
-use Rattle.train_nodes.proofs.WordsShapes.{slice_get, map, All, append_assoc, unwrap_or, get_or, ◌⊎◌, set, cases_lt, length-append, length-take-le, length-drop, length-set, All-head, All-tail}
-use Rattle.train_nodes.proofs.WordsShapes.{All-append, All-take, All-drop, slice_get_within, retain_keys, len, option_map, Vec, vec_capacity, Global, first-up_to, first-from, IsLineChange}
-use Rattle.train_nodes.proofs.WordsShapes.{nat_eq-apart, numbered-from, numbered-below, numbered-distinct, numbered-new, length-new, IsGrown, calls-grown, change-length, calls-alike}
-use Rattle.train_nodes.proofs.WordsShapes.{slice_get-set_same, slice_get-set_other, slots-from, IsRowAt, row-stored, row-calls, changed-line, last_label, AreReplaced, IsReplaced, IsPartOf, walk}
-use Rattle.train_nodes.proofs.WordsShapes.{call_of, slot_after, is_between, IsLine, IsTrainLine, IsRenewed, HasNextReports, change_at, NumberedTrain, Numbering, slot_of, slots_from, with_more}
-use Rattle.train_nodes.proofs.WordsShapes.{IsFirst, is_end, is_removed, names_removed, first_slot, line_of, train_by, seen, AreLabelled, IsCallAt, IsStored, Overrides, Row, Part, StoredCall, Inside}
-use Rattle.train_nodes.proofs.WordsShapes.{effect}
+use Rattle.train_nodes.proofs.Words.{is_call, is_among, new_calls, rerouted, change_train, events_between, HasDistinctLabels, Reroute, Call, State, Train, Node, NewCall}
+use Rattle.train_nodes.proofs.Words.{◌≡◌, ◌≢◌, ℕ, zero, suc, ◌+◌, ◌-◌, ◌<◌, ◌≤◌, inl, inr, List, [], ◌∷◌, ◌++◌, false, ◌&&◌, ◌||◌, not, nat_eq, None, Some, length, take}
+use Rattle.train_nodes.proofs.Words.{drop, refl, sym, ◌∙◌, ap, subst, arith, slice_get, map, All, append_assoc, unwrap_or, get_or, ◌⊎◌, set, cases_lt, length-append}
+use Rattle.train_nodes.proofs.Words.{length-take-le, length-drop, length-set, All-head, All-tail, All-append, All-take, All-drop, slice_get_within, retain_keys, len}
+use Rattle.train_nodes.proofs.Words.{option_map, Vec, Global, first-up_to, first-from, IsLineChange, nat_eq-apart, numbered-from, numbered-below, numbered-distinct}
+use Rattle.train_nodes.proofs.Words.{numbered-new, length-new, IsGrown, calls-grown, change-length, calls-alike, slice_get-set_same, slice_get-set_other, slots-from}
+use Rattle.train_nodes.proofs.Words.{last_label, AreReplaced, IsReplaced, IsPartOf, walk, call_of, slot_after, is_between, IsLine, IsTrainLine, IsRenewed, HasNextReports}
+use Rattle.train_nodes.proofs.Words.{change_at, NumberedTrain, Numbering, slot_of, slots_from, with_more, IsFirst, is_end, is_removed, names_removed, first_slot, line_of}
+use Rattle.train_nodes.proofs.Words.{train_by, seen, AreLabelled, IsCallAt, IsStored, Overrides, Row, Part, StoredCall, Inside, effect, get-old, IsSplice, spliced}
+use Rattle.train_nodes.proofs.Words.{spliced-begins, spliced-calls, spliced-ends, spliced-last, spliced-line, line-length, line-of, one-of, renewed-line, some-of}
+use Rattle.std.specs.Prelude.{vec_capacity}
 use Rattle.train_nodes.proofs.CancelLemmas.{row-read}
 use Rattle.train_nodes.proofs.ChangeLemmas.{AreOthersKept, IsTrainChange, placed-changed, train-changed, trains-changed}
 use Rattle.train_nodes.proofs.FoundParts.{IsFoundPart, between-test, part-found}
-use Rattle.train_nodes.proofs.PartLemmas.{get-left}
 use Rattle.train_nodes.proofs.RemovedLemmas.{removed-seen, reroute-among}
-use Rattle.train_nodes.proofs.RerouteLines.{IsSplice, spliced, spliced-begins, spliced-calls, spliced-ends, spliced-last, spliced-line}
-use Rattle.train_nodes.proofs.TrainLines.{line-length, line-of, one-of, renewed-line, some-of, stored-line}
+use Rattle.train_nodes.proofs.StoredLemmas.{IsRowAt, row-stored, row-calls, changed-line}
+use Rattle.train_nodes.proofs.StoredLines.{stored-line}
 
 -- labels differ in two lists of calls one after the other, where they do in each and between the two
 apart-append : (xs ys : List Call) → HasDistinctLabels xs → HasDistinctLabels ys → All (λ x. All (λ y. x.label ≢ y.label) ys) xs → HasDistinctLabels (xs ++ ys)
@@ -142,7 +143,7 @@ module _ {a : Inside} {t from to : ℕ} {p : Part} {r : Row} {n : NumberedTrain}
 
   new-first : first_slot m ≡ first_slot n
   new-first =
-      ap (λ o. unwrap_or o 0) (get-left n.slots (slots_from a.slots.used count) 0 (omega arith))
+      ap (λ o. unwrap_or o 0) (get-old n.slots (slots_from a.slots.used count) 0 (omega arith))
 
   more-slots : length m.slots ≡ label + count
   more-slots = omega (arith, slots-from a.slots.used count, length-append n.slots (slots_from a.slots.used count))

@@ -1,18 +1,12 @@
 -- Stored trains and seen ones.
-use Rattle.train_nodes.proofs.WordsStored.{◌≡◌, ◌≢◌, ℕ, zero, suc, ◌+◌, ◌-◌, ◌<◌, ◌≤◌, List, [], ◌∷◌, true, length}
-use Rattle.train_nodes.proofs.WordsStored.{refl, sym, ◌∙◌, ap, subst, arith, Option, Some, None, slice_get, find, map}
-use Rattle.train_nodes.proofs.WordsStored.{All, inl, inr, vec_capacity, Vec, Global, option_map, option_and_then}
-use Rattle.train_nodes.proofs.WordsStored.{cases_eq, length-map, slice_get_within, slice_get_cases, slice_get-map}
-use Rattle.train_nodes.proofs.WordsStored.{get_or_from_slice_get, option_and_then_some, Call, Train, is_call}
-use Rattle.train_nodes.proofs.WordsStored.{change_train, change_calls, calls_of, Row, StoredCall, Inside, call_named}
-use Rattle.train_nodes.proofs.WordsStored.{last_label, walk, call_of, slot_after, HasPlaces, HasNextReports, IsChained}
-use Rattle.train_nodes.proofs.WordsStored.{IsCurrentAt, HasNoCurrent, IsRenewed, IsTrainLine, NumberedTrain, IsFirst}
-use Rattle.train_nodes.proofs.WordsStored.{Overrides, first_slot, line_of, train_by, trains_by, seen, IsLinked}
-use Rattle.train_nodes.proofs.WordsStored.{AreLabelled, IsTrainStored, IsStored, nat_eq-apart}
-use Rattle.train_nodes.proofs.CallPlaces.{label_of, labels-length, All-labels, distinct-labels, at-label, first-cut}
-use Rattle.train_nodes.proofs.LineLemmas.{walk-linked, walk-at, linked-at, IsLineChange, changed-back, changed-length}
-use Rattle.train_nodes.proofs.LineLemmas.{changed-calls, changed-labels, changed-other, changed-linked, changed-chained, changed-mine}
-use Rattle.train_nodes.proofs.LineLemmas.{changed-after}
+use Rattle.train_nodes.proofs.Words.{◌≡◌, ◌≢◌, ℕ, zero, suc, ◌+◌, ◌-◌, ◌<◌, ◌≤◌, List, [], ◌∷◌, true, length, refl, sym, ◌∙◌, ap, subst, arith, Option, Some, None}
+use Rattle.train_nodes.proofs.Words.{slice_get, find, map, All, inl, inr, vec_capacity, Vec, Global, option_map, option_and_then, cases_eq, length-map, slice_get_within}
+use Rattle.train_nodes.proofs.Words.{slice_get_cases, slice_get-map, get_or_from_slice_get, option_and_then_some, Call, Train, is_call, change_train, change_calls}
+use Rattle.train_nodes.proofs.Words.{calls_of, Row, StoredCall, Inside, call_named, last_label, walk, call_of, slot_after, HasPlaces, HasNextReports, IsChained}
+use Rattle.train_nodes.proofs.Words.{IsCurrentAt, HasNoCurrent, IsRenewed, IsTrainLine, NumberedTrain, IsFirst, Overrides, first_slot, line_of, train_by, trains_by, seen}
+use Rattle.train_nodes.proofs.Words.{IsLinked, AreLabelled, IsTrainStored, IsStored, nat_eq-apart, label_of, labels-length, All-labels, distinct-labels, at-label}
+use Rattle.train_nodes.proofs.Words.{first-cut, walk-linked, walk-at, linked-at, IsLineChange, changed-back, changed-length, changed-calls, changed-labels, changed-other}
+use Rattle.train_nodes.proofs.Words.{changed-linked, changed-chained, changed-mine, changed-after, last-at}
 
 -- what stands at a place of the trains that are seen
 abbrev pub seen_at : List StoredCall → Option Row → Option NumberedTrain → Option Train
@@ -132,14 +126,6 @@ none-named a t l s none = elim (slice_get_cases a.slots.trains t).1 [
       let gone = none i x (rw (train, label) at (s.numbered i x h)) h in absurd (cc))))
   | inr past ↦ rw (train-none a t past.1) refl
 ]
-
--- the last label is that at the last place
-pub last-at : (cs : List Call) → last_label cs ≡ option_map label_of (slice_get cs (length cs - 1))
-last-at [] = refl
-last-at (c ∷ []) = refl
-last-at (c ∷ d ∷ ds) =
-    let e : suc (length (d ∷ ds) - 1) ≡ length (c ∷ d ∷ ds) - 1 = omega arith in
-    last-at (d ∷ ds) ∙ ap (λ k. option_map label_of (slice_get (c ∷ d ∷ ds) k)) e
 
 last-same : (cs ds : List Call) → map label_of ds ≡ map label_of cs → last_label ds ≡ last_label cs
 last-same cs ds e =

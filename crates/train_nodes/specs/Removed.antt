@@ -1,9 +1,7 @@
 -- Events of a train that a message takes out.
-use Rattle.std.specs.Prelude.{ℕ, ◌+◌, ◌-◌, Bool, false, ◌&&◌, ◌||◌, not, nat_eq, if◌then◌else◌, Option, Some, None}
-use Rattle.std.specs.FinMap.{retain_keys, len}
+use Rattle.std.specs.Prelude.{ℕ, Bool, false, ◌&&◌, ◌||◌, nat_eq, if◌then◌else◌, Option, Some, None}
 use Rattle.mt_base.specs.declared.keys.Node.{Node}
 use Rattle.delay_model.specs.declared.overrides.Connection.{Connection}
-use Rattle.delay_model.specs.declared.state.State.{State}
 
 -- it is the departure with which a cancelled part begins or the arrival with which it ends, where
 -- these two labels are given
@@ -19,13 +17,3 @@ is_removed train test ends n = nat_eq n.train train && (is_end ends n || test n.
 abbrev pub names_removed : ℕ → (ℕ → Bool) → Option (ℕ × ℕ) → Connection → Bool
 names_removed train test ends p =
     is_removed train test ends p.arrival || is_removed train test ends p.departure
-
--- the overrides that name one of them go, and each gives one back
-abbrev pub without_removed : ℕ → (ℕ → Bool) → Option (ℕ × ℕ) → State → State
-without_removed train test ends st =
-    let left = retain_keys st.overrides (λ p. not (names_removed train test ends p)) in
-    record st {
-      overrides = left;
-      spare_overrides = st.spare_overrides
-          + (len st.overrides - len left);
-    }

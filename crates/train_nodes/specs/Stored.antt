@@ -5,11 +5,11 @@ use Rattle.delay_model.specs.declared.state.Train.{Train}
 use Rattle.delay_model.specs.declared.state.State.{State}
 use Rattle.delay_model.specs.Valid.{HasDistinctLabels}
 use Rattle.train_nodes.specs.declared.rows.Row.{Row}
-use Rattle.train_nodes.specs.declared.stored_call.StoredCall.{StoredCall}
+use Rattle.call_lines.specs.declared.stored_call.StoredCall.{StoredCall}
 use Rattle.train_nodes.specs.declared.trains.Trains.TheInside.{Inside}
-use Rattle.train_nodes.specs.Calls.{last_label}
-use Rattle.train_nodes.specs.Linked.{walk, call_of, slot_after, HasNextReports}
-use Rattle.train_nodes.specs.Numbering.{NumberedTrain, slot_of}
+use Rattle.call_lines.specs.Calls.{last_label}
+use Rattle.call_lines.specs.Linked.{walk, call_of, slot_after, HasNextReports, IsLinked}
+use Rattle.event_numbers.specs.Numbering.{NumberedTrain, slot_of}
 
 -- the slot of a train's first call
 abbrev pub first_slot : NumberedTrain → ℕ
@@ -43,20 +43,6 @@ seen a =
       spare_calls = a.slots.spare_calls;
       spare_overrides = a.overrides.spare;
     }
-
--- the call is one of a train's, at this place, after the call in the slot `before`
-pub record IsInLine (train place before : ℕ) (c : StoredCall) : Type 0 where
-  pub train_is : c.train ≡ train
-  pub place_is : c.place ≡ place
-  pub before_is : c.before ≡ before
-  pub is_current : c.current ≡ true
-
--- these calls of a train are linked both ways, from the one in a slot on
-abbrev pub IsLinked : List StoredCall → ℕ → ℕ → ℕ → ℕ → List StoredCall → Type 0
-IsLinked cs train place before slot [] = Unit {0}
-IsLinked cs train place before slot (x ∷ xs) =
-    (slice_get cs slot ≡ Some x) × IsInLine train place before x
-    × IsLinked cs train (place + 1) slot x.after xs
 
 -- calls of a train: no two have one label, each label is below the next one, and that stays a
 -- number of 31 bits as long as no more than the spare calls are added

@@ -4,9 +4,9 @@ ghost use Rattle.std.specs.Prelude.{◌≡◌, IsTrue};
 ghost use Rattle.delay_model.specs.Events.{is_live};
 ghost use Rattle.delay_model.specs.Effect.{with_event, forecasted, reported};
 
-use crate::calls::Edit;
-use crate::line::{current_slot, renew_train};
 use crate::trains::Trains;
+use call_lines::calls::Edit;
+use call_lines::line::{current_slot, renew_train};
 use mt_base::keys::Node;
 use mt_base::numbers::Time;
 

@@ -1,36 +1,23 @@
-//! Trains, their calls and their events' values, and the stored times of events, in vectors by
-//! number.
+//! Trains with their calls, the values of their events and what was chosen for connections; and the
+//! messages that change them.
 #![tactic(auto)]
 
-pub mod calls;
 mod edits;
-pub mod events;
-pub mod keeps;
 pub mod kinds;
-mod line;
 pub mod messages;
-mod optional_time;
-mod override_rows;
-mod override_table;
 mod removed;
 mod rows;
 mod shapes;
-mod slots;
-pub mod steps;
-mod stored_call;
-pub mod times;
 pub mod trains;
 
-pub use calls::TableCall;
-pub use events::TrainEvents;
-pub use keeps::Keeps;
+pub use call_lines::{TableCall, TrainEvents, calls, events};
+pub use connection_choices::Keeps;
+pub use event_numbers::{NodeTimes, Steps};
 pub use kinds::Kind;
 pub use messages::Msg;
-pub use steps::Steps;
-pub use times::NodeTimes;
 pub use trains::Trains;
 
 #[cfg(test)]
-mod tests;
+mod message_tests;
 #[cfg(test)]
-mod time_tests;
+mod tests;

@@ -1,12 +1,13 @@
 //! Events that a message takes out of a train.
 
 ghost use Rattle.std.specs.Prelude.{◌≡◌};
-ghost use Rattle.train_nodes.specs.Linked.{is_between};
+ghost use Rattle.call_lines.specs.Linked.{is_between};
 ghost use Rattle.train_nodes.specs.Removed.{is_end, is_removed};
 
-use crate::line::current_slot;
-use crate::slots::Slots;
-use crate::stored_call::StoredCall;
+use call_lines::StoredCall;
+use call_lines::line::current_slot;
+use connection_choices::EventSet;
+use event_numbers::Slots;
 use mt_base::keys::Node;
 use mt_base::numbers::{Label, TrainNo};
 
@@ -24,16 +25,15 @@ pub(crate) struct RemovedEvents<'a> {
     pub(crate) ends: Option<(Label, Label)>,
 }
 
-impl RemovedEvents<'_> {
-    /// Whether the event is one of them.
-    pub(crate) fn has(&self, n: &Node) -> bool
-        ensures { result ≡ is_removed self.now.train
-            (is_between self.now.calls.now self.now.slots.now self.now.train self.now.first
-            self.now.last) self.now.ends n.now }
-    {
+impl EventSet for RemovedEvents<'_> {
+    ghost holds = { λ s. is_removed s.train (is_between s.calls.now s.slots.now s.train s.first s.last) s.ends };
+
+    fn has(&self, n: &Node) -> bool {
         n.train == self.train && (self.is_end(n) || self.is_between(n.label))
     }
+}
 
+impl RemovedEvents<'_> {
     fn is_end(&self, n: &Node) -> bool
         ensures { result ≡ is_end self.now.ends n.now }
     {

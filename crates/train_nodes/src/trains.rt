@@ -15,24 +15,23 @@ ghost use Rattle.delay_model.specs.Effect.{effect, with_override, without_overri
 ghost use Rattle.delay_model.specs.Valid.{HasDistinctLabels};
 ghost use Rattle.delay_model.specs.declared.messages.Message.TheVariants as Message;
 ghost use Rattle.delay_model.specs.Overrides.{connection};
-ghost use Rattle.train_nodes.specs.Calls.{call_named, has_call, has_event, first_label, label_after, label_before};
-ghost use Rattle.train_nodes.specs.Keeps.{IsKept, kept_from, kept_into};
+ghost use Rattle.call_lines.specs.Calls.{call_named, has_call, has_event, first_label, label_after, label_before};
+ghost use Rattle.connection_choices.specs.Keeps.{IsKept, kept_from, kept_into};
 ghost use Rattle.train_nodes.specs.Reports.{report_after};
-ghost use Rattle.train_nodes.specs.Linked.{call_of};
-ghost use Rattle.train_nodes.specs.Loaded.{loaded_train, with_train, DoNotFall};
-ghost use Rattle.train_nodes.specs.Times.{AreSized};
+ghost use Rattle.call_lines.specs.Linked.{call_of};
+ghost use Rattle.call_lines.specs.Loaded.{loaded_train, with_train, DoNotFall};
+ghost use Rattle.event_numbers.specs.Times.{AreSized};
 
-use crate::calls::{TableCall, push_calls, push_extra_calls};
-use crate::events::{TrainEvents, stored_event};
-use crate::keeps::Keeps;
-use crate::line::current_slot;
-use crate::override_table::{OverrideTable, connection};
 use crate::rows::Row;
-use crate::slots::Slots;
-use crate::stored_call::StoredCall;
-use crate::times::NodeTimes;
+use call_lines::calls::{push_calls, push_extra_calls};
+use call_lines::events::stored_event;
+use call_lines::line::current_slot;
+use call_lines::{StoredCall, TableCall, TrainEvents};
+use connection_choices::override_table::connection;
+use connection_choices::{Keeps, OverrideTable};
 use delay_model::overrides::Override;
 use delay_model::state::Event;
+use event_numbers::{NodeTimes, Slots};
 use mt_base::keys::{Key, Node};
 use mt_base::memory::{OutOfMemory, copy_with_room};
 use mt_base::numbers::{Day, Label, RouteNo, StopNo, Time, TrainNo};
@@ -355,14 +354,8 @@ impl Trains {
             return TrainEvents::none(t, &self.calls);
         }
         let row = &self.rows[t.get() as usize];
-        TrainEvents {
-            train: t,
-            route: row.route,
-            calls: &self.calls,
-            slot: self.slots.first(t),
-            left: row.len,
-            departs: false,
-        }
+        let first = self.slots.first(t);
+        TrainEvents::new(t, row.route, &self.calls, first, row.len)
     }
 
     /// What a dispatcher chose for the connection from an arrival to a departure. None exactly

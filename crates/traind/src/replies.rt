@@ -180,7 +180,7 @@ fn reply_to_query<L: Ledger>(
 {
     let mut steps = Steps::<L>::open(blank);
     let after = service.timetable.count();
-    match earliest(&service.timetable, query, &mut service.scratch, &mut steps)? {
+    match earliest(&service.timetable, query, &mut service.scratch, &mut steps) {
         Found::Arrives { at } => Ok(Reply::Journey {
             line: number,
             after,

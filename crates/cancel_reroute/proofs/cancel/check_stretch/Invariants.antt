@@ -3,7 +3,7 @@ use Rattle.delay_model.specs.Cuts as Cuts
 use Rattle.delay_model.specs.Cuts.{up_to}
 use Rattle.delay_model.specs.Events.{is_event, train_events}
 use Rattle.delay_model.specs.Refusals.{any_reported}
-use Rattle.cancel_reroute.proofs.Walks.{from_once}
+use Rattle.edge_rules.proofs.Walks.{from_once}
 use Rattle.cancel_reroute.proofs.cancel.check_stretch.Given as goal
 
 -- no event so far that is taken away is reported

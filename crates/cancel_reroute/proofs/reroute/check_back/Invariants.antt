@@ -2,7 +2,7 @@ use Rattle.std.proofs.Common.{◌≡◌}
 use Rattle.delay_model.specs.Cuts as Cuts
 use Rattle.delay_model.specs.Events.{is_event, train_events}
 use Rattle.cancel_reroute.specs.Ranks.{rank_along}
-use Rattle.cancel_reroute.proofs.Walks.{from_once}
+use Rattle.edge_rules.proofs.Walks.{from_once}
 use Rattle.cancel_reroute.proofs.reroute.check_back.Given as goal
 
 -- the edges so far are not against rank

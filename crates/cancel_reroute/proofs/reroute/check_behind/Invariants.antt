@@ -2,7 +2,7 @@ use Rattle.std.proofs.Common.{◌≡◌}
 use Rattle.delay_model.specs.Cuts.{after}
 use Rattle.delay_model.specs.Events.{is_event, train_events}
 use Rattle.delay_model.specs.Refusals.{any_reported}
-use Rattle.cancel_reroute.proofs.Walks.{after_once}
+use Rattle.edge_rules.proofs.Walks.{after_once}
 use Rattle.cancel_reroute.proofs.reroute.check_behind.Given as goal
 
 -- no event so far that stands behind is reported

@@ -8,7 +8,7 @@ use Rattle.conn_scan.proofs.walk.take_next.Goals.{then-arrival, else-arrival}
 pub returns-then-arrival-2-clause-next : goal.returns-then-arrival-2-clause-next
 returns-then-arrival-2-clause-next g c =
     let nw = c.args.t.now.network in
-    let q = c.args.q.now in
+    let q = c.args.asked.now.query in
     let b = c.args.boarding.now in
     let a = c.in_ok-arrival.arrival in
     let old = c.args.known.now in

@@ -1,27 +1,31 @@
-use Rattle.std.proofs.Common.{sym, ◌∙◌, ap, subst}
+use Rattle.std.proofs.Common.{◌≡◌, is_some, sym, ◌∙◌, ap, subst}
+use Rattle.conn_scan.specs.Calls.{calls_after}
 use Rattle.conn_scan.specs.Passed.{IsPassed}
-use Rattle.conn_scan.specs.Scanned.{took_all}
+use Rattle.conn_scan.specs.Scanned.{boarding_of, rides_on, took_all}
+use Rattle.conn_scan.specs.declared.walk.Boarding.{Boarding}
+use Rattle.conn_scan.proofs.AtCall.{at-call, departing-rides}
 use Rattle.conn_scan.proofs.Passed.{took-passed}
-use Rattle.conn_scan.proofs.WalkLemmas.{rides-start, rides-none}
 use Rattle.conn_scan.proofs.walk.take_rides.Goals as goal
+
+pub take_on-requires-clause-there : goal.take_on-requires-clause-there
+take_on-requires-clause-there g c = rw c.boarding_of.ensures (ap is_some (at-call c.args.t.now.network c.args.t.now.state c.requires.valid c.args.d.now c.requires.there).found)
 
 pub returns-clause-taken : goal.returns-clause-taken
 returns-clause-taken g c =
-    let is = rides-start c.args.t.now.network c.args.t.now.state c.args.train c.args.label c.in-Some.boarding (sym c.in-Some.is ∙ c.board_at.ensures) in
-    c.take_on.ensures ∙ ap (λ rs. took_all c.args.t.now.network c.args.q.now rs c.args.known.now) (sym is.0)
-
-pub returns-clause-passed : goal.returns-clause-passed
-returns-clause-passed g c _ =
     let nw = c.args.t.now.network in
     let st = c.args.t.now.state in
-    let q = c.args.q.now in
-    let b = c.in-Some.boarding in
-    let now = c.take_on.new.known in
-    let is = rides-start nw st c.args.train c.args.label b (sym c.in-Some.is ∙ c.board_at.ensures) in
-    let here : IsPassed nw st q now b.train b.label = subst (λ k. IsPassed nw st q k b.train b.label) (sym c.take_on.ensures) (took-passed nw q st b c.args.known.now c.requires.room) in
-    subst (λ t. IsPassed nw st q now t c.args.label) is.1 (subst (IsPassed nw st q now b.train) is.2 here)
+    let q = c.args.asked.now.query in
+    let old = c.args.known.now in
+    let at = at-call nw st c.requires.valid c.args.d.now c.requires.there in
+    let P = λ (b : Boarding). c.take_on.new.known ≡ took_all nw q (rides_on nw st b (calls_after st b.train b.label)) old in
+    subst P c.boarding_of.ensures c.take_on.ensures ∙ ap (λ rs. took_all nw q rs old) (sym (departing-rides nw st c.args.d.now at c.requires.boards))
 
-pub returns-in_default-clause-taken : goal.returns-in_default-clause-taken
-returns-in_default-clause-taken g c =
-    let is = rides-none c.args.t.now.network c.args.t.now.state c.args.train c.args.label (sym c.in_default.is ∙ c.board_at.ensures) in
-    ap (λ rs. took_all c.args.t.now.network c.args.q.now rs c.args.known.now) (sym is)
+pub returns-clause-passed : goal.returns-clause-passed
+returns-clause-passed g c =
+    let nw = c.args.t.now.network in
+    let st = c.args.t.now.state in
+    let q = c.args.asked.now.query in
+    let d = c.args.d.now in
+    let old = c.args.known.now in
+    let P = λ (b : Boarding). c.take_on.new.known ≡ took_all nw q (rides_on nw st b (calls_after st b.train b.label)) old in
+    subst (λ k. IsPassed nw st q k d.key.train d.key.label) (sym (subst P c.boarding_of.ensures c.take_on.ensures)) (took-passed nw q st (boarding_of d) old c.requires.room)

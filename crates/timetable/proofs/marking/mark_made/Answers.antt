@@ -1,6 +1,6 @@
 use Rattle.timetable.proofs.Words.{◌≡◌, ◌&&◌, ◌∙◌, true, false, nat_le, sym, ap, refl, All-head, All-tail, Contains, and_parts, events, train_events, train_events-there}
 use Rattle.propagate.proofs.Ordered.{live-keyed}
-use Rattle.timetable.specs.Marking.{is_marked_for}
+use Rattle.timetable.specs.Marking.{is_marked_by}
 use Rattle.timetable.proofs.Marked.{marking-first, marking-more, marking-skip}
 use Rattle.timetable.proofs.marking.mark_made.Goals as goal
 
@@ -10,7 +10,7 @@ loop-event-init c =
     let vs = train_events g.state c.args.t in
     let all = c.into_iter-event-iterator.ensures.into_iter_gives ∙ c.events-event-items.ensures ∙ ap (λ s. train_events s c.args.t) c.trains.ensures.trains in
     rw all (record {
-      marking = marking-first (events g.state) (is_marked_for g c.args.first) vs vs c.args.marks.now c.requires.fit (λ q. refl);
+      marking = marking-first (events g.state) (is_marked_by g c.args.first) vs vs c.args.marks.now c.requires.fit (λ q. refl);
       there = train_events-there g.state c.args.t;
     })
 

@@ -1,5 +1,5 @@
 use Rattle.timetable.proofs.Words.{All, Contains, events, train_events}
-use Rattle.timetable.specs.Marking.{is_marked_for}
+use Rattle.timetable.specs.Marking.{is_marked_by}
 use Rattle.timetable.proofs.Marked.{IsMarking}
 use Rattle.timetable.proofs.marking.mark_made.Given as goal
 
@@ -7,6 +7,6 @@ use Rattle.timetable.proofs.marking.mark_made.Given as goal
 abbrev pub invariant-loop-event : goal.invariant-loop-event
 invariant-loop-event l =
     record {
-      marking : IsMarking (events l.graph.state) (is_marked_for l.graph l.fn.first) (train_events l.graph.state l.fn.t) l.fn.marks l.event-iterator l.marks;
+      marking : IsMarking (events l.graph.state) (is_marked_by l.graph l.fn.first) (train_events l.graph.state l.fn.t) l.fn.marks l.event-iterator l.marks;
       there : All (Contains (events l.graph.state)) l.event-iterator;
     }

@@ -12,3 +12,6 @@ pub load-requires-clause-has_times : goal.load-requires-clause-has_times
 load-requires-clause-has_times c =
     let e = c.in_ok-times.ensures in
     subst (λ st. HasTimesFor st c.in_ok-times.times) c.trains.ensures.trains (record { sized = e.sized; spare_trains = e.trains; spare_calls = e.calls })
+
+pub load-requires-clause-few : goal.load-requires-clause-few
+load-requires-clause-few c = rw c.in_ok-graph.ensures (omega (arith, live-few (events c.args.trains), c.requires.nodes))

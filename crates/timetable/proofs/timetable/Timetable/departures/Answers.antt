@@ -1,7 +1,7 @@
-use Rattle.timetable.proofs.Departing.{departs-rise, times-rise}
+use Rattle.timetable.proofs.Words.{◌≡◌, ◌∙◌, ap, filter, nat_le, subst, Departure, Running, departures_from}
 use Rattle.timetable.proofs.timetable.Timetable.departures.Goals as goal
 
-pub departures_from-requires : goal.departures_from-requires
-departures_from-requires c =
-    let a = c.self.inside in
-    rw (c.deref.ensures.value, c.self.invariant.departures) (times-rise _ (departs-rise a.graph.network a.graph.state c.self.invariant.settled.valid.trains))
+pub returns : goal.returns
+returns c =
+    subst (λ (r : Running). c.departures_from.result ≡ departures_from r.network r.state c.args.from) c.self.view_is
+    (c.departures_from.ensures ∙ ap (filter (λ (d : Departure). nat_le c.args.from d.time)) c.self.invariant.departures)

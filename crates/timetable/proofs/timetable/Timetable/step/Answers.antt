@@ -1,8 +1,8 @@
-use Rattle.timetable.proofs.Words.{◌∙◌, ◌+◌, ◌≤◌, arith, ap, sym, subst, effect, events, length, Marked, Running}
+use Rattle.timetable.proofs.Words.{◌∙◌, ◌+◌, ◌≤◌, arith, ap, subst, effect, events, length, Marked, Running}
 use Rattle.timetable.specs.Running.{stepped}
 use Rattle.propagate.specs.Reads.{reads_of}
 use Rattle.delay_model.specs.Touched.{changed_count}
-use Rattle.timetable.proofs.{Changed.changed-length, Listing.live-held, Moving.gone-fit, Moving.moved-fit, Moving.moved-live, Moving.none-gone, Moving.retimed-are, Moving.retimed-fit, Prepared.names-are}
+use Rattle.timetable.proofs.{Changed.changed-length, Listing.live-held, Moving.gone-fit, Moving.gone-there, Moving.departures-live, Moving.left-are, Moving.moved-live, Moving.new-fit, Moving.time-changes-are, Moving.time-changes-fit, Prepared.names-are}
 use Rattle.timetable.proofs.Stepping.{step-due, step-made, step-reads, step-values}
 use Rattle.timetable.proofs.timetable.Timetable.step.Goals as goal
 
@@ -39,29 +39,38 @@ settle-requires-clause-settled g c =
 
 pub settle-requires-clause-room : goal.settle-requires-clause-room
 settle-requires-clause-room g c =
-    rw c.apply.ensures.effect (omega (arith, c.apply.ensures.prepared.fewer, c.self.invariant.roomy.retimed, c.clear.ensures.capacity, c.clear.ensures.items, c.clear.new.self.ok.0, ap length c.clear.ensures.items))
+    rw c.apply.ensures.effect (omega (arith, c.apply.ensures.prepared.fewer, c.self.invariant.roomy.time_changes, c.clear.ensures.capacity, c.clear.ensures.items, c.clear.new.self.ok.0, ap length c.clear.ensures.items))
 
 pub settle-requires-clause-marks_room : goal.settle-requires-clause-marks_room
 settle-requires-clause-marks_room g c =
     rw c.apply.ensures.effect (omega (arith, c.apply.ensures.prepared.fewer, c.self.invariant.roomy.marks, c.mark_before.ensures.marks_room, c.mark_after.ensures.room))
 
-pub leave_live-requires : goal.leave_live-requires
-leave_live-requires g c = λ none.
-    rw (c.trains.ensures.trains, c.apply.ensures.effect, c.self.invariant.departures)
-    (none-gone c.self.invariant.settled.valid.trains c.apply.ensures.prepared (sym c.mark_before.ensures.leaving ∙ sym c.deref.ensures.value ∙ none))
+pub take_departures-requires-clause-live : goal.take_departures-requires-clause-live
+take_departures-requires-clause-live g c =
+    let a = c.self.inside.graph in
+    rw (c.trains.ensures.trains, c.self.invariant.departures) (departures-live a.network a.state)
 
-pub move_departures-requires-clause-retimed : goal.move_departures-requires-clause-retimed
-move_departures-requires-clause-retimed g c =
+pub take_departures-requires-clause-there : goal.take_departures-requires-clause-there
+take_departures-requires-clause-there g c =
+    let a = c.self.inside.graph in
+    rw (c.deref.ensures.value, c.mark_before.ensures.leaving, c.trains.ensures.trains) (gone-there a.state (events (effect a.state c.args.m.now)) c.self.invariant.settled.valid.trains)
+
+pub move_departures-requires-clause-changes : goal.move_departures-requires-clause-changes
+move_departures-requires-clause-changes g c =
+    let a = c.self.inside.graph in
+    let trains = c.self.invariant.settled.valid.trains in
     let list = rw (c.clear.ensures.items, c.apply.ensures.effect) at c.settle.ensures.changed in
-    let left = rw (c.trains.ensures.trains, c.apply.ensures.effect, c.self.invariant.departures) at c.leave_live.ensures.live in
-    rw (c.deref-2.ensures.value, list, left) (retimed-are c.self.invariant.settled.valid.trains c.apply.ensures.prepared)
+    let left = rw (c.deref.ensures.value, c.mark_before.ensures.leaving, c.self.invariant.departures, left-are a.network a.state (effect a.state c.args.m.now) trains) at c.take_departures.ensures.departures in
+    rw (c.deref-2.ensures.value, list, left, c.trains-2.ensures.trains, c.apply.ensures.effect) (time-changes-are trains c.apply.ensures.prepared)
 
 pub move_departures-requires-clause-room : goal.move_departures-requires-clause-room
 move_departures-requires-clause-room g c =
+    let a = c.self.inside.graph in
+    let trains = c.self.invariant.settled.valid.trains in
     let p = c.apply.ensures.prepared in
     let list = rw (c.clear.ensures.items, c.apply.ensures.effect) at c.settle.ensures.changed in
-    let left = rw (c.trains.ensures.trains, c.apply.ensures.effect, c.self.invariant.departures) at c.leave_live.ensures.live in
-    rw (c.deref-2.ensures.value, list, left) (omega (arith, moved-fit c.self.invariant.settled.valid.trains p, p.fewer, c.self.invariant.roomy.departures, c.leave_live.ensures.capacity))
+    let left = rw (c.deref.ensures.value, c.mark_before.ensures.leaving, c.self.invariant.departures, left-are a.network a.state (effect a.state c.args.m.now) trains) at c.take_departures.ensures.departures in
+    rw (c.deref-2.ensures.value, list, left) (omega (arith, new-fit trains p, p.made, c.self.invariant.departures_room, c.take_departures.ensures.room))
 
 pub push_names-requires : goal.push_names-requires
 push_names-requires g c =
@@ -70,7 +79,7 @@ push_names-requires g c =
     let list = rw (c.clear.ensures.items, c.apply.ensures.effect) at c.settle.ensures.changed in
     let gone = ap length c.mark_before.ensures.leaving in
     rw (c.deref-3.ensures.value, list)
-    (omega (arith, gone, gone-fit (events a.state) (events (effect a.state c.args.m.now)), retimed-fit c.self.invariant.settled.valid.trains p, p.fewer, c.self.invariant.roomy.changed, c.mark_before.ensures.capacity, c.mark_before.new.changed.ok.0))
+    (omega (arith, gone, gone-fit (events a.state) (events (effect a.state c.args.m.now)), time-changes-fit c.self.invariant.settled.valid.trains p, p.fewer, c.self.invariant.roomy.changed, c.mark_before.ensures.capacity, c.mark_before.new.changed.ok.0))
 
 pub invariant_of-self : goal.invariant_of-self
 invariant_of-self g c =
@@ -78,18 +87,20 @@ invariant_of-self g c =
     let p = c.apply.ensures.prepared in
     let is = c.apply.ensures.effect in
     let list = rw (c.clear.ensures.items, is) at c.settle.ensures.changed in
-    let left = rw (c.trains.ensures.trains, is, c.self.invariant.departures) at c.leave_live.ensures.live in
-    let moved = rw (c.deref-2.ensures.value, list, left) at c.move_departures.ensures.departures in
+    let a = c.self.inside.graph in
+    let left = rw (c.deref.ensures.value, c.mark_before.ensures.leaving, c.self.invariant.departures, left-are a.network a.state (effect a.state c.args.m.now) trains) at c.take_departures.ensures.departures in
+    let moved = rw (c.deref-2.ensures.value, list, left, c.trains-2.ensures.trains, is) at c.move_departures.ensures.departures in
+    let more = rw (c.deref-2.ensures.value, list, left) at c.move_departures.ensures.room in
     let roomy = c.self.invariant.roomy in
     rw is (record {
       settled = record { valid = p.valid; times = rw is at c.settle.ensures.times; has_times = c.settle.ensures.has_times _ p.has_times };
       departures = moved ∙ moved-live trains p;
+      departures_room = omega (arith, more, new-fit trains p, p.made, c.self.invariant.departures_room, c.take_departures.ensures.room);
       unmarked = ap (λ (m : Marked). m.keys) c.settle.ensures.marks;
       roomy = record {
         changed = omega (arith, roomy.changed, p.fewer, c.mark_before.ensures.capacity, c.push_names.ensures.capacity);
         marks = omega (arith, roomy.marks, p.fewer, c.mark_before.ensures.marks_room, c.mark_after.ensures.room, ap (λ (m : Marked). m.room) c.settle.ensures.marks);
-        retimed = omega (arith, roomy.retimed, p.fewer, c.clear.ensures.capacity, c.settle.ensures.capacity);
-        departures = omega (arith, roomy.departures, p.fewer, c.leave_live.ensures.capacity, c.move_departures.ensures.capacity);
+        time_changes = omega (arith, roomy.time_changes, p.fewer, c.clear.ensures.capacity, c.settle.ensures.capacity);
       };
     })
 

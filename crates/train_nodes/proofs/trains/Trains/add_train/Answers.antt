@@ -1,6 +1,7 @@
-use Rattle.train_nodes.proofs.WordsStored.{◌≡◌, length, map, ap, ◌∙◌, refl, length-map, effect, loaded_train, with_train, by_table, with_numbered, Train}
+use Rattle.train_nodes.proofs.Words.{◌≡◌, length, map, ap, ◌∙◌, refl, length-map, effect, loaded_train, with_train, by_table, with_numbered, Train, extra-train}
+use Rattle.train_nodes.proofs.Words.{extra-length}
+use Rattle.train_nodes.proofs.LoadLemmas.{IsLoad, load-from, load-stored, load-seen}
 use Rattle.train_nodes.proofs.StoredLemmas.{seen-length}
-use Rattle.train_nodes.proofs.LoadLemmas.{IsLoad, load-from, load-stored, load-seen, extra-train, extra-length}
 use Rattle.train_nodes.proofs.trains.Trains.add_train.Goals as goal
 
 load : (c : goal.After-push_reserved) → IsLoad c.self.inside c.push_reserved.new.self c.push_extra_calls.new.all c.args.day c.args.route (map by_table c.args.calls.now)

@@ -1,6 +1,5 @@
-use Rattle.train_nodes.proofs.WordsStored.{◌≡◌, ◌*◌, ◌∷◌, List, [], ap, refl, arith, map, length, length-replicate}
-use Rattle.train_nodes.proofs.WordsStored.{IfOk-weaker, Train, Row, StoredCall, NumberedTrain, trains_by, blank_trains}
-use Rattle.train_nodes.proofs.WordsStored.{AreSized, blank_times, no_time}
+use Rattle.train_nodes.proofs.Words.{◌≡◌, ◌*◌, ◌∷◌, List, [], ap, refl, arith, map, length, length-replicate, IfOk-weaker, Train, Row, StoredCall, NumberedTrain}
+use Rattle.train_nodes.proofs.Words.{trains_by, blank_trains, AreSized, blank_times, no_time}
 use Rattle.train_nodes.proofs.trains.Trains.blank_times.Goals as goal
 
 sized : (cs : List StoredCall) (rs : List Row) (ns : List NumberedTrain) → length rs ≡ length ns → map length (map (λ (n : NumberedTrain). blank_times (length n.slots)) ns) ≡ map (λ n. 2 * n) (map (λ (t : Train). t.next_label) (trains_by cs rs ns))

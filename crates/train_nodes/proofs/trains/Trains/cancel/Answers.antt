@@ -1,5 +1,4 @@
-use Rattle.train_nodes.proofs.WordsShapes.{◌∙◌, arith}
-use Rattle.train_nodes.proofs.CallPlaces.{never}
+use Rattle.train_nodes.proofs.Words.{◌∙◌, arith, never}
 use Rattle.train_nodes.proofs.CancelLemmas.{cancelled}
 use Rattle.train_nodes.proofs.FoundParts.{found-part, part-found, stands-found}
 use Rattle.train_nodes.proofs.trains.Trains.cancel.Goals as goal

@@ -1,4 +1,4 @@
-use Rattle.train_nodes.proofs.WordsStored.{ap, length, ◌∙◌, arith, Numbering}
+use Rattle.train_nodes.proofs.Words.{ap, length, ◌∙◌, arith, Numbering}
 use Rattle.train_nodes.proofs.ReadLemmas.{copied-stored}
 use Rattle.train_nodes.proofs.trains.Trains.copy.Goals as goal
 

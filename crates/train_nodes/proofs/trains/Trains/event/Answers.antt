@@ -1,6 +1,4 @@
-use Rattle.std.proofs.Common.{◌∙◌, ap, sym, Some}
-use Rattle.train_nodes.specs.Linked.{call_of}
-use Rattle.train_nodes.proofs.EventLemmas.{event-named}
+use Rattle.train_nodes.proofs.Words.{◌∙◌, ap, sym, Some, call_of, event-named}
 use Rattle.train_nodes.proofs.trains.Trains.event.Goals as goal
 
 pub returns : goal.returns

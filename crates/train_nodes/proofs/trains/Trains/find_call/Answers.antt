@@ -1,4 +1,4 @@
-use Rattle.train_nodes.proofs.WordsStored.{sym}
+use Rattle.train_nodes.proofs.Words.{sym}
 use Rattle.train_nodes.proofs.ReadLemmas.{named-read, none-read, distinct-seen}
 use Rattle.train_nodes.proofs.trains.Trains.find_call.Goals as goal
 

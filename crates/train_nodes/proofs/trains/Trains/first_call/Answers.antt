@@ -1,4 +1,4 @@
-use Rattle.train_nodes.proofs.WordsStored.{refl}
+use Rattle.train_nodes.proofs.Words.{refl}
 use Rattle.train_nodes.proofs.ReadLemmas.{first-read}
 use Rattle.train_nodes.proofs.trains.Trains.first_call.Goals as goal
 

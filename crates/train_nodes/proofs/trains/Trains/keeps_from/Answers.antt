@@ -1,4 +1,4 @@
-use Rattle.train_nodes.proofs.KeepLemmas.{from-each, from-rises}
+use Rattle.train_nodes.proofs.Words.{from-each, from-rises}
 use Rattle.train_nodes.proofs.trains.Trains.keeps_from.Goals as goal
 
 pub returns-clause-each : goal.returns-clause-each

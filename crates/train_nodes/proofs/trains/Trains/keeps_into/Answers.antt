@@ -1,4 +1,4 @@
-use Rattle.train_nodes.proofs.KeepLemmas.{into-each, into-rises}
+use Rattle.train_nodes.proofs.Words.{into-each, into-rises}
 use Rattle.train_nodes.proofs.trains.Trains.keeps_into.Goals as goal
 
 pub returns-clause-each : goal.returns-clause-each

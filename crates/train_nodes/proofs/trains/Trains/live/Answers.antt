@@ -1,5 +1,4 @@
-use Rattle.train_nodes.proofs.WordsStored.{refl}
-use Rattle.train_nodes.proofs.EventLemmas.{live-named}
+use Rattle.train_nodes.proofs.Words.{refl, live-named}
 use Rattle.train_nodes.proofs.trains.Trains.live.Goals as goal
 
 pub returns-in-Some : goal.returns-in-Some

@@ -1,4 +1,4 @@
-use Rattle.train_nodes.proofs.WordsStored.{suc, ◌<◌, sym, ap, ◌∙◌, arith, Some, slice_get_within, Row}
+use Rattle.train_nodes.proofs.Words.{suc, ◌<◌, sym, ap, ◌∙◌, arith, Some, slice_get_within, Row}
 use Rattle.train_nodes.proofs.ReadLemmas.{missing-read, slot-within, found-read, row-is, len-small, after-within, after-last, after-read}
 use Rattle.train_nodes.proofs.trains.Trains.next_call.Goals as goal
 

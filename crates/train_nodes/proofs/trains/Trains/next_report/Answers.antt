@@ -1,4 +1,4 @@
-use Rattle.train_nodes.proofs.WordsStored.{sym, ◌∙◌, arith}
+use Rattle.train_nodes.proofs.Words.{sym, ◌∙◌, arith}
 use Rattle.train_nodes.proofs.ReadLemmas.{missing-read, slot-within, found-read}
 use Rattle.train_nodes.proofs.ReportLemmas.{report-departs, report-arrives}
 use Rattle.train_nodes.proofs.trains.Trains.next_report.Goals as goal

@@ -1,4 +1,4 @@
-use Rattle.train_nodes.proofs.WordsStored.{sym, ap, ◌∙◌, arith, Some}
+use Rattle.train_nodes.proofs.Words.{sym, ap, ◌∙◌, arith, Some}
 use Rattle.train_nodes.proofs.ReadLemmas.{missing-read, slot-within, found-read, before-within, before-first, before-read}
 use Rattle.train_nodes.proofs.trains.Trains.prev_call.Goals as goal
 

@@ -1,6 +1,6 @@
-use Rattle.train_nodes.proofs.WordsStored.{ap, ◌∙◌, loaded_train, with_train}
-use Rattle.train_nodes.proofs.StoredLemmas.{seen-length}
+use Rattle.train_nodes.proofs.Words.{ap, ◌∙◌, loaded_train, with_train}
 use Rattle.train_nodes.proofs.LoadLemmas.{IsLoad, load-from, load-stored, load-seen}
+use Rattle.train_nodes.proofs.StoredLemmas.{seen-length}
 use Rattle.train_nodes.proofs.trains.Trains.push_train.Goals as goal
 
 load : (c : goal.After-push_reserved) → IsLoad c.self.inside c.push_reserved.new.self c.push_calls.new.all c.args.day c.args.route c.args.calls.now

@@ -1,5 +1,4 @@
-use Rattle.train_nodes.proofs.WordsShapes.{State, ◌+◌, ◌-◌, ◌<◌, length, refl, sym, ◌∙◌, ap, subst, arith, with_item, change-length, Numbering, Row}
-use Rattle.train_nodes.proofs.CallPlaces.{never}
+use Rattle.train_nodes.proofs.Words.{State, ◌+◌, ◌-◌, ◌<◌, length, refl, sym, ◌∙◌, ap, subst, arith, with_item, change-length, Numbering, Row, never}
 use Rattle.train_nodes.proofs.CancelLemmas.{row-read}
 use Rattle.train_nodes.proofs.FoundParts.{found-part, part-found, stands-found}
 use Rattle.train_nodes.proofs.RerouteLemmas.{next-label, rerouted-as}

@@ -1,4 +1,4 @@
-use Rattle.train_nodes.proofs.WordsStored.{refl, arith}
+use Rattle.train_nodes.proofs.Words.{refl, arith}
 use Rattle.train_nodes.proofs.ReadLemmas.{there-seen, row-read}
 use Rattle.train_nodes.proofs.trains.Trains.route.Goals as goal
 

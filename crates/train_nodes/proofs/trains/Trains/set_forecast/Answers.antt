@@ -1,7 +1,6 @@
-use Rattle.train_nodes.proofs.WordsStored.{ap, refl, with_item, with_event, change_event, change_labelled, forecasted, Forecast, edited, Row, NumberedTrain}
-use Rattle.train_nodes.proofs.EventLemmas.{live-there}
-use Rattle.train_nodes.proofs.ReadLemmas.{found-read, missing-read, distinct-seen}
+use Rattle.train_nodes.proofs.Words.{ap, refl, with_item, with_event, change_event, change_labelled, forecasted, Forecast, edited, Row, NumberedTrain, live-there}
 use Rattle.train_nodes.proofs.EditLemmas.{slot-edit, forecast-reports}
+use Rattle.train_nodes.proofs.ReadLemmas.{found-read, missing-read, distinct-seen}
 use Rattle.train_nodes.proofs.StoredLemmas.{IsEdit, edited-stored, edited-trains}
 use Rattle.train_nodes.proofs.trains.Trains.set_forecast.Goals as goal
 

@@ -1,7 +1,6 @@
-use Rattle.train_nodes.proofs.WordsStored.{ap, with_event, change_event, change_labelled, reported, Report, edited, Row, NumberedTrain}
-use Rattle.train_nodes.proofs.EventLemmas.{live-there}
-use Rattle.train_nodes.proofs.ReadLemmas.{found-read, missing-read, distinct-seen, row-is}
+use Rattle.train_nodes.proofs.Words.{ap, with_event, change_event, change_labelled, reported, Report, edited, Row, NumberedTrain, live-there}
 use Rattle.train_nodes.proofs.EditLemmas.{slot-changed, renewed-edit}
+use Rattle.train_nodes.proofs.ReadLemmas.{found-read, missing-read, distinct-seen, row-is}
 use Rattle.train_nodes.proofs.StoredLemmas.{IsEdit, edited-stored, edited-trains}
 use Rattle.train_nodes.proofs.trains.Trains.set_report.Goals as goal
 

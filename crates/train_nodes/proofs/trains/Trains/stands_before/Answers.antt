@@ -1,4 +1,4 @@
-use Rattle.train_nodes.proofs.WordsShapes.{◌∙◌}
+use Rattle.train_nodes.proofs.Words.{◌∙◌}
 use Rattle.train_nodes.proofs.FoundParts.{stands-found}
 use Rattle.train_nodes.proofs.trains.Trains.stands_before.Goals as goal
 

@@ -1,0 +1,11 @@
+pub mod CallPlaces
+pub mod EventLemmas
+pub mod LineLemmas
+pub mod LoadedLemmas
+pub mod NextEvents
+pub mod Numbered
+pub mod PartLemmas
+pub mod RenewLemmas
+pub mod RerouteLines
+pub mod TrainLines
+pub mod Words

@@ -1,0 +1,10 @@
+use Rattle.call_lines.proofs.Words.{◌≡◌, ℕ, vec_capacity, IsLine}
+use Rattle.call_lines.proofs.RenewLemmas.{IsPartlyRenewed}
+use Rattle.call_lines.proofs.line.renew_line.Given as goal
+
+-- the calls from a place on were gone through, and those before it are to come
+abbrev pub invariant-loop-place : goal.invariant-loop-place
+invariant-loop-place l =
+    (vec_capacity l.calls ≡ vec_capacity l.fn.calls)
+    × ((train first : ℕ) → IsLine train first l.fn.last l.fn.len l.fn.calls.items
+    → IsPartlyRenewed train first l.fn.last l.fn.len l.place l.fn.calls.items l.calls.items l.slot l.next_report)

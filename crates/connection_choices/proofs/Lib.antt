@@ -1,0 +1,4 @@
+pub mod Words
+pub mod PlaceLemmas
+pub mod OverrideOrders
+pub mod KeepLemmas

@@ -1,0 +1,135 @@
+-- A key gets the next number.
+use Rattle.dep_order.proofs.Words.{◌≡◌, ◌≢◌, ℕ, ◌⊎◌, inl, inr, ◌+◌, ◌<◌, ◌≤◌, ◌^◌, List, [], ◌∷◌, Some, true, refl, sym, ◌∙◌, ap, subst, arith, length, map, slice_get, get_or, length-map, slice_get_within, cases_order, Departure, Added, Numbers, AreNumbers, Has, HasNumber, given}
+use Rattle.std.proofs.lemmas.List.{get_or-map}
+use Rattle.std.proofs.Common.{All, IfNone, Option, None, vec_capacity}
+use Rattle.std.specs.List.{AllPairs, insert}
+use Rattle.std.proofs.lemmas.List.Edits.{length-insert}
+use Rattle.mt_base.specs.declared.keys.Key.{Key}
+use Rattle.mt_base.specs.Order.{is_before}
+use Rattle.dep_order.proofs.NumberLemmas.{IsPlace, before-apart, has-at, has-insert, has-still, insert-all, insert-ascends, insert-has}
+
+-- keys in order have different places
+place-one : (ks : List Key) → AllPairs (λ a b. is_before a b ≡ true) ks → (k : Key) (m n : ℕ) → slice_get ks m ≡ Some k → slice_get ks n ≡ Some k → m ≡ n
+place-one ks up k m n h l =
+    let a = has-at ks m k k h in
+    let b = has-at ks n k k l in
+    elim (cases_order m n) [
+      | inl e ↦ e
+      | inr (inl low) ↦ absurd (before-apart (get_or ks m k) (get_or ks n k) (up m n k low b.0) (a.1 ∙ sym b.1))
+      | inr (inr high) ↦ absurd (before-apart (get_or ks n k) (get_or ks m k) (up n m k high a.0) (b.1 ∙ sym a.1))
+    ]
+
+-- an element at a place in a list
+some-at : {X : Type 0} (xs : List X) (i : ℕ) → i < length xs → X
+some-at [] i l = absurd (omega arith)
+some-at (x ∷ xs) i l = x
+
+ascend-map : (ds : List Departure) → AllPairs (λ a b. is_before a.key b.key ≡ true) ds → AllPairs (λ a b. is_before a b ≡ true) (map (λ (d : Departure). d.key) ds)
+ascend-map ds up i j k l m =
+    let key : Departure → Key = λ d. d.key in
+    let len = length-map ds key in
+    let d = some-at ds i (omega arith) in
+    rw (get_or-map key ds i d k (omega arith), get_or-map key ds j d k (omega arith)) (up i j d l (omega arith))
+
+-- all numbers are below the next one
+pub number-below : (ns : Numbers) → AreNumbers ns → (k : Key) (n : ℕ) → HasNumber ns k n → n < given ns
+number-below ns h k n (inl at) = let l = slice_get_within ns.loaded.items n k at in omega arith
+number-below ns h k n (inr (i, at)) =
+    let a : Added = record { key = k; number = n } in
+    let r = has-at ns.added.items i a a at in
+    let l = h.later i a r.0 in
+    rw r.1 at l.1
+
+-- the same numbers, with as much room
+pub same-numbers : (ns ms : Numbers) → AreNumbers ns → ms.loaded.items ≡ ns.loaded.items → ms.added.items ≡ ns.added.items → ms.room ≡ ns.room → length ns.added.items + ms.room ≤ vec_capacity ms.added → AreNumbers ms
+same-numbers ns ms h e f g cap =
+    record {
+      loaded = rw e h.loaded;
+      added = rw f h.added;
+      later = rw (e, f) h.later;
+      one = rw (e, f) h.one;
+      own = rw (e, f) h.own;
+      fits = rw (f, g) h.fits;
+      room = omega arith;
+      few = rw (e, g) h.few;
+    }
+
+-- the keys of departures by their places
+pub first-numbers : (ns : Numbers) (ds : List Departure) (room : ℕ) → AllPairs (λ a b. is_before a.key b.key ≡ true) ds → length ds + room ≤ 2 ^ 22 → ns.loaded.items ≡ map (λ d. d.key) ds → ns.added.items ≡ [] → ns.room ≡ room → room ≤ vec_capacity ns.added → AreNumbers ns
+first-numbers ns ds room up few e f g cap =
+    let keys : AllPairs (λ a b. is_before a b ≡ true) (map (λ (d : Departure). d.key) ds) = ascend-map ds up in
+    record {
+      loaded = rw e keys;
+      added = rw f (λ i j d l m. absurd (omega arith));
+      later = rw f (λ i d l. absurd (omega arith));
+      one = rw (e, f) (λ k m n a b. elim a [
+        | inl at ↦ elim b [ inl also ↦ place-one _ keys k m n at also | inr none ↦ (let x = none.1 in absurd (cc)) ]
+        | inr none ↦ (let x = none.1 in absurd (cc))
+      ]);
+      own = rw (e, f) (λ k l n a b. elim a [
+        | inl at ↦ elim b [ inl also ↦ cc | inr none ↦ (let x = none.1 in absurd (cc)) ]
+        | inr none ↦ (let x = none.1 in absurd (cc))
+      ]);
+      fits = rw f (omega arith);
+      room = omega arith;
+      few = rw (e, length-map ds (λ (d : Departure). d.key), g) few;
+    }
+
+module _ (ns ms : Numbers) (k : Key) (p : ℕ) (h : AreNumbers ns) (room : length ns.added.items < ns.room) (new : (n : ℕ) → HasNumber ns k n → ⊥) (bound : p ≤ length ns.added.items) (at : IsPlace (λ (a : Added). a.key) ns.added.items k h.added p) (e : ms.loaded.items ≡ ns.loaded.items) (f : ms.added.items ≡ insert ns.added.items p (record { key = k; number = given ns })) (g : ms.room ≡ ns.room) (cap : vec_capacity ns.added ≤ vec_capacity ms.added) where
+  abbrev next : Added
+  next = record { key = k; number = given ns }
+
+  pub still : (l : Key) (n : ℕ) → HasNumber ns l n → HasNumber ms l n
+  still l n (inl own) = inl (rw e own)
+  still l n (inr there) = inr (rw f (has-still ns.added.items p next (record { key = l; number = n }) there))
+
+  pub has-next : HasNumber ms k (given ns)
+  has-next = inr (rw f (has-insert ns.added.items p next))
+
+  -- a number is an old one, or the new one
+  split : (l : Key) (n : ℕ) → HasNumber ms l n → HasNumber ns l n ⊎ ((l ≡ k) × (n ≡ given ns))
+  split l n (inl own) = inl (inl (rw e at own))
+  split l n (inr there) =
+      let a : Added = record { key = l; number = n } in
+      elim (insert-has ns.added.items p next a (rw f at there)) [
+        | inl same ↦ inr (ap (λ (x : Added). x.key) (sym same), ap (λ (x : Added). x.number) (sym same))
+        | inr old ↦ inl (inr old)
+      ]
+
+  more : length ms.added.items ≡ length ns.added.items + 1
+  more = rw f (length-insert ns.added.items p next bound)
+
+  none-of : (x : Added) → Has ns.added.items x → x.key ≢ k
+  none-of x there own = new x.number (inr (rw (← own) there))
+
+  pub added-numbers : AreNumbers ms
+  added-numbers =
+      record {
+        loaded = rw e h.loaded;
+        added = rw f (insert-ascends (λ (a : Added). a.key) ns.added.items k h.added p next at refl none-of);
+        later = subst (All (λ a. (length ms.loaded.items ≤ a.number) × (a.number < given ms))) (sym f) (insert-all (λ a. (length ms.loaded.items ≤ a.number) × (a.number < given ms)) ns.added.items p next
+            (λ i d l. let old = h.later i d l in let len = ap length e in (omega (arith, old.0), omega (arith, old.1, more)))
+            (let len = ap length e in (omega arith, omega (arith, more))));
+        one = λ l m n a b. elim (split l m a) [
+          | inl old ↦ elim (split l n b) [ inl also ↦ h.one l m n old also | inr (is, last) ↦ absurd (new m (rw is at old)) ]
+          | inr (is, last) ↦ elim (split l n b) [ inl old ↦ absurd (new n (rw is at old)) | inr (also, also_last) ↦ last ∙ sym also_last ]
+        ];
+        own = λ l m n a b. elim (split l n a) [
+          | inl old ↦ elim (split m n b) [ inl also ↦ h.own l m n old also | inr (is, last) ↦ (let low = number-below ns h l n old in absurd (omega arith)) ]
+          | inr (is, last) ↦ elim (split m n b) [ inl old ↦ (let low = number-below ns h m n old in absurd (omega arith)) | inr (also, also_last) ↦ is ∙ sym also ]
+        ];
+        fits = omega (arith, more);
+        room = omega (arith, h.room);
+        few = rw (e, g) h.few;
+      }
+
+-- a key without a number
+pub no-number : (ns : Numbers) (k : Key) (o : Option ℕ) → ((q : Key) → Has ns.loaded.items q → q ≢ k) → IfNone o (All (λ a. a.key ≢ k) ns.added.items) → IfNone o ((n : ℕ) → HasNumber ns k n → ⊥)
+no-number ns k (Some m) none h = tt
+no-number ns k None none h = λ n has. elim has [
+  | inl at ↦ none k (n, at) refl
+  | inr (i, at) ↦ (
+      let a : Added = record { key = k; number = n } in
+      let r = has-at ns.added.items i a a at in
+      h i a r.0 (ap (λ (x : Added). x.key) r.1))
+]

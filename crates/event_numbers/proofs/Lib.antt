@@ -1,0 +1,9 @@
+pub mod LinkLemmas
+pub mod ListLemmas
+pub mod NumberTests
+pub mod NumberingLemmas
+pub mod SlotLemmas
+pub mod SlotTimeLemmas
+pub mod StoredSlotLemmas
+pub mod TimeLemmas
+pub mod Words

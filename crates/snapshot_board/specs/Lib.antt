@@ -1,0 +1,10 @@
+pub mod Histories
+pub mod States
+pub mod Operations
+pub mod Knowledge
+pub mod Looks
+pub mod Meetings
+pub mod Boards
+pub mod Machines
+pub mod Runs
+pub mod Viewers

@@ -1,0 +1,23 @@
+//! Values that take messages one after another.
+
+ghost use Rattle.std.specs.Prelude.{◌≡◌};
+
+/// A value whose meaning after a message is a function of its meaning before and of the message.
+/// A step takes every message, wants no memory and always returns.
+pub trait Replay: Drop {
+    /// What is posted.
+    type Msg: Drop;
+
+    /// The type of the meaning. No value of it is made.
+    type State;
+
+    /// What a value means.
+    ghost meaning: { Self → Self.State };
+
+    /// The meaning after a message.
+    ghost after: { Self.State → Self.Msg → Self.State };
+
+    /// Takes a message.
+    fn step(&mut self, m: &Self::Msg)
+        ensures { meaning self.new ≡ after (meaning self.old) m.now };
+}

@@ -1,0 +1,24 @@
+//! A small value: a sum, whose messages are added.
+
+ghost use Rattle.std.specs.Prelude.{◌+◌, ◌%◌, ◌^◌};
+
+use crate::replay::Replay;
+
+#[derive(Drop)]
+pub struct Sum {
+    pub total: u64,
+}
+
+impl Replay for Sum {
+    type Msg = u32;
+
+    type State = u64;
+
+    ghost meaning = { λ s. s.total };
+
+    ghost after = { λ n m. (n + m) % 2 ^ 64 };
+
+    fn step(&mut self, m: &u32) {
+        self.total = self.total.wrapping_add(u64::from(*m));
+    }
+}

@@ -1,7 +1,0 @@
-use Rattle.timetable.proofs.Words.{events, live_keys}
-use Rattle.timetable.proofs.Departing.{IsListedTo}
-use Rattle.timetable.proofs.departure_list.list_departures.Given as goal
-
--- the departures so far are listed
-abbrev pub invariant-loop-k : goal.invariant-loop-k
-invariant-loop-k g l = IsListedTo l.times (live_keys (events l.trains)) l.k-iterator l.fn.departures l.departures

@@ -1,0 +1,7 @@
+use Rattle.timetable.proofs.Words.{events, live_keys}
+use Rattle.timetable.proofs.Departing.{IsListedTo}
+use Rattle.timetable.proofs.departures.list_departures.Given as goal
+
+-- the departures so far are listed
+abbrev pub invariant-loop-k : goal.invariant-loop-k
+invariant-loop-k g l = IsListedTo l.trains l.times (live_keys (events l.trains)) l.k-iterator l.list.items

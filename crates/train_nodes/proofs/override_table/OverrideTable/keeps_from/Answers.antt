@@ -1,5 +1,0 @@
-use Rattle.train_nodes.proofs.KeepLemmas.{found-from}
-use Rattle.train_nodes.proofs.override_table.OverrideTable.keeps_from.Goals as goal
-
-pub returns : goal.returns
-returns c = rw (← c.self.view_is, c.rows_at.ensures, c.deref.ensures.value) (found-from c.args.arrival.now c.self.inside.by_arrival.items c.self.inside.by_departure.items c.self.invariant.choices)

@@ -1,5 +1,0 @@
-use Rattle.train_nodes.proofs.WordsSlots.{◌≡◌, with_more}
-use Rattle.train_nodes.proofs.slots.Slots.add_calls.Given as goal
-
-abbrev pub invariant-loop : goal.invariant-loop
-invariant-loop l = l.self ≡ with_more l.t l.counter l.fn.self

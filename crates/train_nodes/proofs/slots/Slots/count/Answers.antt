@@ -1,6 +1,0 @@
-use Rattle.train_nodes.proofs.WordsSlots.{arith}
-use Rattle.train_nodes.proofs.SlotLemmas.{numbered-length}
-use Rattle.train_nodes.proofs.slots.Slots.count.Goals as goal
-
-pub returns : goal.returns
-returns c = rw (← c.self.view_is) (omega (arith, numbered-length c.self.inside.added.items 0 c.self.inside.rows.items))

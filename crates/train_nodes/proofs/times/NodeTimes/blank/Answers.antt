@@ -1,5 +1,0 @@
-use Rattle.train_nodes.proofs.SlotTimeLemmas.{blank-seen}
-use Rattle.train_nodes.proofs.times.NodeTimes.blank.Goals as goal
-
-pub returns : goal.returns
-returns c = rw (c.in_ok-copy.ensures, blank-seen _ _ c.args.slots.now.trains c.in_ok-blank_times.ensures)
