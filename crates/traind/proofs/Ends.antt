@@ -1,47 +1,28 @@
--- How a run ends: what a feed holds, and what the lines leave.
-use Rattle.std.proofs.Common.{◌≡◌, ◌∙◌, ℕ, List, [], ◌++◌, Option, Some, None, Result, Ok, Err, sym, subst, ap, refl, true, false}
-use Rattle.std.proofs.KnownBytes.{Appends-nil}
-use Rattle.std.proofs.lemmas.List.{append-nil}
-use Rattle.std.proofs.lemmas.Option.{none-some}
-use Rattle.std.specs.Io.KnownBytes.{Consumes, IsAtEnd}
+-- How a run ends.
+use Rattle.std.proofs.Common.{◌≡◌, Result, Ok, Err, sym, subst}
 use Rattle.std.specs.Prelude.{IfErr, OnOk}
 use Rattle.std.specs.Result.{IsErrAnd}
-use Rattle.delay_model.specs.declared.network.Network.{Network}
-use Rattle.delay_model.specs.declared.state.State.{State}
-use Rattle.delay_report.specs.Table.{table}
-use Rattle.mt_io.specs.Lines.{Line, lines_of}
-use Rattle.mt_io.specs.Reader.{Reader, IsDone}
-use Rattle.mt_io.proofs.Gives.{consumes_none}
-use Rattle.mt_io.proofs.Runs.{ends}
-use Rattle.schedule_build.specs.Directory.{Names}
+use Rattle.information_service.specs.declared.fault.LinesFault.{LinesFault}
+use Rattle.information_service.specs.declared.fault.LinesFault.TheVariants as lines
+use Rattle.information_service.specs.Causes as stops
 use Rattle.traind.specs.declared.status.Fault.{Fault}
 use Rattle.traind.specs.declared.status.Fault.TheVariants.{Usage, FeedRefused, ReadFault, WriteFault, Memory, TooLong}
-use Rattle.traind.specs.Causes.{WhereLinesStop}
-use Rattle.traind.proofs.Tables.{some-same}
-use Rattle.traind.specs.Fronts.{Answered, AppendsReplies}
-use Rattle.traind.specs.Output.{IsOutput}
-use Rattle.traind.specs.Standing.{Standing}
+use Rattle.traind.specs.Causes.{HasFaultCause, WhereLinesStop}
+use Rattle.traind.specs.Statuses.{lines_fault}
 
--- all bytes were taken where the source is at its end
-pub all_taken : (left now : Option (List ℕ)) (bytes all : List ℕ) → Consumes left now all → IsAtEnd now → left ≡ Some bytes → all ≡ bytes
-all_taken None now bytes all source end is = absurd (none-some bytes is)
-all_taken (Some xs) None bytes all source end is = absurd source
-all_taken (Some xs) (Some ys) bytes all source end is =
-    sym (append-nil all) ∙ ap (λ (r : List ℕ). all ++ r) (sym end) ∙ sym source ∙ some-same xs bytes is
+-- what holds where the lines stop holds where the run stops for it
+pub where_lines : (T : Type 0) (f : LinesFault) → stops.WhereLinesStop T f → WhereLinesStop T (lines_fault f)
+where_lines T lines.ReadFault t = t
+where_lines T lines.WriteFault t = tt
+where_lines T lines.Memory t = tt
+where_lines T lines.TooLong t = t
 
--- at the end of the input the replies and the table are a whole output
-pub whole_output : {first now : Standing} {r : Reader} {left left_now written between : Option (List ℕ)} {all : List ℕ} {lines : List Line} (bytes : List ℕ)
-    → IsDone r → (a : Answered first now r left left_now written between all lines) → left ≡ Some bytes
-    → IsOutput first.network first.names first.state (lines_of true bytes) (a.output.shown ++ table now.network now.names now.state)
-whole_output {first = first} {r = r} {left = left} {left_now = left_now} {all = all} {lines = lines} bytes done a told =
-    rw (ap (lines_of true) (sym (all_taken left left_now bytes all a.source (a.end done.ended) told)) ∙ ends all lines r a.lines_so_far done)
-    (record { shown = a.output.shown; replies = a.output.replies; all = ap (λ (t : Standing). a.output.shown ++ table t.network t.names t.state) a.timetable })
-
--- before the first line nothing was taken, and nothing is written
-pub nothing_yet : (nw : Network) (names : Names) (st : State) (left written : Option (List ℕ))
-    → (bytes : List ℕ) × Consumes left left bytes × AppendsReplies nw names st (lines_of false bytes) written written
-unfolding lines_of
-nothing_yet nw names st left written = ([], consumes_none left, record { shown = []; replies = refl; written = Appends-nil written })
+-- a fault of the lines has its cause in the run
+pub cause_of_lines : (read write long : Type 0) (f : LinesFault) → stops.HasLinesFaultCause read write long f → HasFaultCause ⊥ (λ why. ⊥) read write long (lines_fault f)
+cause_of_lines read write long lines.ReadFault c = c
+cause_of_lines read write long lines.WriteFault c = c
+cause_of_lines read write long lines.Memory c = tt
+cause_of_lines read write long lines.TooLong c = c
 
 pub wherever : (T : Type 0) (f : Fault) → T → WhereLinesStop T f
 wherever T Usage t = tt

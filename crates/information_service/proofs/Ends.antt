@@ -1,0 +1,47 @@
+-- How answering ends: what was taken, and what the lines leave.
+use Rattle.std.proofs.Common.{◌≡◌, ◌∙◌, ℕ, List, [], ◌++◌, Option, Some, None, Result, Ok, Err, sym, ap, refl, true, false}
+use Rattle.std.proofs.KnownBytes.{Appends-nil}
+use Rattle.std.proofs.lemmas.List.{append-nil}
+use Rattle.std.proofs.lemmas.Option.{none-some}
+use Rattle.std.specs.Io.KnownBytes.{Consumes, IsAtEnd}
+use Rattle.std.specs.Prelude.{IfErr, unwrap_or}
+use Rattle.delay_model.specs.declared.network.Network.{Network}
+use Rattle.delay_model.specs.declared.state.State.{State}
+use Rattle.delay_report.specs.Table.{table}
+use Rattle.mt_io.specs.Lines.{Line, lines_of}
+use Rattle.mt_io.specs.Reader.{Reader, IsDone}
+use Rattle.mt_io.proofs.Gives.{consumes_none}
+use Rattle.mt_io.proofs.Runs.{ends}
+use Rattle.schedule_build.specs.Directory.{Names}
+use Rattle.information_service.specs.declared.fault.LinesFault.{LinesFault}
+use Rattle.information_service.specs.Fronts.{Answered, AppendsReplies}
+use Rattle.information_service.specs.Output.{IsOutput}
+use Rattle.information_service.specs.ServiceState.{ServiceState}
+
+pub some-same : (a b : List ℕ) → Some a ≡ Some b → a ≡ b
+some-same a b e = ap (λ (o : Option (List ℕ)). unwrap_or o a) e
+
+-- all bytes were taken where the source is at its end
+pub all_taken : (left now : Option (List ℕ)) (bytes all : List ℕ) → Consumes left now all → IsAtEnd now → left ≡ Some bytes → all ≡ bytes
+all_taken None now bytes all source end is = absurd (none-some bytes is)
+all_taken (Some xs) None bytes all source end is = absurd source
+all_taken (Some xs) (Some ys) bytes all source end is =
+    sym (append-nil all) ∙ ap (λ (r : List ℕ). all ++ r) (sym end) ∙ sym source ∙ some-same xs bytes is
+
+-- at the end of the input the replies and the table are a whole output
+pub whole_output : {first now : ServiceState} {r : Reader} {left left_now written between : Option (List ℕ)} {all : List ℕ} {lines : List Line} (bytes : List ℕ)
+    → IsDone r → (a : Answered first now r left left_now written between all lines) → left ≡ Some bytes
+    → IsOutput first.network first.names first.state (lines_of true bytes) (a.output.shown ++ table now.network now.names now.state)
+whole_output {first = first} {r = r} {left = left} {left_now = left_now} {all = all} {lines = lines} bytes done a told =
+    rw (ap (lines_of true) (sym (all_taken left left_now bytes all a.source (a.end done.ended) told)) ∙ ends all lines r a.lines_so_far done)
+    (record { shown = a.output.shown; replies = a.output.replies; all = ap (λ (t : ServiceState). a.output.shown ++ table t.network t.names t.state) a.service })
+
+-- before the first line nothing was taken, and nothing is written
+pub nothing_yet : (nw : Network) (names : Names) (st : State) (left written : Option (List ℕ))
+    → (bytes : List ℕ) × Consumes left left bytes × AppendsReplies nw names st (lines_of false bytes) written written
+unfolding lines_of
+nothing_yet nw names st left written = ([], consumes_none left, record { shown = []; replies = refl; written = Appends-nil written })
+
+pub each_fault : (run : Result (Unit {0}) LinesFault) (P : LinesFault → Type 0) → ((f : LinesFault) → P f) → IfErr run P
+each_fault (Ok u) P all = tt
+each_fault (Err f) P all = all f

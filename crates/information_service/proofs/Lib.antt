@@ -1,0 +1,5 @@
+pub mod Ends
+pub mod Fronts
+pub mod InStep
+pub mod Networks
+pub mod OneMore

@@ -1,0 +1,27 @@
+use Rattle.std.proofs.Common.{◌≡◌, ◌∙◌, ◌⊎◌, ℕ, ◌++◌, List, [], ◌∷◌, Result, Ok, inl, sym, ap, arith}
+use Rattle.delay_model.specs.declared.network.Network.{Network}
+use Rattle.delay_model.specs.declared.state.State.{State}
+use Rattle.delay_report.specs.declared.replies.BadLine.{BadLine}
+use Rattle.delay_report.specs.declared.replies.Reply.{Reply}
+use Rattle.delay_report.specs.Replies.{text_of_reply}
+use Rattle.message_reader.specs.declared.wire.Line.{Line as Spoken}
+use Rattle.message_reader.specs.declared.wire.Line.TheVariants.{Query as Asks}
+use Rattle.mt_io.specs.Lines.{Line}
+use Rattle.schedule_build.specs.Directory.{Names}
+use Rattle.information_service.specs.Alike.{ShowTwoJourneys, AreAlike}
+use Rattle.information_service.specs.Lines.{said_by, names_after}
+use Rattle.information_service.specs.Output.{IsReply, AreReplies}
+use Rattle.information_service.proofs.laws.outputs_differ_in_journeys_alone.Goals as goal
+
+-- each of two earliest journeys arrives no later than the other
+texts-alike : (nw : Network) (known : Names) (st : State) (count line : ℕ) (x : Line) (said : Result Spoken BadLine) (r s : Reply) → said_by known x ≡ said → IsReply nw known st count line said r → IsReply nw known st count line said s
+    → (text_of_reply known r ≡ text_of_reply known s) ⊎ ShowTwoJourneys known x (text_of_reply known r) (text_of_reply known s)
+texts-alike nw known st count line x (Ok (Asks client day q)) r s says i j = grind arith
+texts-alike nw known st count line x said r s says i j = inl (ap (text_of_reply known) (i ∙ sym j))
+
+replies-alike : (nw : Network) (names : Names) (st : State) (before lines : List Line) (a b : List ℕ) → AreReplies nw names st before lines a → AreReplies nw names st before lines b → AreAlike nw names st before lines a b
+replies-alike nw names st before [] a b i j = (i, j)
+replies-alike nw names st before (x ∷ xs) a b i j = grind (arith, texts-alike nw (names_after nw names st before), replies-alike nw names st (before ++ x ∷ []) xs)
+
+pub returns : goal.returns
+returns c = λ nw names st lines a b i j. grind (arith, replies-alike nw names st [] lines)

@@ -1,0 +1,93 @@
+use Rattle.std.proofs.Common.{◌≡◌, ◌≤◌, ◌+◌, ◌++◌, ℕ, List, length, sym, ap, subst, ◌∙◌, append_assoc, arith}
+use Rattle.std.proofs.KnownBytes.{Appends-trans}
+use Rattle.std.proofs.lemmas.List.{append-nil}
+use Rattle.std.specs.Io.KnownBytes.{Appends}
+use Rattle.delay_model.specs.declared.state.State.{State}
+use Rattle.delay_report.specs.Table.{header, rows_of_train, rows_from, table}
+use Rattle.information_service.specs.Fronts.{AppendsFront}
+use Rattle.information_service.specs.ServiceState.{ServiceState}
+use Rattle.information_service.proofs.Ends.{each_fault}
+use Rattle.information_service.proofs.Fronts.{front_all, front_part, front_longer, front_after, rows-more, table_front}
+use Rattle.information_service.proofs.table.write_table.Goals as goal
+
+-- the header, and the rows of the first trains
+abbrev shown : ServiceState → ℕ → List ℕ
+shown t n = header ++ rows_from t.names t.network t.state 0 n
+
+abbrev row : ServiceState → ℕ → List ℕ
+row t n = rows_of_train t.names t.network t.state n
+
+one-more : (t : ServiceState) (n : ℕ) → shown t n ++ row t n ≡ shown t (n + 1)
+one-more t n =
+    append_assoc header (rows_from t.names t.network t.state 0 n) (row t n) ∙ ap (λ (rows : List ℕ). header ++ rows) (sym (rows-more t.names t.network t.state n))
+
+pub loop-train-init : goal.loop-train-init
+unfolding rows_from
+loop-train-init g c =
+    record {
+      rows = subst (Appends (g.K.Sink.written c.args.out.now) (g.K.Sink.written c.put.new.sink)) (c.times_header.ensures ∙ sym (append-nil header)) c.in_ok-put.ensures.ok;
+      write = c.put.ensures.cause.later;
+    }
+
+pub loop-train-preserved : goal.loop-train-preserved
+loop-train-preserved g c =
+    let t : ServiceState = c.args.service.now in
+    let n = c.loop-train.train in
+    let w0 = g.K.Sink.written c.args.out.now in
+    let w1 = g.K.Sink.written c.loop-train.out in
+    let w2 = g.K.Sink.written c.put-in-loop-train.new.sink in
+    let i = c.service.inside in
+    let row_is : c.as_slice.result.now ≡ row t n =
+    c.as_slice.ensures.value ∙ c.in_ok-rows.ensures ∙ ap (rows_of_train i.directory i.timetable.network i.timetable.state) c.new.ensures ∙ ap (λ (s : ServiceState). row s n) c.service.view_is in
+    record {
+      rows = subst (Appends w0 w2) (one-more t n) (Appends-trans w0 w1 w2 (shown t n) (row t n) c.loop-train.invariant.rows (subst (Appends w1 w2) row_is c.in_ok-put-2.ensures.ok));
+      write = omega (arith, c.loop-train.invariant.write, c.put-in-loop-train.ensures.cause.later);
+    }
+
+pub returns-clause-ok : goal.returns-clause-ok
+unfolding table
+returns-clause-ok g c =
+    let t : ServiceState = c.args.service.now in
+    let count : c.count-train-end.result ≡ length t.state.trains =
+    c.count-train-end.ensures ∙ ap (λ (s : State). length s.trains) (c.trains.ensures.trains ∙ c.graph.ensures.state) ∙ ap (λ (s : ServiceState). length s.state.trains) c.service.view_is in
+    let all : c.loop-train.train ≡ length t.state.trains = omega (arith, count, c.loop-train.auto.train-end, c.loop-train-test.false) in
+    subst (λ (n : ℕ). Appends (g.K.Sink.written c.args.out.now) (g.K.Sink.written c.loop-train.out) (shown t n)) all c.loop-train.invariant.rows
+
+pub returns-in_err-put-clause-front : goal.returns-in_err-put-clause-front
+unfolding table
+returns-in_err-put-clause-front g c =
+    let t : ServiceState = c.args.service.now in
+    let w0 = g.K.Sink.written c.args.out.now in
+    let w1 = g.K.Sink.written c.put.new.sink in
+    each_fault c.from_residual.result _ (λ f. front_longer w0 w1 header (rows_from t.names t.network t.state 0 (length t.state.trains))
+    (subst (AppendsFront w0 w1) c.times_header.ensures (front_part w0 w1 c.times_header.result.now c.in_err-put.ensures.failed)))
+
+pub returns-in_err-rows-clause-front : goal.returns-in_err-rows-clause-front
+unfolding table
+returns-in_err-rows-clause-front g c =
+    let t : ServiceState = c.args.service.now in
+    let n = c.loop-train.train in
+    let w0 = g.K.Sink.written c.args.out.now in
+    let w1 = g.K.Sink.written c.loop-train.out in
+    let count : c.count-train-end.result ≡ length t.state.trains =
+    c.count-train-end.ensures ∙ ap (λ (s : State). length s.trains) (c.trains.ensures.trains ∙ c.graph.ensures.state) ∙ ap (λ (s : ServiceState). length s.state.trains) c.service.view_is in
+    let few : n ≤ length t.state.trains = omega (arith, count, c.loop-train-test.true) in
+    each_fault c.from_residual-in_err-rows.result _ (λ f. table_front t.names t.network t.state w0 w1 n (length t.state.trains) few (front_all w0 w1 (shown t n) c.loop-train.invariant.rows))
+
+pub returns-in_err-put-2-clause-front : goal.returns-in_err-put-2-clause-front
+unfolding table
+returns-in_err-put-2-clause-front g c =
+    let t : ServiceState = c.args.service.now in
+    let n = c.loop-train.train in
+    let w0 = g.K.Sink.written c.args.out.now in
+    let w1 = g.K.Sink.written c.loop-train.out in
+    let w2 = g.K.Sink.written c.put-in-loop-train.new.sink in
+    let i = c.service.inside in
+    let count : c.count-train-end.result ≡ length t.state.trains =
+    c.count-train-end.ensures ∙ ap (λ (s : State). length s.trains) (c.trains.ensures.trains ∙ c.graph.ensures.state) ∙ ap (λ (s : ServiceState). length s.state.trains) c.service.view_is in
+    let few : n + 1 ≤ length t.state.trains = omega (arith, count, c.loop-train-test.true) in
+    let row_is : c.as_slice.result.now ≡ row t n =
+    c.as_slice.ensures.value ∙ c.in_ok-rows.ensures ∙ ap (rows_of_train i.directory i.timetable.network i.timetable.state) c.new.ensures ∙ ap (λ (s : ServiceState). row s n) c.service.view_is in
+    each_fault c.from_residual-in_err-put-2.result _ (λ f. table_front t.names t.network t.state w0 w2 (n + 1) (length t.state.trains) few
+    (subst (AppendsFront w0 w2) (one-more t n) (front_after w0 w1 w2 (shown t n) (row t n) c.loop-train.invariant.rows
+    (subst (AppendsFront w1 w2) row_is (front_part w1 w2 c.as_slice.result.now c.in_err-put-2.ensures.failed)))))

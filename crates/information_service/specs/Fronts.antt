@@ -1,0 +1,72 @@
+-- What was taken from the input, and what of its output is written.
+use Rattle.std.specs.Prelude.{ℕ, ◌≡◌, ◌⊎◌, ◌++◌, List, [], true}
+use Rattle.std.specs.declared.option.Option.{Option}
+use Rattle.std.specs.Io.KnownBytes.{Appends, Consumes, IsAtEnd}
+use Rattle.delay_model.specs.declared.network.Network.{Network}
+use Rattle.delay_model.specs.declared.state.State.{State}
+use Rattle.mt_io.specs.Lines.{Line}
+use Rattle.mt_io.specs.Reader.{Reader}
+use Rattle.mt_io.specs.Runs.{HasAnswered}
+use Rattle.schedule_build.specs.Directory.{Names}
+use Rattle.information_service.specs.Output.{AreReplies, IsOutput}
+use Rattle.information_service.specs.ServiceState.{ServiceState, service_after}
+
+-- replies to these lines, which begin an input, were written
+pub record AppendsReplies (nw : Network) (names : Names) (st : State) (lines : List Line)
+    (old new : Option (List ℕ)) : Type 0 where
+  pub shown : List ℕ
+  pub replies : AreReplies nw names st [] lines shown
+  pub written : Appends old new shown
+
+-- an output of these lines was written
+pub record AppendsOutput (nw : Network) (names : Names) (st : State) (lines : List Line)
+    (old new : Option (List ℕ)) : Type 0 where
+  pub all : List ℕ
+  pub output : IsOutput nw names st lines all
+  pub written : Appends old new all
+
+-- a front of these bytes was written: all of them, a part, or none
+pub record AppendsFront (old new : Option (List ℕ)) (bytes : List ℕ) : Type 0 where
+  pub front : List ℕ
+  pub rest : List ℕ
+  pub written : Appends old new front
+  pub all : front ++ rest ≡ bytes
+
+-- a front of replies to the first of these lines was written, however the later ones would be
+-- answered
+pub record AppendsFirstReplies (nw : Network) (names : Names) (st : State) (lines : List Line)
+    (old new : Option (List ℕ)) : Type 0 where
+  pub first : List Line
+  pub later : List Line
+  pub shown : List ℕ
+  pub split : first ++ later ≡ lines
+  pub replies : AreReplies nw names st [] first shown
+  pub front : AppendsFront old new shown
+
+-- a front of an output of these lines was written: of the replies to the first of them, or of all
+-- replies and the table. Every query has an answer, so the first replies too begin an output of all
+-- lines
+abbrev pub AppendsOutputFront : Network → Names → State → List Line → Option (List ℕ)
+    → Option (List ℕ) → Type 0
+AppendsOutputFront nw names st lines old new =
+    AppendsFirstReplies nw names st lines old new ⊎ ((all : List ℕ) × IsOutput nw names st lines all
+    × AppendsFront old new all)
+
+-- these lines were taken from the input and answered: their replies are written, and the service is
+-- as they leave it
+pub record Answered (first now : ServiceState) (r : Reader)
+    (left left_now written written_now : Option (List ℕ)) (bytes : List ℕ)
+    (lines : List Line) : Type 0 where
+  pub source : Consumes left left_now bytes
+  pub lines_so_far : HasAnswered bytes lines r
+  pub end : r.ended ≡ true → IsAtEnd left_now
+  pub output : AppendsReplies first.network first.names first.state lines written written_now
+  pub service : now ≡ service_after first.network first.names first.state lines
+
+-- these lines were taken from the input, and a front of replies to the first of them is written
+pub record Begun (first : ServiceState) (r : Reader) (left left_now written written_now : Option
+    (List ℕ)) (bytes : List ℕ) (lines : List Line) : Type 0 where
+  pub source : Consumes left left_now bytes
+  pub lines_so_far : HasAnswered bytes lines r
+  pub end : r.ended ≡ true → IsAtEnd left_now
+  pub output : AppendsFirstReplies first.network first.names first.state lines written written_now

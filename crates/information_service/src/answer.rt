@@ -1,0 +1,254 @@
+//! The answer to a line: the reply, and what the line does to the timetable and its names.
+
+ghost use Rattle.std.specs.Prelude.{◌≡◌, ◌<◌, ◌-◌, ◌^◌, Ok, Err, IfOk, IfErr, IfSome, OnOk};
+ghost use Rattle.message_reader.specs.declared.wire.Line.TheVariants.{Message as Says};
+ghost use Rattle.message_reader.specs.Resolved.{resolved};
+ghost use Rattle.message_reader.specs.Wires.{IsLine, IsWire};
+ghost use Rattle.mt_io.specs.Lines.{short};
+ghost use Rattle.information_service.specs.Lines.{added_name, with_added, CanBeAdded};
+ghost use Rattle.information_service.specs.Output.{reply_to_message, reply_to_refused, IsReply, IsReplyTo, IsReplyToQuery};
+ghost use Rattle.information_service.specs.ServiceState.{after_line, next_by, next_by_message};
+
+use crate::service::InformationService;
+use conn_scan::{Found, earliest};
+use delay_model::messages::Refusal;
+use delay_report::{BadLine, Reply};
+use message_reader::{Bad, Line, ResolveFault, Wire, read_line, resolve};
+use mt_base::memory::OutOfMemory;
+use mt_base::numbers::Day;
+use mt_base::plans::{PlanRide, Query};
+use mt_base::rows::Rows;
+use schedule_build::{Directory, ExtraName};
+use std::alloc::{AllocError, Global};
+use std::marker::Brand;
+use std::sync::ledger::{Blank, Ledger};
+use train_nodes::{Msg, Steps};
+
+/// The name of the train that a message adds, if it adds one.
+fn added_name(
+    alloc: Global,
+    directory: &Directory,
+    wire: &Wire,
+) -> Result<Option<ExtraName>, OutOfMemory>
+    ensures { IfOk result (λ name. name ≡ added_name directory.now wire.now) }
+{
+    if let Wire::Extra { trip, date, .. } = wire
+        && let Some(day) = directory.day(*date)
+    {
+        return Ok(Some(directory.extra_name(alloc, trip.text(), day)?));
+    }
+    Ok(None)
+}
+
+/// Adds the name of an extra train, if there is one.
+fn add_name(directory: &mut Directory, name: Option<ExtraName>)
+    requires ready { IfSome name (λ n. CanBeAdded directory.old n) }
+    ensures { directory.new ≡ with_added name directory.old }
+{
+    if let Some(name) = name {
+        let _ = directory.add_extra(name);
+    }
+}
+
+/// The reply to a refused message.
+fn reply_to_refused(
+    alloc: Global,
+    directory: &Directory,
+    number: u64,
+    wire: &Wire,
+    refusal: &Refusal,
+) -> Result<Reply, OutOfMemory>
+    ensures { IfOk result (λ r. r ≡ reply_to_refused directory.now number wire.now refusal.now) }
+{
+    if let Wire::Extra { trip, date, .. } = wire
+        && let Refusal::AgainstRank { from, to } = refusal
+        && let Some(day) = directory.day(*date)
+    {
+        return Ok(Reply::RefusedExtra {
+            line: number,
+            trip: trip.copy(alloc)?,
+            day,
+            from: *from,
+            to: *to,
+        });
+    }
+    Ok(Reply::Refused {
+        line: number,
+        refusal: *refusal,
+    })
+}
+
+/// The reply to a message. It counts no steps.
+fn reply_to_message<L: Ledger>(
+    alloc: Global,
+    service: &mut InformationService,
+    number: u64,
+    wire: &Wire,
+    message: &Msg,
+    blank: Blank,
+) -> Result<Reply, OutOfMemory>
+    requires resolved { resolved service.old.names wire.now ≡ Ok message.now }
+    requires count { service.old.count < 2 ^ 64 - 1 }
+    requires name { blank.name ≡ L.name }
+    requires parts { blank.parts ≡ L.parts }
+    requires some { 0 < blank.parts }
+    ensures reply { IfOk result (λ r. r ≡ reply_to_message service.old.network service.old.names
+        service.old.state service.old.count number wire.now (Ok message.now)) }
+    ensures next { OnOk result (service.new ≡ next_by_message service.old wire.now
+        (Ok message.now)) }
+    ensures unchanged { IfErr result (λ _. service.new ≡ service.old) }
+{
+    let name = added_name(alloc, &service.directory, wire)?;
+    let mut steps = Steps::<L>::open(blank);
+    match service.timetable.step(message, &mut steps) {
+        Ok(changed) => {
+            add_name(&mut service.directory, name);
+            Ok(Reply::Accepted {
+                line: number,
+                number: service.timetable.count(),
+                changed,
+            })
+        }
+        Err(refusal) => reply_to_refused(alloc, &service.directory, number, wire, &refusal),
+    }
+}
+
+/// The reply to a message that speaks by names.
+fn reply_to_wire(
+    alloc: Global,
+    service: &mut InformationService,
+    number: u64,
+    wire: &Wire,
+) -> Result<Reply, OutOfMemory>
+    requires kept { IsWire wire.now }
+    requires count { service.old.count < 2 ^ 64 - 1 }
+    ensures reply { IfOk result (λ r. r ≡ reply_to_message service.old.network service.old.names
+        service.old.state service.old.count number wire.now (resolved service.old.names wire.now)) }
+    ensures next { OnOk result (service.new ≡ next_by service.old (Ok (Says wire.now))) }
+    ensures unchanged { IfErr result (λ _. service.new ≡ service.old) }
+{
+    match resolve(alloc, wire, &service.directory) {
+        Ok(message) => reply_to_message::<Brand>(
+            alloc,
+            service,
+            number,
+            wire,
+            &message,
+            Blank::new(1),
+        ),
+        Err(ResolveFault::Unknown) => Ok(Reply::Refused {
+            line: number,
+            refusal: Refusal::Unknown,
+        }),
+        Err(ResolveFault::Known) => Ok(Reply::Refused {
+            line: number,
+            refusal: Refusal::Known,
+        }),
+        Err(ResolveFault::OutOfMemory) => Err(AllocError),
+    }
+}
+
+/// The same rides once more.
+fn copy_rides(alloc: Global, rides: &[PlanRide]) -> Result<Rows<PlanRide>, OutOfMemory>
+    ensures { IfOk result (λ copy. copy ≡ rides.now) }
+{
+    let mut copy = Vec::with_capacity(alloc, rides.len())?;
+    copy.extend_from_slice(rides)?;
+    Ok(Rows::build(copy))
+}
+
+/// The reply to a query. It counts no steps.
+fn reply_to_query<L: Ledger>(
+    alloc: Global,
+    service: &mut InformationService,
+    number: u64,
+    day: Day,
+    query: &Query,
+    blank: Blank,
+) -> Result<Reply, OutOfMemory>
+    requires name { blank.name ≡ L.name }
+    requires parts { blank.parts ≡ L.parts }
+    requires some { 0 < blank.parts }
+    ensures reply { IfOk result (IsReplyToQuery service.old.network service.old.state
+        service.old.count number day query.now) }
+    ensures kept { service.new ≡ service.old }
+{
+    let mut steps = Steps::<L>::open(blank);
+    let after = service.timetable.count();
+    match earliest(&service.timetable, query, &mut service.scratch, &mut steps) {
+        Found::Arrives { at } => Ok(Reply::Journey {
+            line: number,
+            after,
+            day,
+            arrives: at,
+            rides: copy_rides(alloc, service.scratch.rides())?,
+        }),
+        Found::NoWay => Ok(Reply::NoJourney {
+            line: number,
+            after,
+        }),
+    }
+}
+
+/// The reply to a bad line.
+fn reply_to_bad(number: u64, bad: BadLine) -> Reply
+    ensures { result ≡ Reply.Bad number bad }
+{
+    Reply::Bad { line: number, bad }
+}
+
+/// The reply to what a line says, which may change the timetable and add a name. Who asks a query
+/// has no use here.
+fn reply_to_said(
+    alloc: Global,
+    service: &mut InformationService,
+    number: u64,
+    said: &Line,
+) -> Result<Reply, OutOfMemory>
+    requires kept { IsLine said.now }
+    requires count { service.old.count < 2 ^ 64 - 1 }
+    ensures reply { IfOk result (IsReply service.old.network service.old.names service.old.state
+        service.old.count number (Ok said.now)) }
+    ensures next { OnOk result (service.new ≡ next_by service.old (Ok said.now)) }
+    ensures unchanged { IfErr result (λ _. service.new ≡ service.old) }
+{
+    match said {
+        Line::Message(wire) => reply_to_wire(alloc, service, number, wire),
+        Line::Query {
+            client: _,
+            day,
+            query,
+        } => reply_to_query::<Brand>(alloc, service, number, *day, query, Blank::new(1)),
+        Line::Flush => Ok(Reply::Flush {
+            line: number,
+            count: service.timetable.count(),
+        }),
+    }
+}
+
+impl InformationService {
+    /// Answers the line of this number: takes its message if the timetable accepts it, or looks for
+    /// the journey that it asks for, and gives the reply. It fails only by memory, and then nothing
+    /// has changed.
+    pub fn answer(
+        &mut self,
+        alloc: Global,
+        number: u64,
+        line: &[u8],
+    ) -> Result<Reply, OutOfMemory>
+        requires count { self.old.count < 2 ^ 64 - 1 }
+        ensures reply { IfOk result (IsReplyTo self.old number (short line.now)) }
+        ensures next { OnOk result (self.new ≡ after_line self.old (short line.now)) }
+        ensures unchanged { IfErr result (λ _. self.new ≡ self.old) }
+    {
+        match read_line(alloc, line, &self.directory) {
+            Ok(said) => reply_to_said(alloc, self, number, &said),
+            Err(Bad::Utf8) => Ok(reply_to_bad(number, BadLine::Utf8)),
+            Err(Bad::Json) => Ok(reply_to_bad(number, BadLine::Json)),
+            Err(Bad::Shape) => Ok(reply_to_bad(number, BadLine::Shape)),
+            Err(Bad::Stop) => Ok(reply_to_bad(number, BadLine::Stop)),
+            Err(Bad::Time) => Ok(reply_to_bad(number, BadLine::Time)),
+            Err(Bad::OutOfMemory) => Err(AllocError),
+        }
+    }
+}

@@ -1,0 +1,39 @@
+//! Why answering lines stops before the end of the input.
+
+use mt_base::memory::OutOfMemory;
+use mt_io::Failed;
+
+/// Why answering lines, or writing the table, stops before its end.
+#[derive(Clone, Copy, Debug, PartialEq, Eq)]
+pub enum LinesFault {
+    /// The input failed.
+    ReadFault,
+    /// The output failed.
+    WriteFault,
+    /// There was no memory.
+    Memory,
+    /// As many bytes of the input as may be were taken, and no end was read.
+    TooLong,
+}
+
+impl From<OutOfMemory> for LinesFault {
+    ghost use Rattle.std.specs.Prelude.{◌≡◌};
+    ghost use Rattle.information_service.specs.declared.fault.LinesFault.TheVariants.{Memory};
+
+    ghost from_gives = { λ _ e. e ≡ Memory };
+
+    fn from(_want: OutOfMemory) -> LinesFault {
+        LinesFault::Memory
+    }
+}
+
+impl From<Failed> for LinesFault {
+    ghost use Rattle.std.specs.Prelude.{◌≡◌};
+    ghost use Rattle.information_service.specs.declared.fault.LinesFault.TheVariants.{WriteFault};
+
+    ghost from_gives = { λ _ e. e ≡ WriteFault };
+
+    fn from(_failed: Failed) -> LinesFault {
+        LinesFault::WriteFault
+    }
+}

@@ -1,0 +1,15 @@
+//! A timetable with its names as a service: it answers lines, and writes the table of all times.
+#![tactic(auto)]
+
+mod answer;
+mod fault;
+pub mod laws;
+mod lines;
+mod service;
+mod table;
+
+pub use fault::LinesFault;
+pub use laws::{lines_keep_names_in_step, outputs_differ_in_journeys_alone};
+pub use lines::answer_lines;
+pub use service::InformationService;
+pub use table::write_table;

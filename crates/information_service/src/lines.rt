@@ -1,0 +1,85 @@
+//! The lines of the input, each answered at once.
+
+ghost use Rattle.std.specs.Prelude.{◌≡◌, ◌≤◌, List, ℕ, false, OnOk, IfErr};
+ghost use Rattle.std.specs.Io.KnownBytes.{Appends};
+ghost use Rattle.delay_report.specs.Replies.{text_of_reply};
+ghost use Rattle.mt_io.specs.Causes.{Rose};
+ghost use Rattle.mt_io.specs.Lines.{Line, lines_of};
+ghost use Rattle.mt_io.specs.Reader.{IsDone};
+ghost use Rattle.mt_io.specs.Runs.{fresh};
+ghost use Rattle.information_service.specs.Causes.{HasLinesFaultCause, WhereLinesStop, TookAll};
+ghost use Rattle.information_service.specs.Fronts.{Answered, AppendsFront, Begun};
+
+use crate::fault::LinesFault;
+use crate::service::InformationService;
+
+use delay_report::{BadLine, Reply, reply_text};
+use mt_io::{LineReader, Next, Sink, Source, put};
+use schedule_build::Directory;
+use std::alloc::Global;
+
+/// Writes a reply.
+fn write_reply<K: Sink>(
+    alloc: Global,
+    directory: &Directory,
+    out: &mut K,
+    reply: &Reply,
+) -> Result<(), LinesFault>
+    ensures ok { OnOk result (Appends (K.written out.old) (K.written out.new)
+        (text_of_reply directory.now reply.now)) }
+    ensures front { IfErr result (λ f. AppendsFront (K.written out.old) (K.written out.new)
+        (text_of_reply directory.now reply.now)) }
+    ensures fault { IfErr result (HasLinesFaultCause ⊥
+        (Rose (K.faults out.old) (K.faults out.new)) ⊥) }
+    ensures later { K.faults out.old ≤ K.faults out.new }
+{
+    let text = reply_text(alloc, reply, directory)?;
+    put(out, text.as_slice())?;
+    Ok(())
+}
+
+/// Answers each line of the input, from line 1 on, and writes its reply before the next line is
+/// read, until the input is at its end. It fails with `ReadFault` or `TooLong` where the reader
+/// does, when all lines before are answered, with `WriteFault` where the output failed, and with
+/// `Memory`; then the last line may have no reply, or a part of one.
+pub fn answer_lines<S: Source, K: Sink>(
+    alloc: Global,
+    service: &mut InformationService,
+    reader: &mut LineReader,
+    input: &mut S,
+    out: &mut K,
+) -> Result<(), LinesFault>
+    requires reader { reader.old ≡ fresh reader.old.budget }
+    requires count { service.old.count ≡ 0 }
+    ensures all { OnOk result ((bytes : List ℕ) × (lines : List Line) × IsDone reader.new
+        × Answered service.old service.new reader.new (S.left input.old) (S.left input.new)
+        (K.written out.old) (K.written out.new) bytes lines) }
+    ensures stopped { IfErr result (WhereLinesStop ((bytes : List ℕ) × (lines : List Line)
+        × (lines_of false bytes ≡ lines)
+        × Answered service.old service.new reader.new (S.left input.old) (S.left input.new)
+        (K.written out.old) (K.written out.new) bytes lines)) }
+    ensures begun { IfErr result (λ f. (bytes : List ℕ) × (lines : List Line)
+        × Begun service.old reader.new (S.left input.old) (S.left input.new) (K.written out.old)
+        (K.written out.new) bytes lines) }
+    ensures fault { IfErr result (HasLinesFaultCause
+        (Rose (S.faults input.old) (S.faults input.new))
+        (Rose (K.faults out.old) (K.faults out.new))
+        (TookAll reader.old.budget (S.left input.old) (S.left input.new))) }
+    ensures later { (S.faults input.old ≤ S.faults input.new)
+        × (K.faults out.old ≤ K.faults out.new) }
+{
+    for number in 1..u64::MAX {
+        let reply = match reader.next(input) {
+            Next::Line(line) => service.answer(alloc, number, line)?,
+            Next::LongLine => Reply::Bad {
+                line: number,
+                bad: BadLine::Long,
+            },
+            Next::End => return Ok(()),
+            Next::ReadFault => return Err(LinesFault::ReadFault),
+            Next::Budget => return Err(LinesFault::TooLong),
+        };
+        write_reply(alloc, &service.directory, out, &reply)?;
+    }
+    Err(LinesFault::Memory)
+}

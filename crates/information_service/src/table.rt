@@ -1,0 +1,44 @@
+//! The table of all times.
+
+ghost use Rattle.std.specs.Prelude.{◌≤◌, OnOk, IfErr};
+ghost use Rattle.std.specs.Io.KnownBytes.{Appends};
+ghost use Rattle.delay_report.specs.Table.{table};
+ghost use Rattle.mt_io.specs.Causes.{Rose};
+ghost use Rattle.information_service.specs.Causes.{HasLinesFaultCause};
+ghost use Rattle.information_service.specs.Fronts.{AppendsFront};
+
+use crate::fault::LinesFault;
+use crate::service::InformationService;
+use delay_report::{times_header, times_rows};
+use mt_base::numbers::TrainNo;
+use mt_io::{Sink, put};
+use std::alloc::Global;
+
+/// Writes the table of all times: its header, and the rows of each train in the order of their
+/// numbers. It fails with `WriteFault` where the output failed, or with `Memory`; then a part of
+/// the table may be written.
+pub fn write_table<K: Sink>(
+    alloc: Global,
+    service: &InformationService,
+    out: &mut K,
+) -> Result<(), LinesFault>
+    ensures ok { OnOk result (Appends (K.written out.old) (K.written out.new)
+        (table service.now.network service.now.names service.now.state)) }
+    ensures front { IfErr result (λ f. AppendsFront (K.written out.old) (K.written out.new)
+        (table service.now.network service.now.names service.now.state)) }
+    ensures fault { IfErr result (HasLinesFaultCause ⊥
+        (Rose (K.faults out.old) (K.faults out.new)) ⊥) }
+    ensures later { K.faults out.old ≤ K.faults out.new }
+{
+    put(out, times_header())?;
+    for train in 0..service.timetable.graph().trains().count() {
+        let rows = times_rows(
+            alloc,
+            &service.timetable,
+            &service.directory,
+            TrainNo::new(train),
+        )?;
+        put(out, rows.as_slice())?;
+    }
+    Ok(())
+}
