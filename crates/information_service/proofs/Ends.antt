@@ -34,13 +34,13 @@ pub whole_output : {first now : ServiceState} {r : Reader} {left left_now writte
     → IsOutput first.network first.names first.state (lines_of true bytes) (a.output.shown ++ table now.network now.names now.state)
 whole_output {first = first} {r = r} {left = left} {left_now = left_now} {all = all} {lines = lines} bytes done a told =
     rw (ap (lines_of true) (sym (all_taken left left_now bytes all a.source (a.end done.ended) told)) ∙ ends all lines r a.lines_so_far done)
-    (record { shown = a.output.shown; replies = a.output.replies; all = ap (λ (t : ServiceState). a.output.shown ++ table t.network t.names t.state) a.service })
+    (record { shown = a.output.shown; replies = a.output.is; all = ap (λ (t : ServiceState). a.output.shown ++ table t.network t.names t.state) a.service })
 
 -- before the first line nothing was taken, and nothing is written
 pub nothing_yet : (nw : Network) (names : Names) (st : State) (left written : Option (List ℕ))
     → (bytes : List ℕ) × Consumes left left bytes × AppendsReplies nw names st (lines_of false bytes) written written
 unfolding lines_of
-nothing_yet nw names st left written = ([], consumes_none left, record { shown = []; replies = refl; written = Appends-nil written })
+nothing_yet nw names st left written = ([], consumes_none left, record { shown = []; is = refl; written = Appends-nil written })
 
 pub each_fault : (run : Result (Unit {0}) LinesFault) (P : LinesFault → Type 0) → ((f : LinesFault) → P f) → IfErr run P
 each_fault (Ok u) P all = tt

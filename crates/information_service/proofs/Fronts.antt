@@ -85,7 +85,7 @@ output_front {r = r} {left = left} {left_now = left_now} {taken = taken} {lines 
       later = f.later ++ more.0;
       shown = f.shown;
       split = sym (append_assoc f.first f.later more.0) ∙ ap (λ (ls : List Line). ls ++ more.0) f.split ∙ sym more.1;
-      replies = f.replies;
+      is = f.is;
       front = f.front;
     }
 
@@ -93,7 +93,7 @@ output_front {r = r} {left = left} {left_now = left_now} {taken = taken} {lines 
 pub first_replies : {first now : ServiceState} {r : Reader} {left left_now written written_now : Option (List ℕ)} {bytes : List ℕ} {lines : List Line} (later : List Line)
     → Answered first now r left left_now written written_now bytes lines → AppendsFirstReplies first.network first.names first.state (lines ++ later) written written_now
 first_replies {written = written} {written_now = written_now} {lines = lines} later a =
-    record { first = lines; later = later; shown = a.output.shown; split = refl; replies = a.output.replies; front = front_all written written_now a.output.shown a.output.written }
+    record { first = lines; later = later; shown = a.output.shown; split = refl; is = a.output.is; front = front_all written written_now a.output.shown a.output.written }
 
 -- lines that were answered have begun
 pub begun_by : {first now : ServiceState} {r : Reader} {left left_now written written_now : Option (List ℕ)} {bytes : List ℕ} {lines : List Line}
@@ -108,4 +108,4 @@ begun_by {first = first} {written = written} {written_now = written_now} {lines 
 
 -- a whole output is a front of itself
 pub output_is_front : {nw : Network} {names : Names} {st : State} {lines : List Line} {old new : Option (List ℕ)} → AppendsOutput nw names st lines old new → AppendsOutputFront nw names st lines old new
-output_is_front {old = old} {new = new} a = inr (a.all, a.output, front_all old new a.all a.written)
+output_is_front {old = old} {new = new} a = inr (a.shown, a.is, front_all old new a.shown a.written)

@@ -193,7 +193,7 @@ nothing_answered t budget r left written new none =
       source = consumes_none left;
       lines_so_far = begins budget;
       end = λ is. open_ended false refl is;
-      output = record { shown = []; replies = refl; written = Appends-nil written };
+      output = record { shown = []; is = refl; written = Appends-nil written };
       service = ap (with_count t) none;
     })
 
@@ -224,7 +224,7 @@ one_line_more {first = first} {now = now} {written = written} {written_old = wri
         end = more.1.end;
         output = record {
           shown = a.output.shown ++ text;
-          replies = replies-more first.network first.names first.state [] lines x a.output.shown text a.output.replies (reply_is first now next lines x number reply a.service is_number is is_next);
+          is = replies-more first.network first.names first.state [] lines x a.output.shown text a.output.is (reply_is first now next lines x number reply a.service is_number is is_next);
           written = Appends-trans written written_old written_new a.output.shown text a.output.written wrote;
         };
         service = is_next ∙ ap (λ (t : ServiceState). after_line t x) a.service ∙ line-after first.network first.names first.state lines x;
@@ -260,7 +260,7 @@ front_more {first = first} {now = now} {written = written} {written_old = writte
       later = [];
       shown = a.output.shown ++ text;
       split = append-nil (lines ++ x ∷ []);
-      replies = replies-more first.network first.names first.state [] lines x a.output.shown text a.output.replies (reply_is first now next lines x number reply a.service is_number is is_next);
+      is = replies-more first.network first.names first.state [] lines x a.output.shown text a.output.is (reply_is first now next lines x number reply a.service is_number is is_next);
       front = front_after written written_old written_new a.output.shown text a.output.written f;
     }
 

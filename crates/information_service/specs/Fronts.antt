@@ -11,19 +11,11 @@ use Rattle.schedule_build.specs.Directory.{Names}
 use Rattle.information_service.specs.Output.{AreReplies, IsOutput}
 use Rattle.information_service.specs.ServiceState.{ServiceState, service_after}
 
--- replies to these lines, which begin an input, were written
-pub record AppendsReplies (nw : Network) (names : Names) (st : State) (lines : List Line)
-    (old new : Option (List ℕ)) : Type 0 where
+-- bytes of which this holds were written
+pub record AppendsAll (Is : List ℕ → Type 0) (old new : Option (List ℕ)) : Type 0 where
   pub shown : List ℕ
-  pub replies : AreReplies nw names st [] lines shown
+  pub is : Is shown
   pub written : Appends old new shown
-
--- an output of these lines was written
-pub record AppendsOutput (nw : Network) (names : Names) (st : State) (lines : List Line)
-    (old new : Option (List ℕ)) : Type 0 where
-  pub all : List ℕ
-  pub output : IsOutput nw names st lines all
-  pub written : Appends old new all
 
 -- a front of these bytes was written: all of them, a part, or none
 pub record AppendsFront (old new : Option (List ℕ)) (bytes : List ℕ) : Type 0 where
@@ -33,24 +25,45 @@ pub record AppendsFront (old new : Option (List ℕ)) (bytes : List ℕ) : Type 
   pub all : front ++ rest ≡ bytes
 
 -- a front of replies to the first of these lines was written, however the later ones would be
--- answered
-pub record AppendsFirstReplies (nw : Network) (names : Names) (st : State) (lines : List Line)
+-- answered. `Are` says which bytes are replies to lines that begin an input
+pub record AppendsFirst (Are : List Line → List ℕ → Type 0) (lines : List Line)
     (old new : Option (List ℕ)) : Type 0 where
   pub first : List Line
   pub later : List Line
   pub shown : List ℕ
   pub split : first ++ later ≡ lines
-  pub replies : AreReplies nw names st [] first shown
+  pub is : Are first shown
   pub front : AppendsFront old new shown
+
+-- a front of a whole output of these lines was written: of the replies to the first of them, or of
+-- all of it. `IsWhole` says which bytes are a whole output
+abbrev pub AppendsWholeFront : (List Line → List ℕ → Type 0) → (List Line → List ℕ → Type 0)
+    → List Line → Option (List ℕ) → Option (List ℕ) → Type 0
+AppendsWholeFront IsWhole Are lines old new =
+    AppendsFirst Are lines old new ⊎ ((all : List ℕ) × IsWhole lines all × AppendsFront old new all)
+
+-- replies to these lines, which begin an input, were written
+abbrev pub AppendsReplies : Network → Names → State → List Line → Option (List ℕ)
+    → Option (List ℕ) → Type 0
+AppendsReplies nw names st lines = AppendsAll (AreReplies nw names st [] lines)
+
+-- an output of these lines was written
+abbrev pub AppendsOutput : Network → Names → State → List Line → Option (List ℕ)
+    → Option (List ℕ) → Type 0
+AppendsOutput nw names st lines = AppendsAll (IsOutput nw names st lines)
+
+-- a front of replies to the first of these lines was written
+abbrev pub AppendsFirstReplies : Network → Names → State → List Line → Option (List ℕ)
+    → Option (List ℕ) → Type 0
+AppendsFirstReplies nw names st = AppendsFirst (AreReplies nw names st [])
 
 -- a front of an output of these lines was written: of the replies to the first of them, or of all
 -- replies and the table. Every query has an answer, so the first replies too begin an output of all
 -- lines
 abbrev pub AppendsOutputFront : Network → Names → State → List Line → Option (List ℕ)
     → Option (List ℕ) → Type 0
-AppendsOutputFront nw names st lines old new =
-    AppendsFirstReplies nw names st lines old new ⊎ ((all : List ℕ) × IsOutput nw names st lines all
-    × AppendsFront old new all)
+AppendsOutputFront nw names st =
+    AppendsWholeFront (IsOutput nw names st) (AreReplies nw names st [])
 
 -- these lines were taken from the input and answered: their replies are written, and the service is
 -- as they leave it
