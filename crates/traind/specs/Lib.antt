@@ -1,4 +1,5 @@
 pub mod Causes
+pub mod Contract
 pub mod Feeds
 pub mod Runs
 pub mod Statuses

@@ -1,5 +1,5 @@
 -- What a run does, by its words, the tables of its feed, and the bytes of its input and its output.
-use Rattle.std.specs.Prelude.{ℕ, ◌≡◌, ◌<◌, List, Some, Ok, Err, true, false, length}
+use Rattle.std.specs.Prelude.{ℕ, ◌≡◌, ◌<◌, List, [], Some, Ok, Err, true, false, length}
 use Rattle.std.specs.declared.option.Option.{Option}
 use Rattle.std.specs.Io.KnownBytes.{Consumes}
 use Rattle.mt_base.specs.declared.tables.Tables.{Tables}
@@ -7,8 +7,9 @@ use Rattle.delay_model.specs.declared.network.Network.{Network}
 use Rattle.delay_model.specs.declared.state.State.{State}
 use Rattle.command_words.specs.Words.{Asked, asked_of}
 use Rattle.gtfs_tables.specs.declared.refusals.FeedRefusal.{FeedRefusal}
-use Rattle.information_service.specs.Fronts.{AppendsReplies, AppendsOutput, AppendsOutputFront}
-use Rattle.mt_io.specs.Lines.{lines_of}
+use Rattle.information_service.specs.Fronts.{AppendsAll, AppendsWholeFront}
+use Rattle.information_service.specs.Output.{AreReplies, IsOutput}
+use Rattle.mt_io.specs.Lines.{Line, lines_of}
 use Rattle.schedule_build.specs.Directory.{Names}
 use Rattle.traind.specs.Feeds.{network, Told, tables_in, asked_in}
 
@@ -33,29 +34,45 @@ pub record IsRefused (words : List (List ℕ)) (tables : Option Told)
   pub told_is : tables ≡ Some told
   pub refused : asked_in told asked ≡ Err why
 
+-- what a command writes for the lines of an input, in a timetable that begins in a state with names
+pub record Output : Type 1 where
+  -- these bytes are a whole output of these lines
+  pub IsWhole : Network → Names → State → List Line → List ℕ → Type 0
+  -- these bytes are the replies to these lines, which begin an input
+  pub AreReplies : Network → Names → State → List Line → List ℕ → Type 0
+
+-- what `times` writes: a reply to each line, and then the table of all times
+abbrev pub times_output : Output
+times_output = record {
+  IsWhole = IsOutput;
+  AreReplies = λ nw names st lines bytes. AreReplies nw names st [] lines bytes;
+}
+
 -- what was written is an output of all lines of the input
-abbrev pub WritesAll : List (List ℕ) → Option Told → Option (List ℕ) → Option (List ℕ)
+abbrev pub WritesAll : Output → List (List ℕ) → Option Told → Option (List ℕ) → Option (List ℕ)
     → Option (List ℕ) → Type 0
-WritesAll words tables left written written_now =
+WritesAll output words tables left written written_now =
     (nw : Network) (st : State) (names : Names) (bytes : List ℕ) → Loads words tables nw st names
     → left ≡ Some bytes
-    → AppendsOutput nw names st (lines_of true bytes) written written_now
+    → AppendsAll (output.IsWhole nw names st (lines_of true bytes)) written written_now
 
 -- what was written are the replies to the lines that are whole among the bytes taken
-abbrev pub WritesReplies : List (List ℕ) → Option Told → Option (List ℕ) → Option (List ℕ)
-    → Option (List ℕ) → Option (List ℕ) → Type 0
-WritesReplies words tables left left_now written written_now =
+abbrev pub WritesReplies : Output → List (List ℕ) → Option Told → Option (List ℕ)
+    → Option (List ℕ) → Option (List ℕ) → Option (List ℕ) → Type 0
+WritesReplies output words tables left left_now written written_now =
     (nw : Network) (st : State) (names : Names) → Loads words tables nw st names
-    → (bytes : List ℕ) × Consumes left left_now bytes × AppendsReplies nw names st
-    (lines_of false bytes) written written_now
+    → (bytes : List ℕ) × Consumes left left_now bytes
+    × AppendsAll (output.AreReplies nw names st (lines_of false bytes)) written written_now
 
--- what was written is a front of an output of all lines of the input, however the run ended
-abbrev pub WritesFront : List (List ℕ) → Option Told → Option (List ℕ) → Option (List ℕ)
-    → Option (List ℕ) → Type 0
-WritesFront words tables left written written_now =
+-- what was written is a front of an output of all lines of the input, however the run ended: of the
+-- replies to the first of them, or of a whole output
+abbrev pub WritesFront : Output → List (List ℕ) → Option Told → Option (List ℕ)
+    → Option (List ℕ) → Option (List ℕ) → Type 0
+WritesFront output words tables left written written_now =
     (nw : Network) (st : State) (names : Names) (bytes : List ℕ) → Loads words tables nw st names
     → left ≡ Some bytes
-    → AppendsOutputFront nw names st (lines_of true bytes) written written_now
+    → AppendsWholeFront (output.IsWhole nw names st) (output.AreReplies nw names st)
+    (lines_of true bytes) written written_now
 
 -- the feed holds a timetable, and the input has fewer bytes than may be taken
 pub record CanEnd (words : List (List ℕ)) (tables : Option Told) (left : Option (List ℕ))

@@ -10,7 +10,8 @@ ghost use Rattle.mt_io.specs.Causes.{Rose};
 ghost use Rattle.mt_io.specs.Lines.{lines_of};
 ghost use Rattle.traind.specs.Causes.{HasFaultCause, WhereLinesStop};
 ghost use Rattle.traind.specs.Feeds.{Told};
-ghost use Rattle.traind.specs.Runs.{IsRefused, WritesAll, WritesReplies, WritesFront, CanEnd};
+ghost use Rattle.traind.specs.Contract.{MeetsContract, byte_budget};
+ghost use Rattle.traind.specs.Runs.{IsRefused, WritesAll, WritesReplies, WritesFront, times_output};
 ghost use Rattle.traind.specs.Statuses.{error_line, refusal_line, status_of};
 ghost use Rattle.traind.specs.declared.status.Fault.TheVariants as faults;
 
@@ -65,7 +66,7 @@ fn run_words<F: Feed, S: Source, K: Sink>(
     out: &mut K,
     budget: u64,
 ) -> Result<(), Fault>
-    ensures ok { OnOk result (WritesAll (map string_bytes words.now) (F.tables feed.old)
+    ensures ok { OnOk result (WritesAll times_output (map string_bytes words.now) (F.tables feed.old)
         (S.left input.old) (K.written out.old) (K.written out.new)) }
     ensures ended { OnOk result (IsAtEnd (S.left input.new)) }
     ensures no_words { asked_of (map string_bytes words.now) ≡ None
@@ -90,10 +91,10 @@ fn run_words<F: Feed, S: Source, K: Sink>(
         (Rose (K.faults out.old) (K.faults out.new))
         (TookAll budget (S.left input.old) (S.left input.new))) }
     ensures stopped { IfErr result
-        (WhereLinesStop (WritesReplies (map string_bytes words.now) (F.tables feed.old)
+        (WhereLinesStop (WritesReplies times_output (map string_bytes words.now) (F.tables feed.old)
         (S.left input.old) (S.left input.new)
         (K.written out.old) (K.written out.new))) }
-    ensures front { WritesFront (map string_bytes words.now) (F.tables feed.old) (S.left input.old)
+    ensures front { WritesFront times_output (map string_bytes words.now) (F.tables feed.old) (S.left input.old)
         (K.written out.old) (K.written out.new) }
 {
     let asked = read_words(alloc, words)?;
@@ -156,48 +157,16 @@ pub fn run_times<F: Feed, S: Source, K: Sink, E: Sink>(
     budget: u64,
 ) -> Status
     requires budget { 1 ≤ budget }
-    ensures usage { result ≡ Status.Usage → asked_of (map string_bytes words.now) ≡ None }
-    ensures usage_exactly { asked_of (map string_bytes words.now) ≡ None
-        → (result ≡ Status.Usage) ⊎ (result ≡ Status.Memory) }
-    ensures usage_untouched { asked_of (map string_bytes words.now) ≡ None → (feed.new ≡ feed.old)
-        × (input.new ≡ input.old) × (out.new ≡ out.old) }
-    ensures ok { result ≡ Status.Ok → WritesAll (map string_bytes words.now) (F.tables feed.old)
-        (S.left input.old) (K.written out.old) (K.written out.new) }
-    ensures ended { result ≡ Status.Ok → IsAtEnd (S.left input.new) }
-    ensures refused { result ≡ Status.FeedRefused → (why : FeedRefusal)
-        × ((told : Told) → F.tables feed.old ≡ Some told
-        → IsRefused (map string_bytes words.now) (F.tables feed.old) why)
-        × (¬ (Rose (E.faults err.old) (E.faults err.new))
-        → Appends (E.written err.old) (E.written err.new) (refusal_line why)) }
-    ensures refused_exactly { (why : FeedRefusal) → IsRefused (map string_bytes words.now)
-        (F.tables feed.old) why
-        → (result ≡ Status.FeedRefused) ⊎ (result ≡ Status.Memory) ⊎ ((result ≡ Status.ReadFault)
-        × Rose (F.faults feed.old) (F.faults feed.new)) }
-    ensures untouched { result ≡ Status.FeedRefused → (input.new ≡ input.old)
-        × (out.new ≡ out.old) }
-    ensures refused_untouched { (why : FeedRefusal) → IsRefused (map string_bytes words.now)
-        (F.tables feed.old) why → (input.new ≡ input.old) × (out.new ≡ out.old) }
-    ensures read_fault { result ≡ Status.ReadFault
-        → ((input.new ≡ input.old) × (out.new ≡ out.old)
-        × Rose (F.faults feed.old) (F.faults feed.new))
-        ⊎ Rose (S.faults input.old) (S.faults input.new) }
-    ensures write_fault { result ≡ Status.WriteFault → Rose (K.faults out.old) (K.faults out.new) }
-    ensures too_long { result ≡ Status.TooLong → TookAll budget (S.left input.old)
-        (S.left input.new) }
-    ensures stopped { (result ≡ Status.ReadFault) ⊎ (result ≡ Status.TooLong)
-        → WritesReplies (map string_bytes words.now) (F.tables feed.old) (S.left input.old)
-        (S.left input.new) (K.written out.old) (K.written out.new) }
-    ensures front { WritesFront (map string_bytes words.now) (F.tables feed.old) (S.left input.old)
-        (K.written out.old) (K.written out.new) }
-    ensures complete { CanEnd (map string_bytes words.now) (F.tables feed.old)
-        (S.left input.old) budget
-        → ¬ (Rose (F.faults feed.old) (F.faults feed.new))
-        → ¬ (Rose (S.faults input.old) (S.faults input.new))
-        → ¬ (Rose (K.faults out.old) (K.faults out.new))
-        → (result ≡ Status.Ok) ⊎ (result ≡ Status.Memory) }
-    ensures error_line { result ≢ Status.FeedRefused
-        → ¬ (Rose (E.faults err.old) (E.faults err.new))
-        → Appends (E.written err.old) (E.written err.new) (error_line result) }
+    ensures { MeetsContract times_output budget (map string_bytes words.now)
+        (record { tables = F.tables feed.old; faults = F.faults feed.old;
+          faults_after = F.faults feed.new })
+        (record { left = S.left input.old; left_after = S.left input.new;
+          faults = S.faults input.old; faults_after = S.faults input.new })
+        (record { written = K.written out.old; written_after = K.written out.new;
+          faults = K.faults out.old; faults_after = K.faults out.new })
+        (record { written = E.written err.old; written_after = E.written err.new;
+          faults = E.faults err.old; faults_after = E.faults err.new })
+        (feed.new ≡ feed.old) (input.new ≡ input.old) (out.new ≡ out.old) result }
 {
     let run = run_words(alloc, words, feed, input, out, budget);
     tell(alloc, run, err)
@@ -224,51 +193,22 @@ pub fn traind_within<
     budget: u64,
 ) -> Status
     requires budget { 1 ≤ budget }
-    ensures usage { result ≡ Status.Usage → asked_of (map string_bytes words.now) ≡ None }
-    ensures usage_exactly { asked_of (map string_bytes words.now) ≡ None
-        → (result ≡ Status.Usage) ⊎ (result ≡ Status.Memory) }
-    ensures usage_untouched { asked_of (map string_bytes words.now) ≡ None → (feed.new ≡ feed.old)
-        × (input.new ≡ input.old) × (out.new ≡ out.old) }
-    ensures ok { result ≡ Status.Ok → WritesAll (map string_bytes words.now) (F.tables feed.old)
-        (S.left input.old) (K.written out.old) (K.written out.new) }
-    ensures ended { result ≡ Status.Ok → IsAtEnd (S.left input.new) }
-    ensures refused { result ≡ Status.FeedRefused → (why : FeedRefusal)
-        × ((told : Told) → F.tables feed.old ≡ Some told
-        → IsRefused (map string_bytes words.now) (F.tables feed.old) why)
-        × (¬ (Rose (E.faults err.old) (E.faults err.new))
-        → Appends (E.written err.old) (E.written err.new) (refusal_line why)) }
-    ensures refused_exactly { (why : FeedRefusal) → IsRefused (map string_bytes words.now)
-        (F.tables feed.old) why
-        → (result ≡ Status.FeedRefused) ⊎ (result ≡ Status.Memory) ⊎ ((result ≡ Status.ReadFault)
-        × Rose (F.faults feed.old) (F.faults feed.new)) }
-    ensures untouched { result ≡ Status.FeedRefused → (input.new ≡ input.old)
-        × (out.new ≡ out.old) }
-    ensures refused_untouched { (why : FeedRefusal) → IsRefused (map string_bytes words.now)
-        (F.tables feed.old) why → (input.new ≡ input.old) × (out.new ≡ out.old) }
-    ensures read_fault { result ≡ Status.ReadFault
-        → ((input.new ≡ input.old) × (out.new ≡ out.old)
-        × Rose (F.faults feed.old) (F.faults feed.new))
-        ⊎ Rose (S.faults input.old) (S.faults input.new) }
-    ensures write_fault { result ≡ Status.WriteFault → Rose (K.faults out.old) (K.faults out.new) }
-    ensures too_long { result ≡ Status.TooLong → TookAll budget (S.left input.old)
-        (S.left input.new) }
-    ensures stopped { (result ≡ Status.ReadFault) ⊎ (result ≡ Status.TooLong)
-        → WritesReplies (map string_bytes words.now) (F.tables feed.old) (S.left input.old)
-        (S.left input.new) (K.written out.old) (K.written out.new) }
-    ensures front { WritesFront (map string_bytes words.now) (F.tables feed.old) (S.left input.old)
-        (K.written out.old) (K.written out.new) }
-    ensures complete { CanEnd (map string_bytes words.now) (F.tables feed.old)
-        (S.left input.old) budget
-        → ¬ (Rose (F.faults feed.old) (F.faults feed.new))
-        → ¬ (Rose (S.faults input.old) (S.faults input.new))
-        → ¬ (Rose (K.faults out.old) (K.faults out.new))
-        → (result ≡ Status.Ok) ⊎ (result ≡ Status.Memory) }
-    ensures error_line { result ≢ Status.FeedRefused
-        → ¬ (Rose (E.faults err.old) (E.faults err.new))
-        → Appends (E.written err.old) (E.written err.new) (error_line result) }
+    ensures { MeetsContract times_output budget (map string_bytes words.now)
+        (record { tables = F.tables feed.old; faults = F.faults feed.old;
+          faults_after = F.faults feed.new })
+        (record { left = S.left input.old; left_after = S.left input.new;
+          faults = S.faults input.old; faults_after = S.faults input.new })
+        (record { written = K.written out.old; written_after = K.written out.new;
+          faults = K.faults out.old; faults_after = K.faults out.new })
+        (record { written = E.written err.old; written_after = E.written err.new;
+          faults = E.faults err.old; faults_after = E.faults err.new })
+        (feed.new ≡ feed.old) (input.new ≡ input.old) (out.new ≡ out.old) result }
 {
     run_times(alloc, words, feed, input, out, err, budget)
 }
+
+/// How many bytes of the input the program takes at most.
+const BYTE_BUDGET: u64 = 1 << 40;
 
 /// The program. It stops where 2^40 bytes of the input were taken and no end was read.
 pub fn traind<R: Threads + Wait + Sync, F: Feed, S: Source, K: Sink, E: Sink, G: Gate + Sync>(
@@ -281,48 +221,16 @@ pub fn traind<R: Threads + Wait + Sync, F: Feed, S: Source, K: Sink, E: Sink, G:
     err: &mut E,
     gate: &G,
 ) -> Status
-    ensures usage { result ≡ Status.Usage → asked_of (map string_bytes words.now) ≡ None }
-    ensures usage_exactly { asked_of (map string_bytes words.now) ≡ None
-        → (result ≡ Status.Usage) ⊎ (result ≡ Status.Memory) }
-    ensures usage_untouched { asked_of (map string_bytes words.now) ≡ None → (feed.new ≡ feed.old)
-        × (input.new ≡ input.old) × (out.new ≡ out.old) }
-    ensures ok { result ≡ Status.Ok → WritesAll (map string_bytes words.now) (F.tables feed.old)
-        (S.left input.old) (K.written out.old) (K.written out.new) }
-    ensures ended { result ≡ Status.Ok → IsAtEnd (S.left input.new) }
-    ensures refused { result ≡ Status.FeedRefused → (why : FeedRefusal)
-        × ((told : Told) → F.tables feed.old ≡ Some told
-        → IsRefused (map string_bytes words.now) (F.tables feed.old) why)
-        × (¬ (Rose (E.faults err.old) (E.faults err.new))
-        → Appends (E.written err.old) (E.written err.new) (refusal_line why)) }
-    ensures refused_exactly { (why : FeedRefusal) → IsRefused (map string_bytes words.now)
-        (F.tables feed.old) why
-        → (result ≡ Status.FeedRefused) ⊎ (result ≡ Status.Memory) ⊎ ((result ≡ Status.ReadFault)
-        × Rose (F.faults feed.old) (F.faults feed.new)) }
-    ensures untouched { result ≡ Status.FeedRefused → (input.new ≡ input.old)
-        × (out.new ≡ out.old) }
-    ensures refused_untouched { (why : FeedRefusal) → IsRefused (map string_bytes words.now)
-        (F.tables feed.old) why → (input.new ≡ input.old) × (out.new ≡ out.old) }
-    ensures read_fault { result ≡ Status.ReadFault
-        → ((input.new ≡ input.old) × (out.new ≡ out.old)
-        × Rose (F.faults feed.old) (F.faults feed.new))
-        ⊎ Rose (S.faults input.old) (S.faults input.new) }
-    ensures write_fault { result ≡ Status.WriteFault → Rose (K.faults out.old) (K.faults out.new) }
-    ensures too_long { result ≡ Status.TooLong → TookAll 1099511627776 (S.left input.old)
-        (S.left input.new) }
-    ensures stopped { (result ≡ Status.ReadFault) ⊎ (result ≡ Status.TooLong)
-        → WritesReplies (map string_bytes words.now) (F.tables feed.old) (S.left input.old)
-        (S.left input.new) (K.written out.old) (K.written out.new) }
-    ensures front { WritesFront (map string_bytes words.now) (F.tables feed.old) (S.left input.old)
-        (K.written out.old) (K.written out.new) }
-    ensures complete { CanEnd (map string_bytes words.now) (F.tables feed.old)
-        (S.left input.old) 1099511627776
-        → ¬ (Rose (F.faults feed.old) (F.faults feed.new))
-        → ¬ (Rose (S.faults input.old) (S.faults input.new))
-        → ¬ (Rose (K.faults out.old) (K.faults out.new))
-        → (result ≡ Status.Ok) ⊎ (result ≡ Status.Memory) }
-    ensures error_line { result ≢ Status.FeedRefused
-        → ¬ (Rose (E.faults err.old) (E.faults err.new))
-        → Appends (E.written err.old) (E.written err.new) (error_line result) }
+    ensures { MeetsContract times_output byte_budget (map string_bytes words.now)
+        (record { tables = F.tables feed.old; faults = F.faults feed.old;
+          faults_after = F.faults feed.new })
+        (record { left = S.left input.old; left_after = S.left input.new;
+          faults = S.faults input.old; faults_after = S.faults input.new })
+        (record { written = K.written out.old; written_after = K.written out.new;
+          faults = K.faults out.old; faults_after = K.faults out.new })
+        (record { written = E.written err.old; written_after = E.written err.new;
+          faults = E.faults err.old; faults_after = E.faults err.new })
+        (feed.new ≡ feed.old) (input.new ≡ input.old) (out.new ≡ out.old) result }
 {
     traind_within(
         rt,
@@ -333,6 +241,6 @@ pub fn traind<R: Threads + Wait + Sync, F: Feed, S: Source, K: Sink, E: Sink, G:
         out,
         err,
         gate,
-        1_099_511_627_776,
+        BYTE_BUDGET,
     )
 }

@@ -4,7 +4,7 @@ use Rattle.mt_io.specs.Lines.{lines_of}
 use Rattle.command_words.specs.Held.{asked_view}
 use Rattle.information_service.proofs.Ends.{nothing_yet}
 use Rattle.information_service.proofs.Fronts.{output_is_front}
-use Rattle.traind.specs.Runs.{WritesReplies}
+use Rattle.traind.specs.Runs.{WritesReplies, times_output}
 use Rattle.traind.proofs.Ends.{anywhere, on_ok_also, where_also}
 use Rattle.traind.proofs.StatusFacts.{however}
 use Rattle.traind.proofs.Tables.{same-start, output-is, replies-are, front-is}
@@ -14,7 +14,7 @@ pub returns-in_err-service-clause-stopped : goal.returns-in_err-service-clause-s
 returns-in_err-service-clause-stopped g c =
     let left = g.S.Source.left c.args.input.now in
     let written = g.K.Sink.written c.args.out.now in
-    anywhere c.from_residual-in_err-service.result (WritesReplies (map string_bytes c.args.words.now) (g.F.Feed.tables c.args.feed.now) left left written written)
+    anywhere c.from_residual-in_err-service.result (WritesReplies times_output (map string_bytes c.args.words.now) (g.F.Feed.tables c.args.feed.now) left left written written)
     (λ nw st names loads. nothing_yet nw names st left written)
 
 pub returns-clause-ok : goal.returns-clause-ok

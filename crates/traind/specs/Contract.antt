@@ -1,0 +1,113 @@
+-- What a command of the program promises of each run, whatever its feed, its input and its outputs
+-- do.
+use Rattle.std.specs.Prelude.{ℕ, ◌≡◌, ◌≢◌, ◌⊎◌, ◌^◌, List, None, Some}
+use Rattle.std.specs.declared.option.Option.{Option}
+use Rattle.std.specs.Io.KnownBytes.{Appends, IsAtEnd}
+use Rattle.command_words.specs.Words.{asked_of}
+use Rattle.gtfs_tables.specs.declared.refusals.FeedRefusal.{FeedRefusal}
+use Rattle.information_service.specs.Causes.{TookAll}
+use Rattle.mt_io.specs.Causes.{Rose}
+use Rattle.traind.specs.Feeds.{Told}
+use Rattle.traind.specs.Runs.{CanEnd, IsRefused, Output, WritesAll, WritesFront, WritesReplies}
+use Rattle.traind.specs.Statuses.{error_line, refusal_line}
+use Rattle.traind.specs.declared.status.Status.{Status}
+use Rattle.traind.specs.declared.status.Status.TheVariants.{Ok, Usage, FeedRefused, ReadFault, WriteFault, Memory, TooLong}
+
+-- how many bytes of the input the program takes, if it finds no end before
+abbrev pub byte_budget : ℕ
+byte_budget = 2 ^ 40
+
+-- a feed, as a run finds it and leaves it
+pub record FeedSeen : Type 0 where
+  -- its files, where the feed tells them
+  pub tables : Option Told
+  -- how many of its reads had failed before the run, and how many after it
+  pub faults : ℕ
+  pub faults_after : ℕ
+
+-- an input, as a run finds it and leaves it
+pub record InputSeen : Type 0 where
+  -- the bytes that were left to take before the run and after it, where the input tells them
+  pub left : Option (List ℕ)
+  pub left_after : Option (List ℕ)
+  -- how many of its reads had failed
+  pub faults : ℕ
+  pub faults_after : ℕ
+
+-- an output or the error stream, as a run finds it and leaves it
+pub record OutputSeen : Type 0 where
+  -- the bytes that were written to it before the run and after it, where it tells them
+  pub written : Option (List ℕ)
+  pub written_after : Option (List ℕ)
+  -- how many of its writes had failed
+  pub faults : ℕ
+  pub faults_after : ℕ
+
+-- what is written to the error stream is this, unless a write to it fails
+abbrev pub Tells : OutputSeen → List ℕ → Type 0
+Tells err line =
+    ¬ (Rose err.faults err.faults_after) → Appends err.written err.written_after line
+
+-- The contract of a command with this output. The run had these words, and it ended with this
+-- status. `feed_kept`, `input_kept` and `out_kept` say of the feed, the input and the output that
+-- they are as they were
+pub record MeetsContract (output : Output) (budget : ℕ) (words : List (List ℕ)) (feed : FeedSeen)
+    (input : InputSeen) (out err : OutputSeen) (feed_kept input_kept out_kept : Type 0)
+    (status : Status) : Type 0 where
+  -- ---- words
+
+  -- the status for words that ask for nothing comes for such words alone
+  pub usage : status ≡ Usage → asked_of words ≡ None
+  -- and for all of them, unless there is no memory
+  pub usage_exactly : asked_of words ≡ None → (status ≡ Usage) ⊎ (status ≡ Memory)
+  -- such words touch nothing
+  pub usage_untouched : asked_of words ≡ None → feed_kept × input_kept × out_kept
+
+  -- ---- the feed
+
+  -- a feed is refused for a reason, which is the one by the definition where the feed tells its
+  -- tables, and which the error stream tells
+  pub refused : status ≡ FeedRefused → (why : FeedRefusal)
+      × ((told : Told) → feed.tables ≡ Some told → IsRefused words feed.tables why)
+      × Tells err (refusal_line why)
+  -- a feed that is to be refused is refused, unless a read of it fails or there is no memory
+  pub refused_exactly : (why : FeedRefusal) → IsRefused words feed.tables why
+      → (status ≡ FeedRefused) ⊎ (status ≡ Memory)
+      ⊎ ((status ≡ ReadFault) × Rose feed.faults feed.faults_after)
+  -- a feed is refused before anything is read or written
+  pub untouched : status ≡ FeedRefused → input_kept × out_kept
+  -- whatever the status, no input is read by a feed that is to be refused
+  pub refused_untouched : (why : FeedRefusal) → IsRefused words feed.tables why
+      → input_kept × out_kept
+
+  -- ---- the output
+
+  -- all went well: the whole output of all lines of the input is written
+  pub ok : status ≡ Ok → WritesAll output words feed.tables input.left out.written
+      out.written_after
+  -- and the input is at its end
+  pub ended : status ≡ Ok → IsAtEnd input.left_after
+  -- where a read failed or the input is too long, what is written is for the lines that are whole
+  -- among the bytes taken
+  pub stopped : (status ≡ ReadFault) ⊎ (status ≡ TooLong) → WritesReplies output words feed.tables
+      input.left input.left_after out.written out.written_after
+  -- however the run ended, what is written begins an output of all lines of the input
+  pub front : WritesFront output words feed.tables input.left out.written out.written_after
+
+  -- ---- faults
+
+  -- a read fault comes where a read of the feed failed, before anything was read of the input, or
+  -- a read of the input
+  pub read_fault : status ≡ ReadFault → (input_kept × out_kept
+      × Rose feed.faults feed.faults_after) ⊎ Rose input.faults input.faults_after
+  -- a write fault comes where a write of the output failed
+  pub write_fault : status ≡ WriteFault → Rose out.faults out.faults_after
+  -- the input is too long where as many bytes were taken as may be
+  pub too_long : status ≡ TooLong → TookAll budget input.left input.left_after
+  -- words that ask for a feed that holds a timetable, an input with fewer bytes than may be taken,
+  -- and no fault: all goes well, unless there is no memory
+  pub complete : CanEnd words feed.tables input.left budget
+      → ¬ (Rose feed.faults feed.faults_after) → ¬ (Rose input.faults input.faults_after)
+      → ¬ (Rose out.faults out.faults_after) → (status ≡ Ok) ⊎ (status ≡ Memory)
+  -- the error stream has the line of the status
+  pub error_line : status ≢ FeedRefused → Tells err (error_line status)
