@@ -24,7 +24,7 @@ returns-clause-ok g c =
     let shown = all.3.output.shown in
     let rows = table now.network now.names now.state in
     λ bytes told.
-    record { all = shown ++ rows; output = whole_output bytes all.2 all.3 told; written = Appends-trans w0 w1 w2 shown rows all.3.output.written c.in_ok-write_table.ensures.ok }
+    record { shown = shown ++ rows; is = whole_output bytes all.2 all.3 told; written = Appends-trans w0 w1 w2 shown rows all.3.output.written c.in_ok-write_table.ensures.ok }
 
 pub returns-clause-ended : goal.returns-clause-ended
 returns-clause-ended g c =
@@ -65,7 +65,7 @@ pub returns-in_err-reader-clause-front : goal.returns-in_err-reader-clause-front
 returns-in_err-reader-clause-front g c =
     let w0 = g.K.Sink.written c.args.out.now in
     each_fault c.from_residual.result _ (λ f bytes told.
-    inl (record { first = []; later = lines_of true bytes; shown = []; split = refl; replies = refl; front = front_none w0 [] }))
+    inl (record { first = []; later = lines_of true bytes; shown = []; split = refl; is = refl; front = front_none w0 [] }))
 
 pub returns-in_err-answer_lines-clause-front : goal.returns-in_err-answer_lines-clause-front
 returns-in_err-answer_lines-clause-front g c =
