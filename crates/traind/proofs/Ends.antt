@@ -24,6 +24,19 @@ cause_of_lines read write long lines.WriteFault c = c
 cause_of_lines read write long lines.Memory c = tt
 cause_of_lines read write long lines.TooLong c = c
 
+-- the table stops for a failed write or for want of memory alone
+pub table_stops : (T write : Type 0) (f : LinesFault) → stops.HasLinesFaultCause ⊥ write ⊥ f → WhereLinesStop T (lines_fault f)
+table_stops T write lines.ReadFault c = absurd c
+table_stops T write lines.WriteFault c = tt
+table_stops T write lines.Memory c = tt
+table_stops T write lines.TooLong c = absurd c
+
+pub cause_of_table : (read write later long : Type 0) (f : LinesFault) → (later → write) → stops.HasLinesFaultCause ⊥ later ⊥ f → HasFaultCause ⊥ (λ why. ⊥) read write long (lines_fault f)
+cause_of_table read write later long lines.ReadFault h c = absurd c
+cause_of_table read write later long lines.WriteFault h c = h c
+cause_of_table read write later long lines.Memory h c = tt
+cause_of_table read write later long lines.TooLong h c = absurd c
+
 pub wherever : (T : Type 0) (f : Fault) → T → WhereLinesStop T f
 wherever T Usage t = tt
 wherever T (FeedRefused why) t = tt

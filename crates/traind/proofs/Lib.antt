@@ -1,8 +1,4 @@
 pub mod Ends
-pub mod Fronts
-pub mod InStep
-pub mod Networks
-pub mod OneMore
 pub mod SameTables
 pub mod StatusFacts
 pub mod Tables

@@ -6,8 +6,8 @@ use Rattle.delay_model.specs.Waits.{wait}
 use Rattle.change_times.specs.ChangeTables.{ChangeTables, HaveSameChanges, tables_of}
 use Rattle.waiting_rules.specs.WaitTable.{WaitTable, wait_table}
 use Rattle.edge_rules.specs.Held.{network_of}
+use Rattle.information_service.specs.Networks.{IsSame}
 use Rattle.traind.specs.Feeds.{network}
-use Rattle.traind.specs.Networks.{IsSame}
 
 pub same-tables : (t : Tables) (o : Opts) (c : ChangeTables) (w : WaitTable) → HaveSameChanges (tables_of t o.change) c → w ≡ wait_table t.stops t.rules → IsSame (network t o) (network_of c w o)
 unfolding wait

@@ -1,7 +1,4 @@
--- Why a run stops before its end, and what it then has done.
-use Rattle.std.specs.Prelude.{ℕ, ◌≡◌, List, length}
-use Rattle.std.specs.declared.option.Option.{Option}
-use Rattle.std.specs.Io.KnownBytes.{Consumes}
+-- Why a run stops before its end.
 use Rattle.gtfs_tables.specs.declared.refusals.FeedRefusal.{FeedRefusal}
 use Rattle.traind.specs.declared.status.Fault.{Fault}
 use Rattle.traind.specs.declared.status.Fault.TheVariants.{Usage, FeedRefused, ReadFault, WriteFault, Memory, TooLong}
@@ -26,8 +23,3 @@ WhereLinesStop holds ReadFault = holds
 WhereLinesStop holds WriteFault = Unit {0}
 WhereLinesStop holds Memory = Unit {0}
 WhereLinesStop holds TooLong = holds
-
--- as many bytes were taken as may be
-abbrev pub TookAll : ℕ → Option (List ℕ) → Option (List ℕ) → Type 0
-TookAll budget left left_now = (bytes : List ℕ) × Consumes left left_now bytes
-    × (length bytes ≡ budget)

@@ -1,11 +1,4 @@
-pub mod Alike
 pub mod Causes
 pub mod Feeds
-pub mod Fronts
-pub mod Lines
-pub mod Networks
-pub mod Output
 pub mod Runs
-pub mod Seen
-pub mod Standing
 pub mod Statuses

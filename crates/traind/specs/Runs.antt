@@ -7,10 +7,10 @@ use Rattle.delay_model.specs.declared.network.Network.{Network}
 use Rattle.delay_model.specs.declared.state.State.{State}
 use Rattle.command_words.specs.Words.{Asked, asked_of}
 use Rattle.gtfs_tables.specs.declared.refusals.FeedRefusal.{FeedRefusal}
+use Rattle.information_service.specs.Fronts.{AppendsReplies, AppendsOutput, AppendsOutputFront}
 use Rattle.mt_io.specs.Lines.{lines_of}
 use Rattle.schedule_build.specs.Directory.{Names}
 use Rattle.traind.specs.Feeds.{network, Told, tables_in, asked_in}
-use Rattle.traind.specs.Fronts.{AppendsReplies, AppendsOutput, AppendsOutputFront}
 
 -- the words ask for a feed that tells its tables and holds this timetable
 pub record Loads (words : List (List ℕ)) (tables : Option Told) (nw : Network) (st : State)

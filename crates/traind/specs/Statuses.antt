@@ -11,6 +11,8 @@ use Rattle.gtfs_tables.specs.declared.refusals.FeedError.TheVariants as feeds
 use Rattle.gtfs_tables.specs.Names.{file_name}
 use Rattle.command_words.specs.declared.words.WordsFault.{WordsFault}
 use Rattle.command_words.specs.declared.words.WordsFault.TheVariants as words
+use Rattle.information_service.specs.declared.fault.LinesFault.{LinesFault}
+use Rattle.information_service.specs.declared.fault.LinesFault.TheVariants as lines
 use Rattle.traind.specs.declared.status.Status.{Status}
 use Rattle.traind.specs.declared.status.Status.TheVariants.{Ok, Usage, FeedRefused, ReadFault, WriteFault, Memory, TooLong}
 use Rattle.traind.specs.declared.status.Fault.{Fault}
@@ -92,3 +94,10 @@ abbrev pub feed_fault : FeedError → Fault
 feed_fault (feeds.Refused why) = faults.FeedRefused why
 feed_fault feeds.ReadFault = faults.ReadFault
 feed_fault feeds.OutOfMemory = faults.Memory
+
+-- and where answering the lines stops
+abbrev pub lines_fault : LinesFault → Fault
+lines_fault lines.ReadFault = faults.ReadFault
+lines_fault lines.WriteFault = faults.WriteFault
+lines_fault lines.Memory = faults.Memory
+lines_fault lines.TooLong = faults.TooLong

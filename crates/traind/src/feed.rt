@@ -5,15 +5,15 @@ ghost use Rattle.command_words.specs.Held.{asked_view};
 ghost use Rattle.gtfs_tables.specs.Refusals.{Yields};
 ghost use Rattle.mt_base.specs.Civil.{IsCivil};
 ghost use Rattle.mt_base.specs.Options.{IsInRange};
+ghost use Rattle.information_service.specs.Networks.{IsSame};
 ghost use Rattle.mt_io.specs.Causes.{Rose};
 ghost use Rattle.mt_base.specs.declared.tables.Tables.{Tables as ATables};
 ghost use Rattle.traind.specs.Feeds.{network, Told, tables_in, asked_in};
-ghost use Rattle.traind.specs.Networks.{IsSame};
 
-use crate::service::InformationService;
 use command_words::Asked;
 use feed_load::load_feed;
 use gtfs_tables::FeedError;
+use information_service::InformationService;
 use mt_io::Feed;
 use std::alloc::Global;
 use timetable::Timetable;

@@ -2,14 +2,9 @@
 #![tactic(auto)]
 
 mod feed;
-pub mod laws;
-mod lines;
 mod refusal;
-mod replies;
 pub mod run;
-mod service;
 pub mod status;
-mod table;
 #[cfg(test)]
 mod tests;
 

@@ -4,23 +4,22 @@ ghost use Rattle.std.specs.Prelude.{◌≡◌, ◌≢◌, ◌<◌, ◌≤◌, �
 ghost use Rattle.std.specs.Io.KnownBytes.{Appends, Consumes, IsAtEnd};
 ghost use Rattle.command_words.specs.Words.{asked_of};
 ghost use Rattle.gtfs_tables.specs.declared.refusals.FeedRefusal.{FeedRefusal};
+ghost use Rattle.information_service.specs.Causes.{TookAll};
+ghost use Rattle.information_service.specs.Fronts.{AppendsReplies, AppendsOutput, AppendsOutputFront};
 ghost use Rattle.mt_io.specs.Causes.{Rose};
 ghost use Rattle.mt_io.specs.Lines.{lines_of};
-ghost use Rattle.traind.specs.Causes.{HasFaultCause, WhereLinesStop, TookAll};
+ghost use Rattle.traind.specs.Causes.{HasFaultCause, WhereLinesStop};
 ghost use Rattle.traind.specs.Feeds.{Told};
-ghost use Rattle.traind.specs.Fronts.{AppendsReplies, AppendsOutput, AppendsOutputFront};
 ghost use Rattle.traind.specs.Runs.{IsRefused, WritesAll, WritesReplies, WritesFront, CanEnd};
 ghost use Rattle.traind.specs.Statuses.{error_line, refusal_line, status_of};
 ghost use Rattle.traind.specs.declared.status.Fault.TheVariants as faults;
 
 use crate::feed::load;
-use crate::lines::answer_lines;
 use crate::refusal::refusal_line;
-use crate::service::InformationService;
 use crate::status::{Fault, Status, status_of};
-use crate::table::write_table;
 use command_words::read_words;
 use gtfs_tables::FeedRefusal;
+use information_service::{InformationService, answer_lines, write_table};
 use mt_io::{Feed, Gate, LineReader, Sink, Source, put};
 use std::alloc::Global;
 use std::sync::Wait;
@@ -53,7 +52,8 @@ fn run_lines<S: Source, K: Sink>(
 {
     let mut reader = LineReader::build(alloc, budget)?;
     answer_lines(alloc, service, &mut reader, input, out)?;
-    write_table(alloc, service, out)
+    write_table(alloc, service, out)?;
+    Ok(())
 }
 
 /// Reads the words, loads the feed that they ask for, and answers the input.

@@ -5,8 +5,8 @@ ghost use Rattle.traind.specs.Statuses.{error_line, number_of, status_of};
 
 use command_words::WordsFault;
 use gtfs_tables::{FeedError, FeedRefusal};
+use information_service::LinesFault;
 use mt_base::memory::OutOfMemory;
-use mt_io::Failed;
 
 /// How a run ends.
 #[derive(Clone, Copy, Debug, PartialEq, Eq)]
@@ -96,17 +96,6 @@ impl From<OutOfMemory> for Fault {
     }
 }
 
-impl From<Failed> for Fault {
-    ghost use Rattle.std.specs.Prelude.{◌≡◌};
-    ghost use Rattle.traind.specs.declared.status.Fault.TheVariants.{WriteFault};
-
-    ghost from_gives = { λ _ e. e ≡ WriteFault };
-
-    fn from(_failed: Failed) -> Fault {
-        Fault::WriteFault
-    }
-}
-
 impl From<FeedError> for Fault {
     ghost use Rattle.std.specs.Prelude.{◌≡◌};
     ghost use Rattle.traind.specs.Statuses.{feed_fault};
@@ -132,6 +121,22 @@ impl From<WordsFault> for Fault {
         match fault {
             WordsFault::Usage => Fault::Usage,
             WordsFault::Memory => Fault::Memory,
+        }
+    }
+}
+
+impl From<LinesFault> for Fault {
+    ghost use Rattle.std.specs.Prelude.{◌≡◌};
+    ghost use Rattle.traind.specs.Statuses.{lines_fault};
+
+    ghost from_gives = { λ fault e. e ≡ lines_fault fault };
+
+    fn from(fault: LinesFault) -> Fault {
+        match fault {
+            LinesFault::ReadFault => Fault::ReadFault,
+            LinesFault::WriteFault => Fault::WriteFault,
+            LinesFault::Memory => Fault::Memory,
+            LinesFault::TooLong => Fault::TooLong,
         }
     }
 }

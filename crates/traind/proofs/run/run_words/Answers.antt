@@ -2,9 +2,10 @@ use Rattle.std.proofs.Common.{map, string_bytes, true, false}
 use Rattle.std.proofs.lemmas.Result.{IfErr-weaker}
 use Rattle.mt_io.specs.Lines.{lines_of}
 use Rattle.command_words.specs.Held.{asked_view}
+use Rattle.information_service.proofs.Ends.{nothing_yet}
+use Rattle.information_service.proofs.Fronts.{output_is_front}
 use Rattle.traind.specs.Runs.{WritesReplies}
-use Rattle.traind.proofs.Ends.{anywhere, nothing_yet, on_ok_also, where_also}
-use Rattle.traind.proofs.Fronts.{output_is_front}
+use Rattle.traind.proofs.Ends.{anywhere, on_ok_also, where_also}
 use Rattle.traind.proofs.StatusFacts.{however}
 use Rattle.traind.proofs.Tables.{same-start, output-is, replies-are, front-is}
 use Rattle.traind.proofs.run.run_words.Goals as goal
