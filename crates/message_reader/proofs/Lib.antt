@@ -1,3 +1,2 @@
 pub mod Rest
 pub mod SpelledLemmas
-pub mod Unnamed

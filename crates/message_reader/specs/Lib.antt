@@ -1,4 +1,5 @@
 pub mod Chain
+pub mod Errors
 pub mod Fields
 pub mod Kinds
 pub mod Wires
@@ -7,3 +8,4 @@ pub mod Queries
 pub mod Lines
 pub mod Spelled
 pub mod Resolved
+pub mod ResolvedQueries

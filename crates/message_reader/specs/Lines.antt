@@ -3,25 +3,24 @@
 -- {"v":1,"type":"query","client":"c1","from":"A","to":"D","date":"20260105","time":"08:00:00"}
 -- {"v":1,"type":"keep","feeder":{"trip":"T1","date":"20260105","call":1},"train":{"trip":"T2","date":"20260105","call":0}}
 -- Members that are not named here are passed over, and of two members of one name the last counts.
--- The faults, in order: Utf8   the bytes are no text Json   the text is no JSON, or nests deeper
--- than `serde_json` reads Shape  the value is no object with `v` and `type`, or a member that its
--- type needs is absent or of another kind Stop   a query names a place that is neither a stop nor a
--- station Time   a date is not eight digits that name a civil date, a time is not H:MM:SS or
--- HH:MM:SS, or the date of a query is not loaded
+-- The faults, in order: `Utf8`, the bytes are no text; `Json`, the text is no JSON, or nests deeper
+-- than `serde_json` reads; `Shape`, the value is no object with `v` and `type`, or a member that its
+-- type needs is absent or of another kind; `Time`, a date of a message is not eight digits that name
+-- a civil date, or a time of it is not H:MM:SS or HH:MM:SS. The places, the date and the time of a
+-- query are asked for when it is resolved. A `Long` line does not come here.
 use Rattle.std.specs.Prelude.{ℕ, ◌==◌, List, if◌then◌else◌, true, false, Some, None, Result, Ok, Err, codes}
 use Rattle.std.specs.declared.option.Option.{Option}
 use Rattle.std.specs.Str.{is_utf8}
 use Rattle.serde_json.specs.Data.{Data}
 use Rattle.serde_json.specs.Read.{read}
-use Rattle.message_reader.specs.declared.bad.Bad.{Bad}
-use Rattle.message_reader.specs.declared.bad.Bad.TheVariants.{Utf8, Json, Shape}
+use Rattle.message_reader.specs.declared.bad_line.BadLine.{BadLine}
+use Rattle.message_reader.specs.declared.bad_line.BadLine.TheVariants.{Utf8, Json, Shape}
 use Rattle.message_reader.specs.declared.kinds.Kind.{Kind}
 use Rattle.message_reader.specs.declared.kinds.Kind.TheVariants as kinds
 use Rattle.message_reader.specs.declared.wire.Connect.TheVariants as connects
 use Rattle.message_reader.specs.declared.wire.Line.{Line}
 use Rattle.message_reader.specs.declared.wire.Line.TheVariants.{Message, Query, Flush}
 use Rattle.message_reader.specs.declared.wire.Wire.{Wire}
-use Rattle.schedule_build.specs.Directory.{Names}
 use Rattle.message_reader.specs.Chain.{◌>>=◌, need, unless}
 use Rattle.message_reader.specs.Fields.{text_at, number_at}
 use Rattle.train_nodes.specs.declared.kinds.ValueKind.TheVariants as values
@@ -30,15 +29,15 @@ use Rattle.message_reader.specs.Messages.{event_of, cancel_of, reroute_of, extra
 use Rattle.message_reader.specs.Queries.{query_of}
 
 -- the bytes are a text in UTF-8
-abbrev pub utf8_of : List ℕ → Result (List ℕ) Bad
+abbrev pub utf8_of : List ℕ → Result (List ℕ) BadLine
 utf8_of bytes = if is_utf8 bytes then Ok bytes else Err Utf8
 
 -- the text is a value of JSON
-abbrev pub json_of : List ℕ → Result Data Bad
+abbrev pub json_of : List ℕ → Result Data BadLine
 json_of text = need Json (read text)
 
 -- the object has `v`, the whole number 1, and `type`, the name of a type of line
-unfoldable pub head_of : Data → Result Kind Bad
+unfoldable pub head_of : Data → Result Kind BadLine
 head_of d = do
   v ← need Shape (number_at (codes "v") d)
   _ ← unless (v == 1) Shape
@@ -46,34 +45,34 @@ head_of d = do
   need Shape (kind_of name)
 
 -- what an object says, by the type of its line
-unfoldable pub message_of : Names → Kind → Data → Result Line Bad
-message_of names kinds.Forecast d = event_of values.Forecast d >>= λ w. Ok (Message w)
-message_of names kinds.Report d = event_of values.Report d >>= λ w. Ok (Message w)
-message_of names kinds.Cancel d = cancel_of d >>= λ w. Ok (Message w)
-message_of names kinds.Reroute d = reroute_of d >>= λ w. Ok (Message w)
-message_of names kinds.Extra d = extra_of d >>= λ w. Ok (Message w)
-message_of names kinds.Keep d = connect_of connects.Keep d >>= λ w. Ok (Message w)
-message_of names kinds.Drop d = connect_of connects.Drop d >>= λ w. Ok (Message w)
-message_of names kinds.Rule d = connect_of connects.Rule d >>= λ w. Ok (Message w)
-message_of names kinds.Query d = query_of names d
-message_of names kinds.Flush d = Ok Flush
+unfoldable pub message_of : Kind → Data → Result Line BadLine
+message_of kinds.Forecast d = event_of values.Forecast d >>= λ w. Ok (Message w)
+message_of kinds.Report d = event_of values.Report d >>= λ w. Ok (Message w)
+message_of kinds.Cancel d = cancel_of d >>= λ w. Ok (Message w)
+message_of kinds.Reroute d = reroute_of d >>= λ w. Ok (Message w)
+message_of kinds.Extra d = extra_of d >>= λ w. Ok (Message w)
+message_of kinds.Keep d = connect_of connects.Keep d >>= λ w. Ok (Message w)
+message_of kinds.Drop d = connect_of connects.Drop d >>= λ w. Ok (Message w)
+message_of kinds.Rule d = connect_of connects.Rule d >>= λ w. Ok (Message w)
+message_of kinds.Query d = query_of d >>= λ q. Ok (Query q)
+message_of kinds.Flush d = Ok Flush
 
 -- what the value of a line says
-unfoldable pub said_by : Names → Data → Result Line Bad
-said_by names d = do
+unfoldable pub said_by : Data → Result Line BadLine
+said_by d = do
   kind ← head_of d
-  message_of names kind d
+  message_of kind d
 
--- the first fault that holds, or what the line says by these names
-unfoldable pub line_of : Names → List ℕ → Result Line Bad
-line_of names bytes = do
+-- what the line says, or the first fault that holds
+unfoldable pub line_of : List ℕ → Result Line BadLine
+line_of bytes = do
   text ← utf8_of bytes
   d ← json_of text
-  said_by names d
+  said_by d
 
 -- the message, if one is said
-abbrev pub message_in : Result Line Bad → Option Wire
+abbrev pub message_in : Result Line BadLine → Option Wire
 message_in (Ok (Message w)) = Some w
-message_in (Ok (Query client day query)) = None
+message_in (Ok (Query q)) = None
 message_in (Ok Flush) = None
-message_in (Err b) = None
+message_in (Err bad) = None

@@ -3,8 +3,8 @@
 use Rattle.std.specs.Prelude.{ℕ, suc, nat_le, List, [], ◌∷◌, Result, Ok, codes}
 use Rattle.serde_json.specs.Data.{Data, Items, no_items, item}
 use Rattle.serde_json.specs.Find.{get}
-use Rattle.message_reader.specs.declared.bad.Bad.{Bad}
-use Rattle.message_reader.specs.declared.bad.Bad.TheVariants.{Shape, Time}
+use Rattle.message_reader.specs.declared.bad_line.BadLine.{BadLine}
+use Rattle.message_reader.specs.declared.bad_line.BadLine.TheVariants.{Shape, Time}
 use Rattle.message_reader.specs.declared.wire.WireCall.{WireCall}
 use Rattle.message_reader.specs.declared.wire.WireRef.{WireRef}
 use Rattle.message_reader.specs.declared.wire.Connect.{Connect as AConnect}
@@ -16,7 +16,7 @@ use Rattle.message_reader.specs.Fields.{text_at, label_at, items_at, departure_o
 
 -- `forecast` and `report`: a train by `trip` and `date`, a call by its label `call`, `event` and
 -- `time`
-unfoldable pub event_of : ValueKind → Data → Result Wire Bad
+unfoldable pub event_of : ValueKind → Data → Result Wire BadLine
 event_of kind d = do
   trip ← need Shape (text_at (codes "trip") d)
   date ← need Shape (text_at (codes "date") d)
@@ -29,7 +29,7 @@ event_of kind d = do
   Ok (Event kind trip day call dep secs)
 
 -- `cancel`: a train, and the labels `from` and `to` of two of its calls
-unfoldable pub cancel_of : Data → Result Wire Bad
+unfoldable pub cancel_of : Data → Result Wire BadLine
 cancel_of d = do
   trip ← need Shape (text_at (codes "trip") d)
   date ← need Shape (text_at (codes "date") d)
@@ -46,7 +46,7 @@ pub record RefTexts : Type 0 where
   pub date : List ℕ
   pub call : ℕ
 
-unfoldable pub ref_texts : Data → Result RefTexts Bad
+unfoldable pub ref_texts : Data → Result RefTexts BadLine
 ref_texts d = do
   trip ← need Shape (text_at (codes "trip") d)
   date ← need Shape (text_at (codes "date") d)
@@ -54,13 +54,13 @@ ref_texts d = do
   Ok (record { trip = trip; date = date; call = call })
 
 -- the call that it names
-unfoldable pub ref_of : RefTexts → Result WireRef Bad
+unfoldable pub ref_of : RefTexts → Result WireRef BadLine
 ref_of texts = do
   day ← need Time (date_of texts.date)
   Ok (record { trip = texts.trip; date = day; call = texts.call })
 
 -- `keep`, `drop` and `rule`: two such objects, `feeder` and `train`
-unfoldable pub connect_of : AConnect → Data → Result Wire Bad
+unfoldable pub connect_of : AConnect → Data → Result Wire BadLine
 connect_of kind d = do
   feeder ← need Shape (get (codes "feeder") d)
   train ← need Shape (get (codes "train") d)
@@ -78,7 +78,7 @@ pub record CallTexts : Type 0 where
   pub arr : List ℕ
   pub dep : List ℕ
 
-unfoldable pub call_texts : Data → Result CallTexts Bad
+unfoldable pub call_texts : Data → Result CallTexts BadLine
 call_texts d = do
   stop ← need Shape (text_at (codes "stop") d)
   arr ← need Shape (text_at (codes "arr") d)
@@ -86,7 +86,7 @@ call_texts d = do
   Ok (record { stop = stop; arr = arr; dep = dep })
 
 -- the call that it names
-unfoldable pub call_of : Data → Result WireCall Bad
+unfoldable pub call_of : Data → Result WireCall BadLine
 call_of d = do
   texts ← call_texts d
   arr ← need Time (seconds_of texts.arr)
@@ -94,14 +94,14 @@ call_of d = do
   Ok (record { stop = texts.stop; arr = arr; dep = dep })
 
 -- whether every item of a list is such an object
-unfoldable pub calls_shape : Items → Result (Unit {0}) Bad
+unfoldable pub calls_shape : Items → Result (Unit {0}) BadLine
 calls_shape no_items = Ok tt
 calls_shape (item d ds) = do
   _ ← call_texts d
   calls_shape ds
 
 -- the calls of a list
-unfoldable pub calls_of : Items → Result (List WireCall) Bad
+unfoldable pub calls_of : Items → Result (List WireCall) BadLine
 calls_of no_items = Ok []
 calls_of (item d ds) = do
   call ← call_of d
@@ -115,7 +115,7 @@ count (item d ds) = suc (count ds)
 
 -- `reroute`: a train, the labels `from` and `to` of two of its calls, and `via`, a list of calls
 -- that may be empty
-unfoldable pub reroute_of : Data → Result Wire Bad
+unfoldable pub reroute_of : Data → Result Wire BadLine
 reroute_of d = do
   trip ← need Shape (text_at (codes "trip") d)
   date ← need Shape (text_at (codes "date") d)
@@ -129,7 +129,7 @@ reroute_of d = do
 
 -- `extra`: a train that is not there yet, the text `route`, and `calls`, a list of at least two
 -- calls
-unfoldable pub extra_of : Data → Result Wire Bad
+unfoldable pub extra_of : Data → Result Wire BadLine
 extra_of d = do
   trip ← need Shape (text_at (codes "trip") d)
   date ← need Shape (text_at (codes "date") d)

@@ -1,7 +1,7 @@
 -- The message by number that a message by name stands for, or the refusal that the names decide.
 -- The refusals, in order: Unknown  a train, a stop, a route or a service day of the message has no
 -- number. The new train of an extra needs none Known    the new train of an extra is there already
-use Rattle.std.specs.Prelude.{◌≡◌, ℕ, ◌+◌, List, [], ◌∷◌, Bool, true, false, if◌then◌else◌, length, Some, None, is_none, option_and_then, Result, Ok, Err}
+use Rattle.std.specs.Prelude.{ℕ, ◌+◌, List, [], ◌∷◌, Bool, true, false, if◌then◌else◌, length, Some, None, is_none, option_and_then, Result, Ok}
 use Rattle.std.specs.declared.option.Option.{Option}
 use Rattle.std.specs.Option.{option_map_or}
 use Rattle.mt_base.specs.declared.keys.Node.{Node}
@@ -13,8 +13,6 @@ use Rattle.delay_model.specs.declared.messages.Refusal.{Refusal}
 use Rattle.delay_model.specs.declared.messages.Refusal.TheVariants as refusals
 use Rattle.schedule_build.specs.Directory.{Names, train_named, day_named, place_named, route_named, kind_of_place, base_of}
 use Rattle.message_reader.specs.declared.numbers.TrainOnDay.{TrainOnDay}
-use Rattle.message_reader.specs.declared.unresolved.ResolveFault.{ResolveFault}
-use Rattle.message_reader.specs.declared.unresolved.ResolveFault.TheVariants.{Unknown, Known, OutOfMemory}
 use Rattle.message_reader.specs.declared.wire.Connect.{Connect as AConnect}
 use Rattle.message_reader.specs.declared.wire.Connect.TheVariants as connects
 use Rattle.train_nodes.specs.declared.kinds.ValueKind.{ValueKind}
@@ -115,16 +113,3 @@ resolved names (Cancel trip date from to) = cancel_resolved names trip date from
 resolved names (Reroute trip date from to via) = reroute_resolved names trip date from to via
 resolved names (Extra trip date route calls) = extra_resolved names trip date route calls
 resolved names (Connect kind feeder train) = connect_resolved names kind feeder train
-
--- ---- what a function returns
-
--- a fault is the refusal that the names decide; memory may run out whatever they decide
-abbrev pub Refuses : {Y : Type 0} → ResolveFault → Result Y Refusal → Type 0
-Refuses OutOfMemory decided = Unit {0}
-Refuses Unknown decided = decided ≡ Err refusals.Unknown
-Refuses Known decided = decided ≡ Err refusals.Known
-
--- what a function returned is what the names decide, unless memory ran out
-abbrev pub Resolves : {X : Type 0} → Result X ResolveFault → Result X Refusal → Type 0
-Resolves (Ok x) decided = decided ≡ Ok x
-Resolves (Err e) decided = Refuses e decided

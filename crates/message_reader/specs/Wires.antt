@@ -1,9 +1,11 @@
--- What is true of each message that was read.
-use Rattle.std.specs.Prelude.{◌≤◌, All, length}
+-- What is true of each message and each query that was read.
+use Rattle.std.specs.Prelude.{◌≤◌, All, IfSome, length}
 use Rattle.mt_base.specs.Civil.{IsCivil}
 use Rattle.message_reader.specs.declared.wire.WireCall.{WireCall}
 use Rattle.message_reader.specs.declared.wire.Wire.{Wire}
 use Rattle.message_reader.specs.declared.wire.Wire.TheVariants.{Event, Cancel, Reroute, Extra, Connect}
+use Rattle.message_reader.specs.declared.wire.WireQuery.{WireQuery}
+use Rattle.message_reader.specs.declared.wire.WireTime.{WireTime}
 use Rattle.message_reader.specs.declared.wire.Line.{Line}
 use Rattle.message_reader.specs.declared.wire.Line.TheVariants.{Message, Query, Flush}
 
@@ -19,8 +21,16 @@ IsWire (Reroute trip date from to via) = IsCivil date × All IsWireCall via
 IsWire (Extra trip date route calls) = IsCivil date × All IsWireCall calls × (2 ≤ length calls)
 IsWire (Connect kind feeder train) = IsCivil feeder.date × IsCivil train.date
 
--- the message of the line keeps what every message that is read keeps
+-- the date is civil, and the time of day is at most 99:59:59
+abbrev pub IsWireTime : WireTime → Type 0
+IsWireTime t = IsCivil t.date × (t.secs ≤ 359999)
+
+-- so is the time of the query, where it has one
+abbrev pub IsWireQuery : WireQuery → Type 0
+IsWireQuery q = IfSome q.time IsWireTime
+
+-- the message or query of the line keeps what every one that is read keeps
 abbrev pub IsLine : Line → Type 0
 IsLine (Message w) = IsWire w
-IsLine (Query client day query) = Unit {0}
+IsLine (Query q) = IsWireQuery q
 IsLine Flush = Unit {0}

@@ -1,12 +1,12 @@
 //! Lists of calls.
 
-ghost use Rattle.std.specs.Prelude.{◌≡◌, IfOk, All, length};
+ghost use Rattle.std.specs.Prelude.{◌≡◌, IfOk, All, length, result_map_both};
 ghost use Rattle.serde_json.specs.View.{view, items_view};
-ghost use Rattle.message_reader.specs.Chain.{Gives, GivesAs};
+ghost use Rattle.message_reader.specs.Errors.{Gives, bad_in};
 ghost use Rattle.message_reader.specs.Messages.{call_texts, call_of, calls_shape, calls_of};
 ghost use Rattle.message_reader.specs.Wires.{IsWireCall};
 
-use crate::bad::Bad;
+use crate::bad_line::{BadLine, LineError};
 use crate::fields::{seconds, text_at};
 use crate::wire::WireCall;
 use mt_base::names::Name;
@@ -23,24 +23,25 @@ struct CallTexts<'v> {
 }
 
 #[tactic(auto, unfolding(crate::specs::Messages::call_texts))]
-fn texts_at<'v>(value: &'v Value) -> Result<CallTexts<'v>, Bad>
-    ensures { GivesAs (λ r. record { stop = r.stop.now; arr = r.arr.now; dep = r.dep.now })
-        result (call_texts (view value.now)) }
+fn texts_at<'v>(value: &'v Value) -> Result<CallTexts<'v>, BadLine>
+    ensures { result_map_both
+        (λ r. record { stop = r.stop.now; arr = r.arr.now; dep = r.dep.now }) (λ bad. bad) result
+        ≡ call_texts (view value.now) }
 {
-    let stop = text_at(value, "stop").ok_or(Bad::Shape)?;
-    let arr = text_at(value, "arr").ok_or(Bad::Shape)?;
-    let dep = text_at(value, "dep").ok_or(Bad::Shape)?;
+    let stop = text_at(value, "stop").ok_or(BadLine::Shape)?;
+    let arr = text_at(value, "arr").ok_or(BadLine::Shape)?;
+    let dep = text_at(value, "dep").ok_or(BadLine::Shape)?;
     Ok(CallTexts { stop, arr, dep })
 }
 
 #[tactic(auto, unfolding(crate::specs::Messages::call_of))]
-fn call_at(alloc: Global, value: &Value) -> Result<WireCall, Bad>
-    ensures exact { Gives result (call_of (view value.now)) }
+fn call_at(alloc: Global, value: &Value) -> Result<WireCall, LineError>
+    ensures exact { Gives bad_in result (call_of (view value.now)) }
     ensures kept { IfOk result IsWireCall }
 {
     let texts = texts_at(value)?;
-    let arr = seconds(texts.arr.as_bytes()).ok_or(Bad::Time)?;
-    let dep = seconds(texts.dep.as_bytes()).ok_or(Bad::Time)?;
+    let arr = seconds(texts.arr.as_bytes()).ok_or(BadLine::Time)?;
+    let dep = seconds(texts.dep.as_bytes()).ok_or(BadLine::Time)?;
     Ok(WireCall {
         stop: Name::build(alloc, texts.stop)?,
         arr,
@@ -49,8 +50,8 @@ fn call_at(alloc: Global, value: &Value) -> Result<WireCall, Bad>
 }
 
 /// Whether each value names a call.
-pub fn check_calls(values: &[Value]) -> Result<(), Bad>
-    ensures { Gives result (calls_shape (items_view values.now)) }
+pub fn check_calls(values: &[Value]) -> Result<(), BadLine>
+    ensures { result ≡ calls_shape (items_view values.now) }
 {
     for value in values {
         let _texts = texts_at(value)?;
@@ -59,8 +60,8 @@ pub fn check_calls(values: &[Value]) -> Result<(), Bad>
 }
 
 /// The calls that the values name.
-pub fn read_calls(alloc: Global, values: &[Value]) -> Result<Rows<WireCall>, Bad>
-    ensures exact { Gives result (calls_of (items_view values.now)) }
+pub fn read_calls(alloc: Global, values: &[Value]) -> Result<Rows<WireCall>, LineError>
+    ensures exact { Gives bad_in result (calls_of (items_view values.now)) }
     ensures kept { IfOk result (λ calls. All IsWireCall calls) }
     ensures all { IfOk result (λ calls. length calls ≡ length values.now) }
 {

@@ -1,13 +1,13 @@
 //! Messages about connections.
 
-ghost use Rattle.std.specs.Prelude.{IfOk};
+ghost use Rattle.std.specs.Prelude.{◌≡◌, IfOk, result_map_both};
 ghost use Rattle.serde_json.specs.View.{view};
 ghost use Rattle.mt_base.specs.Civil.{IsCivil};
-ghost use Rattle.message_reader.specs.Chain.{Gives, GivesAs};
+ghost use Rattle.message_reader.specs.Errors.{Gives, bad_in};
 ghost use Rattle.message_reader.specs.Messages.{ref_texts, ref_of, connect_of};
 ghost use Rattle.message_reader.specs.Wires.{IsWire};
 
-use crate::bad::Bad;
+use crate::bad_line::{BadLine, LineError};
 use crate::fields::{date, label_at, text_at};
 use crate::wire::{Connect, Wire, WireRef};
 use mt_base::names::Name;
@@ -24,13 +24,14 @@ struct RefTexts<'v> {
 }
 
 #[tactic(auto, unfolding(crate::specs::Messages::ref_texts))]
-fn reference_texts<'v>(value: &'v Value) -> Result<RefTexts<'v>, Bad>
-    ensures { GivesAs (λ r. record { trip = r.trip.now; date = r.date.now; call = r.call })
-        result (ref_texts (view value.now)) }
+fn reference_texts<'v>(value: &'v Value) -> Result<RefTexts<'v>, BadLine>
+    ensures { result_map_both
+        (λ r. record { trip = r.trip.now; date = r.date.now; call = r.call }) (λ bad. bad) result
+        ≡ ref_texts (view value.now) }
 {
-    let trip = text_at(value, "trip").ok_or(Bad::Shape)?;
-    let date = text_at(value, "date").ok_or(Bad::Shape)?;
-    let call = label_at(value, "call").ok_or(Bad::Shape)?;
+    let trip = text_at(value, "trip").ok_or(BadLine::Shape)?;
+    let date = text_at(value, "date").ok_or(BadLine::Shape)?;
+    let call = label_at(value, "call").ok_or(BadLine::Shape)?;
     Ok(RefTexts {
         trip,
         date,
@@ -39,12 +40,12 @@ fn reference_texts<'v>(value: &'v Value) -> Result<RefTexts<'v>, Bad>
 }
 
 #[tactic(auto, unfolding(crate::specs::Messages::ref_of))]
-fn reference(alloc: Global, texts: &RefTexts) -> Result<WireRef, Bad>
+fn reference(alloc: Global, texts: &RefTexts) -> Result<WireRef, LineError>
     ensures exact { let r = texts.now in
-        Gives result (ref_of (record { trip = r.trip.now; date = r.date.now; call = r.call })) }
+        Gives bad_in result (ref_of (record { trip = r.trip.now; date = r.date.now; call = r.call })) }
     ensures kept { IfOk result (λ r. IsCivil r.date) }
 {
-    let date = date(texts.date.as_bytes()).ok_or(Bad::Time)?;
+    let date = date(texts.date.as_bytes()).ok_or(BadLine::Time)?;
     Ok(WireRef {
         trip: Name::build(alloc, texts.trip)?,
         date,
@@ -54,12 +55,12 @@ fn reference(alloc: Global, texts: &RefTexts) -> Result<WireRef, Bad>
 
 /// A connection that is kept or dropped, or to which the rules apply again.
 #[tactic(auto, unfolding(crate::specs::Messages::connect_of))]
-pub fn connect(alloc: Global, kind: Connect, value: &Value) -> Result<Wire, Bad>
-    ensures exact { Gives result (connect_of kind (view value.now)) }
+pub fn connect(alloc: Global, kind: Connect, value: &Value) -> Result<Wire, LineError>
+    ensures exact { Gives bad_in result (connect_of kind (view value.now)) }
     ensures kept { IfOk result IsWire }
 {
-    let feeder = value.get("feeder").ok_or(Bad::Shape)?;
-    let train = value.get("train").ok_or(Bad::Shape)?;
+    let feeder = value.get("feeder").ok_or(BadLine::Shape)?;
+    let train = value.get("train").ok_or(BadLine::Shape)?;
     let feeder = reference_texts(feeder)?;
     let train = reference_texts(train)?;
     let feeder = reference(alloc, &feeder)?;

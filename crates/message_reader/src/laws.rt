@@ -3,10 +3,12 @@
 ghost use Rattle.std.specs.Prelude.{◌≡◌, ℕ, ◌+◌, List, ◌≤◌, Some, Ok};
 ghost use Rattle.mt_base.specs.Civil.{IsCivil};
 ghost use Rattle.message_reader.specs.declared.wire.Wire.{Wire as AWire};
+ghost use Rattle.message_reader.specs.declared.wire.WireQuery.{WireQuery as AQuery};
+ghost use Rattle.message_reader.specs.declared.wire.WireTime.{WireTime as ATime};
 ghost use Rattle.message_reader.specs.declared.wire.Line.TheVariants.{Message, Query};
 ghost use Rattle.message_reader.specs.Fields.{seconds_of, date_of};
-ghost use Rattle.message_reader.specs.Lines.{said_by, line_of, message_in};
-ghost use Rattle.message_reader.specs.Queries.{stop_or_station_named};
+ghost use Rattle.message_reader.specs.Lines.{said_by};
+ghost use Rattle.message_reader.specs.ResolvedQueries.{stop_or_station_named, query_resolved};
 ghost use Rattle.message_reader.specs.Spelled.{time_text, date_text, object_of, query_object, HasLabels};
 ghost use Rattle.message_reader.specs.Wires.{IsWire};
 ghost use Rattle.schedule_build.specs.Directory.{Names, day_named, base_of};
@@ -24,27 +26,32 @@ pub fn dates_are_read_back()
 /// Every message with civil dates, times up to 99:59:59 and, for an extra train, two calls, is read
 /// from the object that says it.
 pub fn messages_are_read_back()
-    ensures { (names : Names) (w : AWire) → IsWire w → HasLabels w → said_by names (object_of w)
-        ≡ Ok (Message w) }
+    ensures { (w : AWire) → IsWire w → HasLabels w → said_by (object_of w) ≡ Ok (Message w) }
 {}
 
-/// Every query from one stop or station to another, at a time up to 99:59:59 of a loaded day, is
-/// read from the object that asks it.
+/// Every query at a time up to 99:59:59 of a civil date is read from the object that asks it.
 pub fn queries_are_read_back()
-    ensures { (names : Names) (client from to : List ℕ) (date secs from_stop to_stop day : ℕ)
-        → IsCivil date → secs ≤ 359999
-        → stop_or_station_named names from ≡ Some from_stop → stop_or_station_named names to
-        ≡ Some to_stop → day_named names date ≡ Some day
-        → said_by names (query_object client from to date secs)
-        ≡ Ok (Query client day (record {
-          from_stop = from_stop;
-          to_stop = to_stop;
-          time = base_of day + secs;
+    ensures { (client from to : List ℕ) (date secs : ℕ) → IsCivil date → secs ≤ 359999
+        → said_by (query_object client from to date secs) ≡ Ok (Query (record {
+          client = client;
+          from = from;
+          to = to;
+          time = Some (record { date = date; secs = secs });
         })) }
 {}
 
-/// Whether a line says a message, and which, does not depend on names.
-pub fn messages_need_no_names()
-    ensures { (names others : Names) (bytes : List ℕ) → message_in (line_of names bytes)
-        ≡ message_in (line_of others bytes) }
+/// A query from one stop or station to another, at a time of a loaded day, is the query between
+/// these at that time.
+pub fn queries_are_resolved()
+    ensures { (names : Names) (q : AQuery) (time : ATime) (from_stop to_stop day : ℕ)
+        → q.time ≡ Some time → stop_or_station_named names q.from ≡ Some from_stop
+        → stop_or_station_named names q.to ≡ Some to_stop → day_named names time.date ≡ Some day
+        → query_resolved names q ≡ Ok (record {
+          day = day;
+          query = record {
+            from_stop = from_stop;
+            to_stop = to_stop;
+            time = base_of day + time.secs;
+          };
+        }) }
 {}

@@ -1,7 +1,7 @@
 //! From the bytes of an input line to what it says, or to its first fault.
 #![tactic(auto)]
 
-mod bad;
+mod bad_line;
 mod calls;
 mod connections;
 mod events;
@@ -9,22 +9,24 @@ mod fields;
 mod kinds;
 mod laws;
 mod lines;
-mod messages;
 mod numbers;
 mod queries;
+mod resolve_error;
+mod resolve_messages;
+mod resolve_queries;
 mod routes;
-mod unresolved;
 mod wire;
 
-pub use bad::Bad;
+pub use bad_line::{BadLine, LineError};
 pub use laws::{
-    dates_are_read_back, messages_are_read_back, messages_need_no_names, queries_are_read_back,
+    dates_are_read_back, messages_are_read_back, queries_are_read_back, queries_are_resolved,
     times_are_read_back,
 };
 pub use lines::read_line;
-pub use messages::resolve;
-pub use unresolved::ResolveFault;
-pub use wire::{Connect, Line, Wire, WireCall, WireRef};
+pub use resolve_error::ResolveError;
+pub use resolve_messages::resolve;
+pub use resolve_queries::{AskedQuery, resolve_query};
+pub use wire::{Connect, Line, Wire, WireCall, WireQuery, WireRef, WireTime};
 
 #[cfg(test)]
 mod small_timetable;

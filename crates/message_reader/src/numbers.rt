@@ -3,11 +3,13 @@
 ghost use Rattle.std.specs.Prelude.{◌≡◌, ◌<◌, ◌≤◌, ◌+◌, ◌^◌, All, IfOk, length};
 ghost use Rattle.delay_model.specs.Messages.{IsSmallCall};
 ghost use Rattle.schedule_build.specs.Directory.{base_of};
-ghost use Rattle.message_reader.specs.Resolved.{train_on, stop_named, node_named, new_call, new_calls, Resolves};
+ghost use Rattle.message_reader.specs.Resolved.{train_on, stop_named, node_named, new_call, new_calls};
+ghost use Rattle.message_reader.specs.Errors.{Gives, refusal_in};
 ghost use Rattle.message_reader.specs.Wires.{IsWireCall};
 
-use crate::unresolved::ResolveFault;
+use crate::resolve_error::ResolveError;
 use crate::wire::{WireCall, WireRef};
+use delay_model::messages::Refusal;
 use mt_base::keys::Node;
 use mt_base::names::Name;
 use mt_base::numbers::{Day, StopNo, Time, TrainNo};
@@ -25,12 +27,12 @@ pub(crate) struct TrainOnDay {
 
 /// The train of a trip on a date.
 #[tactic(auto, unfolding(crate::specs::Resolved::train_on))]
-pub(crate) fn train_on(dir: &Directory, trip: &Name, date: u32) -> Result<TrainOnDay, ResolveFault>
-    ensures exact { Resolves result (train_on dir.now trip.now date) }
+pub(crate) fn train_on(dir: &Directory, trip: &Name, date: u32) -> Result<TrainOnDay, Refusal>
+    ensures exact { result ≡ train_on dir.now trip.now date }
     ensures loaded { IfOk result (λ found. found.day < 31) }
 {
-    let day = dir.day(date).ok_or(ResolveFault::Unknown)?;
-    let train = dir.train(trip.text(), day).ok_or(ResolveFault::Unknown)?;
+    let day = dir.day(date).ok_or(Refusal::Unknown)?;
+    let train = dir.train(trip.text(), day).ok_or(Refusal::Unknown)?;
     Ok(TrainOnDay { train, day })
 }
 
@@ -45,8 +47,8 @@ pub(crate) fn time_on(dir: &Directory, day: Day, secs: u32) -> Time
 
 /// The arrival or the departure of a call.
 #[tactic(auto, unfolding(crate::specs::Resolved::node_named))]
-pub(crate) fn node(dir: &Directory, dep: bool, call: &WireRef) -> Result<Node, ResolveFault>
-    ensures exact { Resolves result (node_named dir.now dep call.now) }
+pub(crate) fn node(dir: &Directory, dep: bool, call: &WireRef) -> Result<Node, Refusal>
+    ensures exact { result ≡ node_named dir.now dep call.now }
     ensures kind { IfOk result (λ n. n.dep ≡ dep) }
 {
     let found = train_on(dir, &call.trip, call.date)?;
@@ -72,13 +74,13 @@ fn stop(dir: &Directory, id: &str) -> Option<StopNo>
 
 /// A new call of a train on a service day.
 #[tactic(auto, unfolding(crate::specs::Resolved::new_call))]
-fn new_call(dir: &Directory, day: Day, call: &WireCall) -> Result<NewCall, ResolveFault>
+fn new_call(dir: &Directory, day: Day, call: &WireCall) -> Result<NewCall, Refusal>
     requires loaded { day < 31 }
     requires within { IsWireCall call.now }
-    ensures exact { Resolves result (new_call dir.now day call.now) }
+    ensures exact { result ≡ new_call dir.now day call.now }
     ensures small { IfOk result IsSmallCall }
 {
-    let stop = stop(dir, call.stop.text()).ok_or(ResolveFault::Unknown)?;
+    let stop = stop(dir, call.stop.text()).ok_or(Refusal::Unknown)?;
     Ok(NewCall {
         stop,
         arr: time_on(dir, day, call.arr),
@@ -92,17 +94,17 @@ pub(crate) fn new_calls(
     dir: &Directory,
     day: Day,
     wire_calls: &[WireCall],
-) -> Result<Rows<NewCall>, ResolveFault>
+) -> Result<Rows<NewCall>, ResolveError>
     requires loaded { day < 31 }
     requires within { All IsWireCall wire_calls.now }
-    ensures exact { Resolves result (new_calls dir.now day wire_calls.now) }
+    ensures exact { Gives refusal_in result (new_calls dir.now day wire_calls.now) }
     ensures small { IfOk result (λ calls. All IsSmallCall calls) }
     ensures all { IfOk result (λ calls. length calls ≡ length wire_calls.now) }
     ensures few { IfOk result (λ calls. length calls < 2 ^ 31) }
 {
     // There are no labels for so many calls, which is answered as want of memory.
     if wire_calls.len() >= 1 << 31 {
-        return Err(ResolveFault::OutOfMemory);
+        return Err(ResolveError::OutOfMemory);
     }
     let mut calls = Vec::new(alloc);
     for wire_call in wire_calls {

@@ -1,58 +1,44 @@
 //! Queries.
 
-ghost use Rattle.std.specs.Prelude.{◌≡◌, IfOk};
+ghost use Rattle.std.specs.Prelude.{◌≡◌, IfOk, IfSome};
 ghost use Rattle.serde_json.specs.View.{view};
-ghost use Rattle.message_reader.specs.Chain.{Gives};
-ghost use Rattle.message_reader.specs.Queries.{stop_or_station_named, query_of};
-ghost use Rattle.message_reader.specs.Wires.{IsLine};
+ghost use Rattle.message_reader.specs.Errors.{Gives, bad_in};
+ghost use Rattle.message_reader.specs.Queries.{wire_time_of, query_of};
+ghost use Rattle.message_reader.specs.Wires.{IsWireTime, IsWireQuery};
 
-use crate::bad::Bad;
+use crate::bad_line::{BadLine, LineError};
 use crate::fields::{date, seconds, text_at};
-use crate::numbers::time_on;
-use crate::wire::Line;
+use crate::wire::{WireQuery, WireTime};
 use mt_base::names::Name;
-use mt_base::numbers::StopNo;
-use mt_base::plans::Query;
-use schedule_build::Directory;
 use serde_json::Value;
 use std::alloc::Global;
 
-/// The stop or station with this id. None where no place has it, and where the place is neither.
-#[tactic(auto, unfolding(crate::specs::Queries::stop_or_station_named))]
-fn stop_or_station(dir: &Directory, id: &str) -> Option<StopNo>
-    ensures { result ≡ stop_or_station_named dir.now id.now }
+/// The service day and the time of day of these texts. None where either text is none.
+#[tactic(auto, unfolding(crate::specs::Queries::wire_time_of))]
+fn wire_time(day: &str, time: &str) -> Option<WireTime>
+    ensures exact { result ≡ wire_time_of day.now time.now }
+    ensures kept { IfSome result IsWireTime }
 {
-    let place = dir.stop(id)?;
-    if dir.stop_kind(place)?.is_platform_or_station() {
-        Some(place)
-    } else {
-        None
-    }
+    let date = date(day.as_bytes())?;
+    let secs = seconds(time.as_bytes())?;
+    Some(WireTime { date, secs })
 }
 
 /// A query.
 #[tactic(auto, unfolding(crate::specs::Queries::query_of))]
-pub(crate) fn query(alloc: Global, dir: &Directory, value: &Value) -> Result<Line, Bad>
-    ensures exact { Gives result (query_of dir.now (view value.now)) }
-    ensures kept { IfOk result IsLine }
+pub(crate) fn query(alloc: Global, value: &Value) -> Result<WireQuery, LineError>
+    ensures exact { Gives bad_in result (query_of (view value.now)) }
+    ensures kept { IfOk result IsWireQuery }
 {
-    let client = text_at(value, "client").ok_or(Bad::Shape)?;
-    let from = text_at(value, "from").ok_or(Bad::Shape)?;
-    let to = text_at(value, "to").ok_or(Bad::Shape)?;
-    let day = text_at(value, "date").ok_or(Bad::Shape)?;
-    let time = text_at(value, "time").ok_or(Bad::Shape)?;
-    let from_stop = stop_or_station(dir, from).ok_or(Bad::Stop)?;
-    let to_stop = stop_or_station(dir, to).ok_or(Bad::Stop)?;
-    let date = date(day.as_bytes()).ok_or(Bad::Time)?;
-    let secs = seconds(time.as_bytes()).ok_or(Bad::Time)?;
-    let day = dir.day(date).ok_or(Bad::Time)?;
-    Ok(Line::Query {
+    let client = text_at(value, "client").ok_or(BadLine::Shape)?;
+    let from = text_at(value, "from").ok_or(BadLine::Shape)?;
+    let to = text_at(value, "to").ok_or(BadLine::Shape)?;
+    let day = text_at(value, "date").ok_or(BadLine::Shape)?;
+    let time = text_at(value, "time").ok_or(BadLine::Shape)?;
+    Ok(WireQuery {
         client: Name::build(alloc, client)?,
-        day,
-        query: Query {
-            from_stop,
-            to_stop,
-            time: time_on(dir, day, secs),
-        },
+        from: Name::build(alloc, from)?,
+        to: Name::build(alloc, to)?,
+        time: wire_time(day, time),
     })
 }

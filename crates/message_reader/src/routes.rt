@@ -2,11 +2,11 @@
 
 ghost use Rattle.std.specs.Prelude.{◌≡◌, IfOk, length};
 ghost use Rattle.serde_json.specs.View.{view, items_view};
-ghost use Rattle.message_reader.specs.Chain.{Gives};
+ghost use Rattle.message_reader.specs.Errors.{Gives, bad_in};
 ghost use Rattle.message_reader.specs.Messages.{reroute_of, extra_of, count};
 ghost use Rattle.message_reader.specs.Wires.{IsWire};
 
-use crate::bad::Bad;
+use crate::bad_line::{BadLine, LineError};
 use crate::calls::{check_calls, read_calls};
 use crate::fields::{date, items_at, label_at, text_at};
 use crate::wire::Wire;
@@ -16,17 +16,17 @@ use std::alloc::Global;
 
 /// A train that takes another way between two of its calls.
 #[tactic(auto, unfolding(crate::specs::Messages::reroute_of))]
-pub fn reroute(alloc: Global, value: &Value) -> Result<Wire, Bad>
-    ensures exact { Gives result (reroute_of (view value.now)) }
+pub fn reroute(alloc: Global, value: &Value) -> Result<Wire, LineError>
+    ensures exact { Gives bad_in result (reroute_of (view value.now)) }
     ensures kept { IfOk result IsWire }
 {
-    let trip = text_at(value, "trip").ok_or(Bad::Shape)?;
-    let day = text_at(value, "date").ok_or(Bad::Shape)?;
-    let from = label_at(value, "from").ok_or(Bad::Shape)?;
-    let to = label_at(value, "to").ok_or(Bad::Shape)?;
-    let items = items_at(value, "via").ok_or(Bad::Shape)?;
+    let trip = text_at(value, "trip").ok_or(BadLine::Shape)?;
+    let day = text_at(value, "date").ok_or(BadLine::Shape)?;
+    let from = label_at(value, "from").ok_or(BadLine::Shape)?;
+    let to = label_at(value, "to").ok_or(BadLine::Shape)?;
+    let items = items_at(value, "via").ok_or(BadLine::Shape)?;
     check_calls(items)?;
-    let date = date(day.as_bytes()).ok_or(Bad::Time)?;
+    let date = date(day.as_bytes()).ok_or(BadLine::Time)?;
     let via = read_calls(alloc, items)?;
     Ok(Wire::Reroute {
         trip: Name::build(alloc, trip)?,
@@ -47,19 +47,19 @@ fn count(values: &[Value]) -> usize
 
 /// A train that is not in the schedule.
 #[tactic(auto, unfolding(crate::specs::Messages::extra_of))]
-pub fn extra(alloc: Global, value: &Value) -> Result<Wire, Bad>
-    ensures exact { Gives result (extra_of (view value.now)) }
+pub fn extra(alloc: Global, value: &Value) -> Result<Wire, LineError>
+    ensures exact { Gives bad_in result (extra_of (view value.now)) }
     ensures kept { IfOk result IsWire }
 {
-    let trip = text_at(value, "trip").ok_or(Bad::Shape)?;
-    let day = text_at(value, "date").ok_or(Bad::Shape)?;
-    let route = text_at(value, "route").ok_or(Bad::Shape)?;
-    let items = items_at(value, "calls").ok_or(Bad::Shape)?;
+    let trip = text_at(value, "trip").ok_or(BadLine::Shape)?;
+    let day = text_at(value, "date").ok_or(BadLine::Shape)?;
+    let route = text_at(value, "route").ok_or(BadLine::Shape)?;
+    let items = items_at(value, "calls").ok_or(BadLine::Shape)?;
     check_calls(items)?;
     if count(items) < 2 {
-        return Err(Bad::Shape);
+        return Err(LineError::Bad(BadLine::Shape));
     }
-    let date = date(day.as_bytes()).ok_or(Bad::Time)?;
+    let date = date(day.as_bytes()).ok_or(BadLine::Time)?;
     let calls = read_calls(alloc, items)?;
     Ok(Wire::Extra {
         trip: Name::build(alloc, trip)?,

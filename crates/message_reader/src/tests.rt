@@ -1,25 +1,29 @@
+ghost use Rattle.message_reader.specs.Wires.{IsLine};
+
 use crate::small_timetable::directory;
-use crate::{Bad, Connect, Line, Wire, WireCall, WireRef, read_line};
+use crate::{
+    AskedQuery, BadLine, Connect, Line, LineError, Wire, WireCall, WireRef, read_line,
+    resolve_query,
+};
+use schedule_build::Directory;
 use std::alloc::Global;
 use std::test::Fail;
 use train_nodes::kinds::ValueKind;
 
-fn read(alloc: Global, line: &[u8]) -> Result<Line, Bad> {
-    match directory(alloc) {
-        Ok(dir) => read_line(alloc, line, &dir),
-        Err(_) => Err(Bad::OutOfMemory),
+/// Why a line is bad. None where it is read, and where there is no memory.
+fn fault(alloc: Global, line: &[u8]) -> Option<BadLine> {
+    match read_line(alloc, line) {
+        Err(LineError::Bad(bad)) => Some(bad),
+        _ => None,
     }
 }
 
-fn fault(alloc: Global, line: &[u8]) -> Option<Bad> {
-    match read(alloc, line) {
-        Ok(_) => None,
-        Err(bad) => Some(bad),
-    }
+fn is_read(alloc: Global, line: &[u8]) -> bool {
+    read_line(alloc, line).is_ok()
 }
 
 fn message(alloc: Global, line: &[u8]) -> Option<Wire> {
-    match read(alloc, line) {
+    match read_line(alloc, line) {
         Ok(Line::Message(wire)) => Some(wire),
         _ => None,
     }
@@ -145,7 +149,7 @@ fn reroute(rt: HostRuntime) {
     }
     let empty =
         br#"{"v":1,"type":"reroute","trip":"T1","date":"20260105","from":0,"to":3,"via":[]}"#;
-    assert_eq!(rt; fault(alloc, empty), None);
+    assert!(rt; is_read(alloc, empty));
 }
 
 fn is_extra(wire: &Wire) -> bool {
@@ -182,7 +186,7 @@ fn extra(rt: HostRuntime) {
     }
     let one =
         br#"{"v":1,"type":"extra","trip":"T9","date":"2026","route":"R","calls":[{"stop":"A","arr":"8","dep":"8"}]}"#;
-    assert_eq!(rt; fault(alloc, one), Some(Bad::Shape));
+    assert_eq!(rt; fault(alloc, one), Some(BadLine::Shape));
 }
 
 fn is_ref(call: &WireRef, trip: &str, date: u32, label: u32) -> bool {
@@ -225,25 +229,64 @@ fn connections(rt: HostRuntime) {
 
 fn is_query(line: &Line) -> bool {
     match line {
-        Line::Query { client, day, query } => {
-            client.text() == "c1"
-                && day.get() == 1
-                && query.from_stop.get() == 0
-                && query.to_stop.get() == 1
-                && query.time.seconds() == 86_400 + 28_859
+        Line::Query(query) => {
+            query.client.text() == "c1"
+                && query.from.text() == "A"
+                && query.to.text() == "B"
+                && match &query.time {
+                    Some(time) => time.date == 20260106 && time.secs == 28_859,
+                    None => false,
+                }
         }
         _ => false,
+    }
+}
+
+fn is_asked(asked: &AskedQuery) -> bool {
+    asked.day.get() == 1
+        && asked.query.from_stop.get() == 0
+        && asked.query.to_stop.get() == 1
+        && asked.query.time.seconds() == 86_400 + 28_859
+}
+
+/// The query of a line by number, or why the line is bad. None where it asks no query.
+fn resolved(line: &Line, dir: &Directory) -> Option<Result<AskedQuery, BadLine>>
+    requires { IsLine line.now }
+{
+    match line {
+        Line::Query(query) => Some(resolve_query(query, dir)),
+        _ => None,
+    }
+}
+
+/// The same, by the names of the small timetable. None where there is no memory, too.
+fn asked(alloc: Global, line: &[u8]) -> Option<Result<AskedQuery, BadLine>> {
+    let dir = directory(alloc).ok()?;
+    let said = read_line(alloc, line).ok()?;
+    resolved(&said, &dir)
+}
+
+/// Why a query that is read is bad.
+fn query_fault(alloc: Global, line: &[u8]) -> Option<BadLine> {
+    match asked(alloc, line) {
+        Some(Err(bad)) => Some(bad),
+        _ => None,
     }
 }
 
 // A query from a stop to a station on the second day.
 #[test]
 fn query(rt: HostRuntime) {
+    let alloc = rt.alloc();
     let line =
         br#"{"v":1,"type":"query","client":"c1","from":"A","to":"B","date":"20260106","time":"8:00:59"}"#;
-    match read(rt.alloc(), line) {
+    match read_line(alloc, line) {
         Ok(line) => assert!(rt; is_query(&line)),
         Err(_) => assert!(rt; false),
+    }
+    match asked(alloc, line) {
+        Some(Ok(asked)) => assert!(rt; is_asked(&asked)),
+        _ => assert!(rt; false),
     }
 }
 
@@ -252,26 +295,26 @@ fn query(rt: HostRuntime) {
 fn query_faults(rt: HostRuntime) {
     let alloc = rt.alloc();
     let no_from = br#"{"v":1,"type":"query","client":"c1","to":"X","date":"2026","time":"8"}"#;
-    assert_eq!(rt; fault(alloc, no_from), Some(Bad::Shape));
+    assert_eq!(rt; fault(alloc, no_from), Some(BadLine::Shape));
     let no_place =
         br#"{"v":1,"type":"query","client":"c1","from":"A","to":"X","date":"20260105","time":"8:00:00"}"#;
-    assert_eq!(rt; fault(alloc, no_place), Some(Bad::Stop));
+    assert_eq!(rt; query_fault(alloc, no_place), Some(BadLine::Stop));
     let entrance =
         br#"{"v":1,"type":"query","client":"c1","from":"C","to":"B","date":"2026","time":"8"}"#;
-    assert_eq!(rt; fault(alloc, entrance), Some(Bad::Stop));
+    assert_eq!(rt; query_fault(alloc, entrance), Some(BadLine::Stop));
     let no_date =
         br#"{"v":1,"type":"query","client":"c1","from":"B","to":"A","date":"20260229","time":"8:00:00"}"#;
-    assert_eq!(rt; fault(alloc, no_date), Some(Bad::Time));
+    assert_eq!(rt; query_fault(alloc, no_date), Some(BadLine::Time));
     let no_time =
         br#"{"v":1,"type":"query","client":"c1","from":"B","to":"A","date":"20260105","time":"8:00"}"#;
-    assert_eq!(rt; fault(alloc, no_time), Some(Bad::Time));
+    assert_eq!(rt; query_fault(alloc, no_time), Some(BadLine::Time));
     let not_loaded =
         br#"{"v":1,"type":"query","client":"c1","from":"B","to":"A","date":"20260107","time":"8:00:00"}"#;
-    assert_eq!(rt; fault(alloc, not_loaded), Some(Bad::Time));
+    assert_eq!(rt; query_fault(alloc, not_loaded), Some(BadLine::Time));
 }
 
 fn is_flush(alloc: Global, line: &[u8]) -> bool {
-    match read(alloc, line) {
+    match read_line(alloc, line) {
         Ok(Line::Flush) => true,
         _ => false,
     }
@@ -290,49 +333,49 @@ fn texts(rt: HostRuntime) {
     assert!(rt; is_flush(alloc, br#"{"v":2,"v":1,"type":"flush"}"#));
     assert_eq!(rt;
         fault(alloc, br#"{"v":1,"v":"1","type":"flush"}"#),
-        Some(Bad::Shape)
+        Some(BadLine::Shape)
     );
     // a name may be written with escapes
     assert!(rt; is_flush(alloc, br#"{"\u0076":1,"type":"flus\u0068"}"#));
     // literals that are not whole numbers
     assert_eq!(rt;
         fault(alloc, br#"{"v":1.0,"type":"flush"}"#),
-        Some(Bad::Shape)
+        Some(BadLine::Shape)
     );
     assert_eq!(rt;
         fault(alloc, br#"{"v":1e0,"type":"flush"}"#),
-        Some(Bad::Shape)
+        Some(BadLine::Shape)
     );
     assert_eq!(rt;
         fault(alloc, br#"{"v":-0,"type":"flush"}"#),
-        Some(Bad::Shape)
+        Some(BadLine::Shape)
     );
     assert_eq!(rt;
         fault(alloc, br#"{"v":18446744073709551616,"type":"flush"}"#),
-        Some(Bad::Shape)
+        Some(BadLine::Shape)
     );
     assert_eq!(rt;
         fault(alloc, br#"{"v":1,"type":"Flush"}"#),
-        Some(Bad::Shape)
+        Some(BadLine::Shape)
     );
-    assert_eq!(rt; fault(alloc, b"[]"), Some(Bad::Shape));
+    assert_eq!(rt; fault(alloc, b"[]"), Some(BadLine::Shape));
     // texts that are no JSON, though no member that counts has a fault
     assert_eq!(rt;
         fault(alloc, br#"{"v":1,"type":"flush","x":1e400}"#),
-        Some(Bad::Json)
+        Some(BadLine::Json)
     );
     assert_eq!(rt;
         fault(alloc, br#"{"v":1,"type":"flush","x":"\ud800"}"#),
-        Some(Bad::Json)
+        Some(BadLine::Json)
     );
     assert_eq!(rt;
         fault(alloc, br#"{"v":1,"type":"flush"}x"#),
-        Some(Bad::Json)
+        Some(BadLine::Json)
     );
-    assert_eq!(rt; fault(alloc, b""), Some(Bad::Json));
+    assert_eq!(rt; fault(alloc, b""), Some(BadLine::Json));
     assert_eq!(rt;
         fault(alloc, b"{\"v\":1,\"type\":\"flush\",\"x\":\"\xff\"}"),
-        Some(Bad::Utf8)
+        Some(BadLine::Utf8)
     );
 }
 
@@ -341,14 +384,14 @@ fn texts(rt: HostRuntime) {
 fn labels(rt: HostRuntime) {
     let alloc = rt.alloc();
     let minus_zero = br#"{"v":1,"type":"cancel","trip":"T1","date":"20260105","from":-0,"to":3}"#;
-    assert_eq!(rt; fault(alloc, minus_zero), Some(Bad::Shape));
+    assert_eq!(rt; fault(alloc, minus_zero), Some(BadLine::Shape));
     let fraction = br#"{"v":1,"type":"cancel","trip":"T1","date":"20260105","from":0,"to":1.0}"#;
-    assert_eq!(rt; fault(alloc, fraction), Some(Bad::Shape));
+    assert_eq!(rt; fault(alloc, fraction), Some(BadLine::Shape));
     let large =
         br#"{"v":1,"type":"cancel","trip":"T1","date":"20260105","from":0,"to":4294967296}"#;
-    assert_eq!(rt; fault(alloc, large), Some(Bad::Shape));
+    assert_eq!(rt; fault(alloc, large), Some(BadLine::Shape));
     let date = br#"{"v":1,"type":"cancel","trip":"T1","date":"20260229","from":0,"to":3}"#;
-    assert_eq!(rt; fault(alloc, date), Some(Bad::Time));
+    assert_eq!(rt; fault(alloc, date), Some(BadLine::Time));
 }
 
 // A flush with a member of so many lists, one in the other.
@@ -369,10 +412,10 @@ fn nested(alloc: Global, lists: u32) -> Result<Vec<u8>, Fail> {
 #[test]
 fn depth(rt: HostRuntime) -> Result<(), Fail> {
     let alloc = rt.alloc();
-    assert_eq!(rt; fault(alloc, nested(alloc, 126)?.as_slice()), None);
+    assert!(rt; is_read(alloc, nested(alloc, 126)?.as_slice()));
     assert_eq!(rt;
         fault(alloc, nested(alloc, 127)?.as_slice()),
-        Some(Bad::Json)
+        Some(BadLine::Json)
     );
     Ok(())
 }

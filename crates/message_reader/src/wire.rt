@@ -1,8 +1,7 @@
 //! What a line says, with the names that stand in it.
 
 use mt_base::names::Name;
-use mt_base::numbers::{Day, Label};
-use mt_base::plans;
+use mt_base::numbers::Label;
 use mt_base::rows::Rows;
 use train_nodes::kinds::ValueKind;
 
@@ -108,20 +107,40 @@ pub enum Wire {
     },
 }
 
+/// The service day and the time of day of a query.
+#[derive(Clone, Copy, Debug, PartialEq, Eq)]
+pub struct WireTime {
+    /// The service day as the number YYYYMMDD.
+    pub date: u32,
+
+    /// The time of day, in seconds on the service day.
+    pub secs: u32,
+}
+
+/// A query, by names.
+#[derive(Drop)]
+pub struct WireQuery {
+    /// Who asks.
+    pub client: Name,
+
+    /// The id of the stop or station where the journey begins.
+    pub from: Name,
+
+    /// The id of the stop or station where it ends.
+    pub to: Name,
+
+    /// From when on the passenger can leave. None where the date is no civil date or the time of
+    /// day is none.
+    pub time: Option<WireTime>,
+}
+
 /// What a line says.
 #[derive(Drop)]
 pub enum Line {
     /// A message.
     Message(Wire),
     /// Asks for the earliest arrival.
-    Query {
-        /// Who asks.
-        client: Name,
-        /// The service day on which the time of the query lies.
-        day: Day,
-        /// Between which stops or stations, and from what time on.
-        query: plans::Query,
-    },
+    Query(WireQuery),
     /// Asks how many messages were accepted so far.
     Flush,
 }

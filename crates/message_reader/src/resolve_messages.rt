@@ -1,15 +1,16 @@
 //! Messages by name as messages by number.
 
-ghost use Rattle.std.specs.Prelude.{◌≤◌, All, IfOk, length};
+ghost use Rattle.std.specs.Prelude.{◌≡◌, ◌≤◌, All, IfOk, length};
 ghost use Rattle.delay_model.specs.Messages.{IsWellFormed};
-ghost use Rattle.message_reader.specs.Resolved.{event_resolved, cancel_resolved, reroute_resolved, extra_resolved, connect_resolved, resolved, Resolves};
+ghost use Rattle.message_reader.specs.Resolved.{event_resolved, cancel_resolved, reroute_resolved, extra_resolved, connect_resolved, resolved};
+ghost use Rattle.message_reader.specs.Errors.{Gives, refusal_in};
 ghost use Rattle.message_reader.specs.Wires.{IsWire, IsWireCall};
 ghost use Rattle.train_nodes.specs.Kinds.{HasFewCalls};
 
 use crate::numbers::{new_calls, node, time_on, train_on};
-use crate::unresolved::ResolveFault;
+use crate::resolve_error::ResolveError;
 use crate::wire::{Connect, Wire, WireCall, WireRef};
-use delay_model::messages::Message;
+use delay_model::messages::{Message, Refusal};
 use mt_base::keys::Node;
 use mt_base::names::Name;
 use mt_base::numbers::{Label, TrainNo};
@@ -28,9 +29,9 @@ fn event(
     call: Label,
     dep: bool,
     secs: u32,
-) -> Result<Message, ResolveFault>
+) -> Result<Message, Refusal>
     requires { secs ≤ 359999 }
-    ensures exact { Resolves result (event_resolved dir.now kind trip.now date call dep secs) }
+    ensures exact { result ≡ event_resolved dir.now kind trip.now date call dep secs }
     ensures kept { IfOk result IsWellFormed }
     ensures few { IfOk result HasFewCalls }
 {
@@ -55,8 +56,8 @@ fn cancel(
     date: u32,
     from: Label,
     to: Label,
-) -> Result<Message, ResolveFault>
-    ensures exact { Resolves result (cancel_resolved dir.now trip.now date from to) }
+) -> Result<Message, Refusal>
+    ensures exact { result ≡ cancel_resolved dir.now trip.now date from to }
     ensures kept { IfOk result IsWellFormed }
     ensures few { IfOk result HasFewCalls }
 {
@@ -78,9 +79,9 @@ fn reroute(
     from: Label,
     to: Label,
     via: &[WireCall],
-) -> Result<Message, ResolveFault>
+) -> Result<Message, ResolveError>
     requires { All IsWireCall via.now }
-    ensures exact { Resolves result (reroute_resolved dir.now trip.now date from to via.now) }
+    ensures exact { Gives refusal_in result (reroute_resolved dir.now trip.now date from to via.now) }
     ensures kept { IfOk result IsWellFormed }
     ensures few { IfOk result HasFewCalls }
 {
@@ -103,18 +104,19 @@ fn extra(
     date: u32,
     route: &Name,
     calls: &[WireCall],
-) -> Result<Message, ResolveFault>
+) -> Result<Message, ResolveError>
     requires within { All IsWireCall calls.now }
     requires two { 2 ≤ length calls.now }
-    ensures exact { Resolves result (extra_resolved dir.now trip.now date route.now calls.now) }
+    ensures exact { Gives refusal_in result
+        (extra_resolved dir.now trip.now date route.now calls.now) }
     ensures kept { IfOk result IsWellFormed }
     ensures few { IfOk result HasFewCalls }
 {
-    let day = dir.day(date).ok_or(ResolveFault::Unknown)?;
-    let route = dir.route(route.text()).ok_or(ResolveFault::Unknown)?;
+    let day = dir.day(date).ok_or(Refusal::Unknown)?;
+    let route = dir.route(route.text()).ok_or(Refusal::Unknown)?;
     let calls = new_calls(alloc, dir, day, calls)?;
     if dir.train(trip.text(), day).is_some() {
-        return Err(ResolveFault::Known);
+        return Err(ResolveError::Refused(Refusal::Known));
     }
     Ok(Message::Extra {
         train: TrainNo::new(dir.trains()),
@@ -131,8 +133,8 @@ fn connect(
     kind: Connect,
     feeder: &WireRef,
     train: &WireRef,
-) -> Result<Message, ResolveFault>
-    ensures exact { Resolves result (connect_resolved dir.now kind feeder.now train.now) }
+) -> Result<Message, Refusal>
+    ensures exact { result ≡ connect_resolved dir.now kind feeder.now train.now }
     ensures kept { IfOk result IsWellFormed }
     ensures few { IfOk result HasFewCalls }
 {
@@ -147,9 +149,9 @@ fn connect(
 
 /// The message by number.
 #[tactic(auto, unfolding(crate::specs::Resolved::resolved))]
-fn message(alloc: Global, wire: &Wire, dir: &Directory) -> Result<Message, ResolveFault>
+fn message(alloc: Global, wire: &Wire, dir: &Directory) -> Result<Message, ResolveError>
     requires { IsWire wire.now }
-    ensures exact { Resolves result (resolved dir.now wire.now) }
+    ensures exact { Gives refusal_in result (resolved dir.now wire.now) }
     ensures kept { IfOk result IsWellFormed }
     ensures few { IfOk result HasFewCalls }
 {
@@ -161,13 +163,13 @@ fn message(alloc: Global, wire: &Wire, dir: &Directory) -> Result<Message, Resol
             call,
             dep,
             secs,
-        } => event(dir, *kind, trip, *date, *call, *dep, *secs),
+        } => Ok(event(dir, *kind, trip, *date, *call, *dep, *secs)?),
         Wire::Cancel {
             trip,
             date,
             from,
             to,
-        } => cancel(dir, trip, *date, *from, *to),
+        } => Ok(cancel(dir, trip, *date, *from, *to)?),
         Wire::Reroute {
             trip,
             date,
@@ -185,17 +187,17 @@ fn message(alloc: Global, wire: &Wire, dir: &Directory) -> Result<Message, Resol
             kind,
             feeder,
             train,
-        } => connect(dir, *kind, feeder, train),
+        } => Ok(connect(dir, *kind, feeder, train)?),
     }
 }
 
-/// The message with the numbers for which its names stand. `Unknown` exactly where a train of the
-/// message, other than the new train of an extra, or a stop, a route or a service day of it is not
-/// there; `Known` exactly where an extra's train is there already and the message is not `Unknown`.
+/// The message with the numbers for which its names stand. It is refused as `Unknown` exactly where a
+/// train of it, other than the new train of an extra, or a stop, a route or a service day of it is
+/// not there; and as `Known` exactly where an extra's train is there already and it is not `Unknown`.
 /// Times are in seconds from the base of day 0. Memory may be wanted for new calls.
-pub fn resolve(alloc: Global, wire: &Wire, dir: &Directory) -> Result<Msg, ResolveFault>
+pub fn resolve(alloc: Global, wire: &Wire, dir: &Directory) -> Result<Msg, ResolveError>
     requires kept { IsWire wire.now }
-    ensures { Resolves result (resolved dir.now wire.now) }
+    ensures { Gives refusal_in result (resolved dir.now wire.now) }
 {
     let message = message(alloc, wire, dir)?;
     Ok(Msg::new(message))

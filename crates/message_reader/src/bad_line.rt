@@ -1,0 +1,57 @@
+//! Why a line is bad, and why it could not be read.
+
+ghost use Rattle.std.specs.Prelude.{◌≡◌};
+ghost use Rattle.message_reader.specs.declared.bad_line.LineError.TheVariants.{Bad, OutOfMemory};
+
+use std::alloc::{AllocError, AllocFailed};
+
+/// Why a line is bad.
+#[derive(Clone, Copy, Debug, PartialEq, Eq)]
+pub enum BadLine {
+    /// It has 65,536 bytes or more. Who cuts the input into lines finds this out: no line that is
+    /// read here is called long.
+    Long,
+    /// Its bytes are not UTF-8.
+    Utf8,
+    /// Its text is not JSON.
+    Json,
+    /// Its value has not the members that a line of its type needs.
+    Shape,
+    /// A query names a place that is neither a stop nor a station of the feed.
+    Stop,
+    /// A date or a time of day is none, or the date of a query is not loaded.
+    Time,
+}
+
+/// Why a line could not be read.
+#[derive(Clone, Copy, Debug, PartialEq, Eq)]
+pub enum LineError {
+    /// It is bad.
+    Bad(BadLine),
+    /// There was no memory to read it.
+    OutOfMemory,
+}
+
+impl From<BadLine> for LineError {
+    ghost from_gives = { λ bad e. e ≡ Bad bad };
+
+    fn from(bad: BadLine) -> LineError {
+        LineError::Bad(bad)
+    }
+}
+
+impl From<AllocError> for LineError {
+    ghost from_gives = { λ _ e. e ≡ OutOfMemory };
+
+    fn from(_e: AllocError) -> LineError {
+        LineError::OutOfMemory
+    }
+}
+
+impl<T: Drop> From<AllocFailed<T>> for LineError {
+    ghost from_gives = { λ _ e. e ≡ OutOfMemory };
+
+    fn from(_e: AllocFailed<T>) -> LineError {
+        LineError::OutOfMemory
+    }
+}
