@@ -62,7 +62,6 @@ pub record MeetsContract (output : Output) (budget : ℕ) (words : List (List �
   pub usage_exactly : asked_of words ≡ None → (status ≡ Usage) ⊎ (status ≡ Memory)
   -- such words touch nothing
   pub usage_untouched : asked_of words ≡ None → feed_kept × input_kept × out_kept
-
   -- ---- the feed
 
   -- a feed is refused for a reason, which is the one by the definition where the feed tells its
@@ -79,7 +78,6 @@ pub record MeetsContract (output : Output) (budget : ℕ) (words : List (List �
   -- whatever the status, no input is read by a feed that is to be refused
   pub refused_untouched : (why : FeedRefusal) → IsRefused words feed.tables why
       → input_kept × out_kept
-
   -- ---- the output
 
   -- all went well: the whole output of all lines of the input is written
@@ -93,7 +91,6 @@ pub record MeetsContract (output : Output) (budget : ℕ) (words : List (List �
       input.left input.left_after out.written out.written_after
   -- however the run ended, what is written begins an output of all lines of the input
   pub front : WritesFront output words feed.tables input.left out.written out.written_after
-
   -- ---- faults
 
   -- a read fault comes where a read of the feed failed, before anything was read of the input, or

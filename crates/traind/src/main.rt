@@ -6,6 +6,8 @@ mod refusal;
 pub mod run;
 pub mod status;
 #[cfg(test)]
+mod memory_tests;
+#[cfg(test)]
 mod tests;
 
 use mt_io::{FolderFeed, NoGate, StdSink, StdSource, put};

@@ -158,14 +158,29 @@ pub fn run_times<F: Feed, S: Source, K: Sink, E: Sink>(
 ) -> Status
     requires budget { 1 ≤ budget }
     ensures { MeetsContract times_output budget (map string_bytes words.now)
-        (record { tables = F.tables feed.old; faults = F.faults feed.old;
-          faults_after = F.faults feed.new })
-        (record { left = S.left input.old; left_after = S.left input.new;
-          faults = S.faults input.old; faults_after = S.faults input.new })
-        (record { written = K.written out.old; written_after = K.written out.new;
-          faults = K.faults out.old; faults_after = K.faults out.new })
-        (record { written = E.written err.old; written_after = E.written err.new;
-          faults = E.faults err.old; faults_after = E.faults err.new })
+        (record {
+          tables = F.tables feed.old;
+          faults = F.faults feed.old;
+          faults_after = F.faults feed.new;
+        })
+        (record {
+          left = S.left input.old;
+          left_after = S.left input.new;
+          faults = S.faults input.old;
+          faults_after = S.faults input.new;
+        })
+        (record {
+          written = K.written out.old;
+          written_after = K.written out.new;
+          faults = K.faults out.old;
+          faults_after = K.faults out.new;
+        })
+        (record {
+          written = E.written err.old;
+          written_after = E.written err.new;
+          faults = E.faults err.old;
+          faults_after = E.faults err.new;
+        })
         (feed.new ≡ feed.old) (input.new ≡ input.old) (out.new ≡ out.old) result }
 {
     let run = run_words(alloc, words, feed, input, out, budget);
@@ -194,14 +209,29 @@ pub fn traind_within<
 ) -> Status
     requires budget { 1 ≤ budget }
     ensures { MeetsContract times_output budget (map string_bytes words.now)
-        (record { tables = F.tables feed.old; faults = F.faults feed.old;
-          faults_after = F.faults feed.new })
-        (record { left = S.left input.old; left_after = S.left input.new;
-          faults = S.faults input.old; faults_after = S.faults input.new })
-        (record { written = K.written out.old; written_after = K.written out.new;
-          faults = K.faults out.old; faults_after = K.faults out.new })
-        (record { written = E.written err.old; written_after = E.written err.new;
-          faults = E.faults err.old; faults_after = E.faults err.new })
+        (record {
+          tables = F.tables feed.old;
+          faults = F.faults feed.old;
+          faults_after = F.faults feed.new;
+        })
+        (record {
+          left = S.left input.old;
+          left_after = S.left input.new;
+          faults = S.faults input.old;
+          faults_after = S.faults input.new;
+        })
+        (record {
+          written = K.written out.old;
+          written_after = K.written out.new;
+          faults = K.faults out.old;
+          faults_after = K.faults out.new;
+        })
+        (record {
+          written = E.written err.old;
+          written_after = E.written err.new;
+          faults = E.faults err.old;
+          faults_after = E.faults err.new;
+        })
         (feed.new ≡ feed.old) (input.new ≡ input.old) (out.new ≡ out.old) result }
 {
     run_times(alloc, words, feed, input, out, err, budget)
@@ -222,25 +252,30 @@ pub fn traind<R: Threads + Wait + Sync, F: Feed, S: Source, K: Sink, E: Sink, G:
     gate: &G,
 ) -> Status
     ensures { MeetsContract times_output byte_budget (map string_bytes words.now)
-        (record { tables = F.tables feed.old; faults = F.faults feed.old;
-          faults_after = F.faults feed.new })
-        (record { left = S.left input.old; left_after = S.left input.new;
-          faults = S.faults input.old; faults_after = S.faults input.new })
-        (record { written = K.written out.old; written_after = K.written out.new;
-          faults = K.faults out.old; faults_after = K.faults out.new })
-        (record { written = E.written err.old; written_after = E.written err.new;
-          faults = E.faults err.old; faults_after = E.faults err.new })
+        (record {
+          tables = F.tables feed.old;
+          faults = F.faults feed.old;
+          faults_after = F.faults feed.new;
+        })
+        (record {
+          left = S.left input.old;
+          left_after = S.left input.new;
+          faults = S.faults input.old;
+          faults_after = S.faults input.new;
+        })
+        (record {
+          written = K.written out.old;
+          written_after = K.written out.new;
+          faults = K.faults out.old;
+          faults_after = K.faults out.new;
+        })
+        (record {
+          written = E.written err.old;
+          written_after = E.written err.new;
+          faults = E.faults err.old;
+          faults_after = E.faults err.new;
+        })
         (feed.new ≡ feed.old) (input.new ≡ input.old) (out.new ≡ out.old) result }
 {
-    traind_within(
-        rt,
-        alloc,
-        words,
-        feed,
-        input,
-        out,
-        err,
-        gate,
-        BYTE_BUDGET,
-    )
+    traind_within(rt, alloc, words, feed, input, out, err, gate, BYTE_BUDGET)
 }
