@@ -11,7 +11,7 @@ use Rattle.delay_model.specs.contracts.state.State.{the_row as state_row}
 use Rattle.delay_model.specs.After.{after}
 use Rattle.delay_model.specs.Effect.{effect}
 use Rattle.delay_model.specs.Refusals.{refusal}
-use Rattle.delay_report.specs.declared.replies.BadLine.{BadLine}
+use Rattle.message_reader.specs.declared.bad_line.BadLine.{BadLine}
 use Rattle.message_reader.specs.declared.wire.Wire.{Wire}
 use Rattle.message_reader.specs.declared.wire.Line.{Line as Spoken}
 use Rattle.message_reader.specs.declared.wire.Line.TheVariants.{Message as Says, Query as Asks, Flush}
@@ -51,13 +51,13 @@ next_by_message t w (Err r) = t
 -- after a line that says this
 abbrev pub next_by : ServiceState → Result Spoken BadLine → ServiceState
 next_by t (Ok (Says w)) = next_by_message t w (resolved t.names w)
-next_by t (Ok (Asks client day q)) = t
+next_by t (Ok (Asks q)) = t
 next_by t (Ok Flush) = t
 next_by t (Err b) = t
 
 -- after this line
 abbrev pub after_line : ServiceState → Line → ServiceState
-after_line t x = next_by t (said_by t.names x)
+after_line t x = next_by t (said_by x)
 
 -- the service that began in the state `st` with these names, after these lines
 abbrev pub service_after : Network → Names → State → List Line → ServiceState
