@@ -33,12 +33,12 @@ use Rattle.information_service.specs.Fronts.{Answered, AppendsFirstReplies, Appe
 use Rattle.information_service.proofs.Fronts.{front_after}
 use Rattle.information_service.specs.Lines.{said_by, messages_of, names_with, by_names}
 use Rattle.information_service.specs.Output.{reply_by_refusal, reply_to_message, IsReply, IsReplyTo, IsTextAfter, AreReplies}
-use Rattle.information_service.specs.ServiceState.{ServiceState, next_by, next_by_message, next_by_refusal, after_line, service_after}
+use Rattle.information_service.specs.ServiceState.{ServiceState, after_said, after_message, after_answer, after_line, service_after}
 
 -- the service after these messages, one after the other
 abbrev after_each : ServiceState → List Wire → ServiceState
 after_each t [] = t
-after_each t (w ∷ ws) = after_each (next_by_message t w (resolved t.names w)) ws
+after_each t (w ∷ ws) = after_each (after_message t w (resolved t.names w)) ws
 
 -- the service after these messages, by which of them are accepted
 abbrev after_all : ServiceState → List Wire → ServiceState
@@ -60,23 +60,23 @@ after_this t w ws o =
 abbrev with_count : ServiceState → ℕ → ServiceState
 with_count t n = record { network = t.network; state = t.state; count = n; names = t.names }
 
-refusal-all : (t : ServiceState) (w : Wire) (ws : List Wire) (m : Message) (o : Option Refusal) → after_all (next_by_refusal t w m o) ws ≡ after_this t w ws (cond (is_none o) (Some m) None)
+refusal-all : (t : ServiceState) (w : Wire) (ws : List Wire) (m : Message) (o : Option Refusal) → after_all (after_answer t w m o) ws ≡ after_this t w ws (cond (is_none o) (Some m) None)
 refusal-all t w ws m None =
-    let next = after_all (next_by_refusal t w m None) ws in
+    let next = after_all (after_answer t w m None) ws in
     ap (with_count next) (omega arith)
 refusal-all t w ws m (Some r) = refl
 
-message-all : (t : ServiceState) (w : Wire) (ws : List Wire) (read : Result Message Refusal) → after_all (next_by_message t w read) ws ≡ after_this t w ws (accepted_message t.network t.state read)
+message-all : (t : ServiceState) (w : Wire) (ws : List Wire) (read : Result Message Refusal) → after_all (after_message t w read) ws ≡ after_this t w ws (accepted_message t.network t.state read)
 message-all t w ws (Ok m) = refusal-all t w ws m (refusal t.network t.state m)
 message-all t w ws (Err r) = refl
 
 each-all : (t : ServiceState) (ws : List Wire) → after_each t ws ≡ after_all t ws
 each-all t [] = ap (with_count t) (omega arith)
-each-all t (w ∷ ws) = each-all (next_by_message t w (resolved t.names w)) ws ∙ message-all t w ws (resolved t.names w)
+each-all t (w ∷ ws) = each-all (after_message t w (resolved t.names w)) ws ∙ message-all t w ws (resolved t.names w)
 
 each-append : (t : ServiceState) (ws vs : List Wire) → after_each t (ws ++ vs) ≡ after_each (after_each t ws) vs
 each-append t [] vs = refl
-each-append t (w ∷ ws) vs = each-append (next_by_message t w (resolved t.names w)) ws vs
+each-append t (w ∷ ws) vs = each-append (after_message t w (resolved t.names w)) ws vs
 
 abbrev option_list : Option Wire → List Wire
 option_list None = []
@@ -86,7 +86,7 @@ last-message : (o : Option Wire) (x : Line) → message_in (said_by x) ≡ o →
 last-message None x e = rw e refl
 last-message (Some w) x e = rw e refl
 
-said-each : (t : ServiceState) (said : Result Spoken BadLine) → next_by t said ≡ after_each t (option_list (message_in said))
+said-each : (t : ServiceState) (said : Result Spoken BadLine) → after_said t said ≡ after_each t (option_list (message_in said))
 said-each t (Ok (Says w)) = refl
 said-each t (Ok (Asks q)) = refl
 said-each t (Ok Flush) = refl
@@ -125,18 +125,18 @@ replies-more nw names st before (y ∷ ys) x bytes text all one =
     )
 
 -- the reply to a line that adds a name has no name in it
-answer-text : (t : ServiceState) (line : ℕ) (w : Wire) (m : Message) (o : Option Refusal) → text_of_reply (next_by_refusal t w m o).names (reply_by_refusal t.network t.names t.state t.count line w m o) ≡ text_of_reply t.names (reply_by_refusal t.network t.names t.state t.count line w m o)
+answer-text : (t : ServiceState) (line : ℕ) (w : Wire) (m : Message) (o : Option Refusal) → text_of_reply (after_answer t w m o).names (reply_by_refusal t.network t.names t.state t.count line w m o) ≡ text_of_reply t.names (reply_by_refusal t.network t.names t.state t.count line w m o)
 unfolding text_of_reply
 answer-text t line w m None = refl
 answer-text t line w m (Some r) = refl
 
-message-text : (t : ServiceState) (line : ℕ) (w : Wire) (read : Result Message Refusal) → text_of_reply (next_by_message t w read).names (reply_to_message t.network t.names t.state t.count line w read) ≡ text_of_reply t.names (reply_to_message t.network t.names t.state t.count line w read)
+message-text : (t : ServiceState) (line : ℕ) (w : Wire) (read : Result Message Refusal) → text_of_reply (after_message t w read).names (reply_to_message t.network t.names t.state t.count line w read) ≡ text_of_reply t.names (reply_to_message t.network t.names t.state t.count line w read)
 message-text t line w (Ok m) = answer-text t line w m (refusal t.network t.state m)
 message-text t line w (Err r) = refl
 
-said-text : (t : ServiceState) (line : ℕ) (said : Result Spoken BadLine) (reply : Reply) → IsReply t.network t.names t.state t.count line said reply → text_of_reply (next_by t said).names reply ≡ text_of_reply t.names reply
+said-text : (t : ServiceState) (line : ℕ) (said : Result Spoken BadLine) (reply : Reply) → IsReply t.network t.names t.state t.count line said reply → text_of_reply (after_said t said).names reply ≡ text_of_reply t.names reply
 said-text t line (Ok (Says w)) reply is =
-    ap (text_of_reply (next_by_message t w (resolved t.names w)).names) is ∙ message-text t line w (resolved t.names w) ∙ ap (text_of_reply t.names) (sym is)
+    ap (text_of_reply (after_message t w (resolved t.names w)).names) is ∙ message-text t line w (resolved t.names w) ∙ ap (text_of_reply t.names) (sym is)
 said-text t line (Ok (Asks q)) reply is = refl
 said-text t line (Ok Flush) reply is = refl
 said-text t line (Err b) reply is = refl
@@ -220,15 +220,15 @@ one_line_more {first = first} {now = now} {written = written} {written_old = wri
     )
 
 -- the count of accepted messages grows by one at most
-few-answer : (t : ServiceState) (w : Wire) (m : Message) (o : Option Refusal) → (next_by_refusal t w m o).count ≤ t.count + 1
+few-answer : (t : ServiceState) (w : Wire) (m : Message) (o : Option Refusal) → (after_answer t w m o).count ≤ t.count + 1
 few-answer t w m None = omega arith
 few-answer t w m (Some r) = omega arith
 
-few-message : (t : ServiceState) (w : Wire) (read : Result Message Refusal) → (next_by_message t w read).count ≤ t.count + 1
+few-message : (t : ServiceState) (w : Wire) (read : Result Message Refusal) → (after_message t w read).count ≤ t.count + 1
 few-message t w (Ok m) = few-answer t w m (refusal t.network t.state m)
 few-message t w (Err r) = omega arith
 
-few-said : (t : ServiceState) (said : Result Spoken BadLine) → (next_by t said).count ≤ t.count + 1
+few-said : (t : ServiceState) (said : Result Spoken BadLine) → (after_said t said).count ≤ t.count + 1
 few-said t (Ok (Says w)) = few-message t w (resolved t.names w)
 few-said t (Ok (Asks q)) = omega arith
 few-said t (Ok Flush) = omega arith

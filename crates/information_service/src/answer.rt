@@ -8,7 +8,7 @@ ghost use Rattle.message_reader.specs.Wires.{IsLine, IsWire, IsWireQuery};
 ghost use Rattle.mt_io.specs.Lines.{short};
 ghost use Rattle.information_service.specs.Lines.{added_name, with_added, CanBeAdded};
 ghost use Rattle.information_service.specs.Output.{reply_to_message, reply_to_refused, IsReply, IsReplyTo, IsReplyToQuery, IsReplyToResolved};
-ghost use Rattle.information_service.specs.ServiceState.{after_line, next_by, next_by_message};
+ghost use Rattle.information_service.specs.ServiceState.{after_line, after_said, after_message};
 
 use crate::service::InformationService;
 use conn_scan::{Found, earliest};
@@ -97,7 +97,7 @@ fn reply_to_message<L: Ledger>(
     requires some { 0 < blank.parts }
     ensures reply { IfOk result (λ r. r ≡ reply_to_message service.old.network service.old.names
         service.old.state service.old.count number wire.now (Ok message.now)) }
-    ensures next { OnOk result (service.new ≡ next_by_message service.old wire.now
+    ensures next { OnOk result (service.new ≡ after_message service.old wire.now
         (Ok message.now)) }
     ensures unchanged { IfErr result (λ _. service.new ≡ service.old) }
 {
@@ -127,7 +127,7 @@ fn reply_to_wire(
     requires count { service.old.count < 2 ^ 64 - 1 }
     ensures reply { IfOk result (λ r. r ≡ reply_to_message service.old.network service.old.names
         service.old.state service.old.count number wire.now (resolved service.old.names wire.now)) }
-    ensures next { OnOk result (service.new ≡ next_by service.old (Ok (Says wire.now))) }
+    ensures next { OnOk result (service.new ≡ after_said service.old (Ok (Says wire.now))) }
     ensures unchanged { IfErr result (λ _. service.new ≡ service.old) }
 {
     match resolve(alloc, wire, &service.directory) {
@@ -225,7 +225,7 @@ fn reply_to_said(
     requires count { service.old.count < 2 ^ 64 - 1 }
     ensures reply { IfOk result (IsReply service.old.network service.old.names service.old.state
         service.old.count number (Ok said.now)) }
-    ensures next { OnOk result (service.new ≡ next_by service.old (Ok said.now)) }
+    ensures next { OnOk result (service.new ≡ after_said service.old (Ok said.now)) }
     ensures unchanged { IfErr result (λ _. service.new ≡ service.old) }
 {
     match said {
@@ -242,12 +242,7 @@ impl InformationService {
     /// Answers the line of this number: takes its message if the timetable accepts it, or looks for
     /// the journey that it asks for, and gives the reply. It fails only by memory, and then nothing
     /// has changed.
-    pub fn answer(
-        &mut self,
-        alloc: Global,
-        number: u64,
-        line: &[u8],
-    ) -> Result<Reply, OutOfMemory>
+    pub fn answer(&mut self, alloc: Global, number: u64, line: &[u8]) -> Result<Reply, OutOfMemory>
         requires count { self.old.count < 2 ^ 64 - 1 }
         ensures reply { IfOk result (IsReplyTo self.old number (short line.now)) }
         ensures next { OnOk result (self.new ≡ after_line self.old (short line.now)) }
