@@ -16,11 +16,11 @@ pub use Rattle.dep_order.specs.Departing.{HaveDistinctKeys, IsNewKey, IsFirst, I
 pub use Rattle.dep_order.specs.Linked.{AreLinked, IsAhead, IsNext, IsOf, IsReached, is_above, is_past, leaves_after, nobody}
 pub use Rattle.mt_base.specs.Sorted.{in_order, placed}
 pub use Rattle.dep_order.specs.Scanned.{departures_from}
-pub use Rattle.dep_order.specs.Stored.{AreKept, IsNextIn, IsPreviousIn, IsJoined, IsLinkSet, bucket_count, bucket_of, departure_in, entries_of, next_in, previous_in}
+pub use Rattle.dep_order.specs.Stored.{AreKept, IsNextIn, IsPreviousIn, IsJoined, IsLinkSet, bucket_count, bucket_of, departure_in, entries_of, next_in, previous_in, stored_in}
 pub use Rattle.dep_order.specs.declared.departure.Departure.{Departure}
 pub use Rattle.dep_order.specs.declared.lists.Bucket.{Bucket}
 pub use Rattle.dep_order.specs.declared.lists.Lists.{Lists}
-pub use Rattle.dep_order.specs.declared.lists.Slot.{Slot}
+pub use Rattle.dep_order.specs.declared.slot.Slot.{Slot}
 pub use Rattle.dep_order.specs.declared.numbers.Added.{Added}
 pub use Rattle.dep_order.specs.declared.numbers.Numbers.{Numbers}
 pub use Rattle.dep_order.specs.Numbering.{AreNumbers, Has, HasNumber, given}

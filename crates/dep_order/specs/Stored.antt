@@ -6,13 +6,22 @@ use Rattle.std.specs.Option.{option_map_or}
 use Rattle.dep_order.specs.declared.departure.Departure.{Departure}
 use Rattle.dep_order.specs.declared.lists.Bucket.{Bucket}
 use Rattle.dep_order.specs.declared.lists.Lists.{Lists}
-use Rattle.dep_order.specs.declared.lists.Slot.{Slot}
+use Rattle.dep_order.specs.declared.slot.Slot.{Slot}
 use Rattle.dep_order.specs.Departing.{HaveDistinctKeys, leaves_before}
 use Rattle.dep_order.specs.Linked.{AreLinked, IsNext, leaves_after, nobody}
 
+-- the departure that a slot keeps, also once it was taken out
+abbrev pub stored_in : Slot → Departure
+stored_in s = record {
+  time = s.time;
+  key = record { time = s.scheduled; train = s.train; label = s.label; dep = s.dep };
+  stop = s.stop;
+  board = s.board;
+}
+
 -- the departure in a slot, if one is there
 abbrev pub departure_in : Slot → Option Departure
-departure_in s = if s.there then Some s.departure else None
+departure_in s = if s.there then Some (stored_in s) else None
 
 abbrev pub entries_of : Lists → List (Option Departure)
 entries_of l = map departure_in l.slots.items

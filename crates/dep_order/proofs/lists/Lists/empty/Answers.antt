@@ -8,8 +8,8 @@ returns-clause-kept c =
     let slots = c.in_ok-vec.ensures.items_if_clones_equal (λ y h. h) in
     let buckets = c.in_ok-vec-2.ensures.items_if_clones_equal (λ y h. h) in
     let a : Bucket = record { first = nobody; last = nobody } in
-    kept-empty _ c.args.room _ c.free_slot.result a c.requires (omega arith) slots buckets c.free_slot.ensures refl refl
+    kept-empty _ c.args.room _ c.free.result a c.requires (omega arith) slots buckets c.free.ensures refl refl
 
 pub returns-clause-entries : goal.returns-clause-entries
 returns-clause-entries c =
-    ap (map departure_in) (c.in_ok-vec.ensures.items_if_clones_equal (λ y h. h)) ∙ empty-entries c.args.room c.free_slot.result c.free_slot.ensures
+    ap (map departure_in) (c.in_ok-vec.ensures.items_if_clones_equal (λ y h. h)) ∙ empty-entries c.args.room c.free.result c.free.ensures

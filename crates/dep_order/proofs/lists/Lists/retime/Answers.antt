@@ -1,5 +1,5 @@
-use Rattle.dep_order.proofs.Words.{refl, sym, ◌∙◌, ap, arith, None, Some, Departure, entries_of, held, set, set-set}
-use Rattle.dep_order.proofs.ChangeLemmas.{freed, time-changes-as, with_time-is}
+use Rattle.dep_order.proofs.Words.{◌≡◌, refl, sym, ◌∙◌, ap, arith, None, Some, Departure, entries_of, held, set, set-set, stored_in}
+use Rattle.dep_order.proofs.ChangeLemmas.{freed, retimed, time-changes-as, with_time-is}
 use Rattle.dep_order.proofs.StoredLemmas.{read, some-of, within}
 use Rattle.dep_order.proofs.lists.Lists.retime.Goals as goal
 
@@ -33,7 +33,7 @@ insert-requires-clause-new_key c =
     let s = c.index-slot.result.now in
     let d = some-of (held (entries_of l) c.args.number) c.requires.there in
     let same = (read l c.args.number d.0 s c.requires.kept d.1 c.index-slot.ensures).departure in
-    (freed l c.remove.new.self c.args.number d.0 s.departure c.requires.kept d.1 same c.remove.ensures.entries).1
+    rw c.key.ensures ((freed l c.remove.new.self c.args.number d.0 (stored_in s) c.requires.kept d.1 same c.remove.ensures.entries).1)
 
 pub returns-then-keeps_place : goal.returns-then-keeps_place
 returns-then-keeps_place c =
@@ -41,11 +41,12 @@ returns-then-keeps_place c =
     let s = c.index-slot.result.now in
     let d = some-of (held (entries_of l) c.args.number) c.requires.there in
     let same = (read l c.args.number d.0 s c.requires.kept d.1 c.index-slot.ensures).departure in
-    let e : Departure = record { time = c.args.time; key = s.departure.key; stop = s.departure.stop; board = s.departure.board } in
+    let e : Departure = record { time = c.args.time; key = c.key.result; stop = s.stop; board = s.board } in
+    let own : e ≡ retimed s c.args.time = rw c.key.ensures refl in
     let k = c.keeps_place.ensures in
     let stays = c.if-keeps_place.true in
-    let x = time-changes-as l c.args.number s c.index_mut.result.now d.0 e c.requires.kept d.1 c.index-slot.ensures c.index_mut.ensures.value (ap (λ (x : Departure). x.key) same) (k.bucket stays) (k.before stays) (k.after stays) in
-    record { kept = x.0; entries = x.1 ∙ sym (with_time-is (entries_of l) c.args.number c.args.time d.0 s.departure d.1 same) }
+    let x = time-changes-as l c.args.number s c.index_mut.result.now d.0 c.args.time e own c.requires.kept d.1 c.index-slot.ensures c.index_mut.ensures.value (k.bucket stays) (k.before stays) (k.after stays) in
+    record { kept = x.0; entries = x.1 ∙ sym (with_time-is (entries_of l) c.args.number c.args.time d.0 (stored_in s) d.1 same) }
 
 pub returns-else-keeps_place-clause-entries : goal.returns-else-keeps_place-clause-entries
 returns-else-keeps_place-clause-entries c =
@@ -54,7 +55,7 @@ returns-else-keeps_place-clause-entries c =
     let s = c.index-slot.result.now in
     let d = some-of (held (entries_of l) m) c.requires.there in
     let same = (read l m d.0 s c.requires.kept d.1 c.index-slot.ensures).departure in
-    let e : Departure = record { time = c.args.time; key = s.departure.key; stop = s.departure.stop; board = s.departure.board } in
-    c.insert.ensures.entries ∙ ap (λ es. set es m (Some e)) c.remove.ensures.entries
+    let e = retimed s c.args.time in
+    rw c.key.ensures at c.insert.ensures.entries ∙ ap (λ es. set es m (Some e)) c.remove.ensures.entries
     ∙ set-set (entries_of l) m None (Some e)
-    ∙ sym (with_time-is (entries_of l) m c.args.time d.0 s.departure d.1 same)
+    ∙ sym (with_time-is (entries_of l) m c.args.time d.0 (stored_in s) d.1 same)
