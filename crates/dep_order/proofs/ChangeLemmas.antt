@@ -1,5 +1,5 @@
 -- What stays kept where a departure is put in, taken out or moved.
-use Rattle.dep_order.proofs.Words.{◌≡◌, ◌≢◌, ◌<◌, ℕ, inl, inr, List, Option, None, Some, refl, sym, ◌∙◌, ap, subst, arith, length, set, cases_eq, length-map, length-set, nat_tests, Bool, IsNext, false, get_or, map-set, slice_get, slice_get_within, true, with_item, Departure, Lists, Slot, held, AreKept, AreLinked, HaveDistinctKeys, IsJoined, IsNewKey, IsNextIn, IsPreviousIn, bucket_count, bucket_of, departure_in, entries_of, leaves_after, leaves_before, next_in, previous_in, nobody, is_above, slice_get_read, stored_in, with_time}
+use Rattle.dep_order.proofs.Words.{◌≡◌, ◌≢◌, ◌<◌, ℕ, inl, inr, List, Option, None, Some, refl, sym, ◌∙◌, ap, subst, arith, length, set, cases_eq, length-map, length-set, nat_tests, Bool, IsNext, false, get_or, key_in, keys_of, map-set, map-set_same, slice_get, slice_get_within, true, with_item, Departure, Lists, Slot, held, AreKept, AreLinked, HaveDistinctKeys, IsJoined, IsNewKey, IsNextIn, IsPreviousIn, bucket_count, bucket_of, departure_in, entries_of, leaves_after, leaves_before, next_in, previous_in, nobody, is_above, slice_get_read, stored_in, with_time}
 use Rattle.dep_order.proofs.LinkLemmas.{IsPut, gap-apart, held-apart, put-linked, stay-linked, take-gap, take-linked}
 use Rattle.dep_order.proofs.OrderLemmas.{after-strict, before-strict}
 use Rattle.dep_order.proofs.SlotLemmas.{get-set_other, get-set_same, read-set}
@@ -167,19 +167,20 @@ free-held l m free =
     (omega (arith, length-map l.slots.items departure_in), rw free refl)
 
 -- what is kept once a departure was put in between two
-pub inserted : (l l₂ l₃ : Lists) (b m before after : ℕ) (d : Departure) (s : Slot) → departure_in s ≡ Some d → AreKept l → slice_get (entries_of l) m ≡ Some None → IsNewKey (entries_of l) d.key → b ≡ bucket_of (bucket_count l) d → IsNextIn l b (Some d) after → IsPreviousIn l b (Some d) before → IsJoined b before m (with_slot l m s) l₂ → IsJoined b m after l₂ l₃ → AreKept l₃ × (entries_of l₃ ≡ set (entries_of l) m (Some d))
-inserted l l₂ l₃ b m before after d s own k free new is u g j i =
+pub inserted : (l l₂ l₃ : Lists) (b m before after : ℕ) (d : Departure) (s : Slot) → stored_in s ≡ d → s.there ≡ true → AreKept l → slice_get (entries_of l) m ≡ Some None → IsNewKey (entries_of l) d.key → b ≡ bucket_of (bucket_count l) d → IsNextIn l b (Some d) after → IsPreviousIn l b (Some d) before → IsJoined b before m (with_slot l m s) l₂ → IsJoined b m after l₂ l₃ → AreKept l₃ × (entries_of l₃ ≡ set (entries_of l) m (Some d)) × (keys_of l₃ ≡ set (keys_of l) m d.key)
+inserted l l₂ l₃ b m before after d s own there k free new is u g j i =
     let f = free-held l m free in
     let p = put l m d k f.0 f.1 new in
     let back = link-apart leaves_after (bucket_of (bucket_count l)) (entries_of l) b before m (Some d) g f.1 p.number in
     let on = link-apart leaves_before (bucket_of (bucket_count l)) (entries_of l) b after m (Some d) u f.1 p.number in
-    let entries = inserted-entries l l₂ l₃ s b m before after p.number j i back on ∙ ap (set (entries_of l) m) own in (
+    let entries = inserted-entries l l₂ l₃ s b m before after p.number j i back on ∙ ap (set (entries_of l) m) (rw there (ap Some own)) in (
       kept-put l l₃ b m before after d k (i.buckets ∙ j.buckets) (sym is) p entries u g (inserted-next l l₂ l₃ s b m before after p.number j i back on) (inserted-previous l l₂ l₃ s b m before after p.number j i back on),
       entries,
+      i.keys ∙ j.keys ∙ map-set key_in l.slots.items m s ∙ ap (λ (e : Departure). set (keys_of l) m e.key) own,
     )
 
 -- what is kept once a departure was taken out
-pub removed : (l r : Lists) (s t : Slot) (b m : ℕ) (d : Departure) → AreKept l → held (entries_of l) m ≡ Some d → s ≡ get_or l.slots.items m s → b ≡ bucket_of (bucket_count l) (stored_in s) → IsJoined b s.before s.after l r → m < length r.slots.items → t ≡ get_or r.slots.items m t → AreKept (without_slot r m t) × (entries_of (without_slot r m t) ≡ set (entries_of l) m None)
+pub removed : (l r : Lists) (s t : Slot) (b m : ℕ) (d : Departure) → AreKept l → held (entries_of l) m ≡ Some d → s ≡ get_or l.slots.items m s → b ≡ bucket_of (bucket_count l) (stored_in s) → IsJoined b s.before s.after l r → m < length r.slots.items → t ≡ get_or r.slots.items m t → AreKept (without_slot r m t) × (entries_of (without_slot r m t) ≡ set (entries_of l) m None) × (keys_of (without_slot r m t) ≡ keys_of l)
 removed l r s t b m d k is at own j low there =
     let x = read l m d s k is at in
     let mine : bucket_of (bucket_count l) d ≡ b = ap (bucket_of (bucket_count l)) (sym x.departure) ∙ sym own in
@@ -187,6 +188,7 @@ removed l r s t b m d k is at own j low there =
     let entries = removed-entries l r t b m s.before s.after j low there in (
       kept-take l (without_slot r m t) b m s.before s.after d k j.buckets mine p entries (subst (λ c. IsNextIn l c (Some d) s.after) mine x.next) (subst (λ c. IsPreviousIn l c (Some d) s.before) mine x.previous) (removed-next l r t b m s.before s.after j low there) (removed-previous l r t b m s.before s.after j low there),
       entries,
+      map-set_same key_in r.slots.items m (record t { there = false }) t (ap key_in there) ∙ j.keys,
     )
 
 same-links : (lt : Departure → Departure → Bool) (by : Departure → ℕ) (count : ℕ) (es fs : List (Option Departure)) (next next' : ℕ → ℕ → ℕ) → fs ≡ es → ((c i : ℕ) → next' c i ≡ next c i) → AreLinked lt by count es next → AreLinked lt by count fs next'

@@ -4,7 +4,7 @@ ghost use Rattle.std.specs.Prelude.{◌≡◌, None, Some, slice_get, slice_set,
 ghost use Rattle.dep_order.specs.Departing.{IsNewKey, held, leaves_before, with_time};
 ghost use Rattle.dep_order.specs.Linked.{is_above, leaves_after, nobody};
 ghost use Rattle.dep_order.specs.Stored.{AreKept, bucket_count, bucket_of, entries_of};
-ghost use Rattle.dep_order.specs.Stored.{stored_in};
+ghost use Rattle.dep_order.specs.Stored.{keys_of, stored_in};
 
 use crate::departure::Departure;
 use crate::lists::{Lists, NOBODY};
@@ -20,6 +20,7 @@ impl Lists {
         ensures kept { AreKept self.new }
         ensures entries { entries_of self.new
             ≡ slice_set (entries_of self.old) number (Some departure) }
+        ensures keys { keys_of self.new ≡ slice_set (keys_of self.old) number departure.key }
     {
         let bucket = self.bucket_of(departure.time);
         let gap = self.gap(bucket, &departure);
@@ -34,6 +35,7 @@ impl Lists {
         requires there { IsSome (held (entries_of self.old) number) }
         ensures kept { AreKept self.new }
         ensures entries { entries_of self.new ≡ slice_set (entries_of self.old) number None }
+        ensures keys { keys_of self.new ≡ keys_of self.old }
     {
         let slot = self.slots[number as usize];
         let bucket = self.bucket_of(slot.time);
@@ -49,6 +51,7 @@ impl Lists {
         requires there { IsSome (held (entries_of self.old) number) }
         ensures kept { AreKept self.new }
         ensures entries { entries_of self.new ≡ with_time number time (entries_of self.old) }
+        ensures keys { keys_of self.new ≡ keys_of self.old }
     {
         let slot = &self.slots[number as usize];
         let moved = Departure {

@@ -3,7 +3,7 @@
 ghost use Rattle.std.specs.Prelude.{◌≡◌, ◌<◌, ◌≤◌, ◌^◌, IfOk, IsSome, None, false, length};
 ghost use Rattle.std.specs.Prelude.{replicate, true};
 ghost use Rattle.dep_order.specs.Departing.{held};
-ghost use Rattle.dep_order.specs.Stored.{AreKept, entries_of};
+ghost use Rattle.dep_order.specs.Stored.{AreKept, entries_of, keys_of};
 
 use crate::slot::Slot;
 use mt_base::memory::OutOfMemory;
@@ -44,6 +44,7 @@ impl Lists {
         requires { room ≤ 2 ^ 22 }
         ensures kept { IfOk result (λ lists. AreKept lists) }
         ensures entries { IfOk result (λ lists. entries_of lists ≡ replicate room None) }
+        ensures keys { IfOk result (λ lists. length (keys_of lists) ≡ room) }
     {
         let buckets = (latest / BUCKET_SECONDS) as usize + 1;
         let bucket = Bucket {
@@ -60,6 +61,7 @@ impl Lists {
     pub(crate) fn copy(&self, alloc: Global) -> Result<Lists, OutOfMemory>
         ensures kept { AreKept self.now → IfOk result (λ copy. AreKept copy) }
         ensures entries { IfOk result (λ copy. entries_of copy ≡ entries_of self.now) }
+        ensures keys { IfOk result (λ copy. keys_of copy ≡ keys_of self.now) }
     {
         Ok(Lists {
             slots: Vec::from_slice(alloc, &self.slots)?,

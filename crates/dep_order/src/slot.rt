@@ -1,7 +1,7 @@
 //! What is kept for the number of a departure.
 
-ghost use Rattle.std.specs.Prelude.{◌≡◌, Some, false};
-ghost use Rattle.dep_order.specs.Stored.{departure_in, stored_in};
+ghost use Rattle.std.specs.Prelude.{◌≡◌, false, true};
+ghost use Rattle.dep_order.specs.Stored.{key_in, stored_in};
 
 use crate::departure::Departure;
 use crate::lists::NOBODY;
@@ -32,7 +32,8 @@ impl Slot {
     /// A slot for a departure between two others of its bucket.
     #[inline]
     pub(crate) fn new(departure: &Departure, before: u32, after: u32) -> Slot
-        ensures departure { departure_in result ≡ Some departure.now }
+        ensures departure { stored_in result ≡ departure.now }
+        ensures there { result.there ≡ true }
         ensures before { result.before ≡ before }
         ensures after { result.after ≡ after }
     {
@@ -85,7 +86,7 @@ impl Slot {
     /// The key of the departure that is kept.
     #[inline(always)]
     pub(crate) fn key(&self) -> Key
-        ensures { result ≡ (stored_in self.now).key }
+        ensures { result ≡ key_in self.now }
     {
         Key {
             time: self.scheduled,

@@ -1,5 +1,7 @@
 use Rattle.std.proofs.Common.{refl, ◌∙◌, ap, arith, map}
-use Rattle.dep_order.proofs.Words.{Bucket, departure_in, nobody}
+use Rattle.dep_order.proofs.Words.{Bucket, departure_in, key_in, length-map, nobody}
+use Rattle.std.proofs.Math.ListN.{replicate}
+use Rattle.std.proofs.lemmas.List.{length-replicate}
 use Rattle.dep_order.proofs.BuildLemmas.{empty-entries, kept-empty}
 use Rattle.dep_order.proofs.lists.Lists.empty.Goals as goal
 
@@ -13,3 +15,8 @@ returns-clause-kept c =
 pub returns-clause-entries : goal.returns-clause-entries
 returns-clause-entries c =
     ap (map departure_in) (c.in_ok-vec.ensures.items_if_clones_equal (λ y h. h)) ∙ empty-entries c.args.room c.free.result c.free.ensures
+
+pub returns-clause-keys : goal.returns-clause-keys
+returns-clause-keys c =
+    let slots = c.in_ok-vec.ensures.items_if_clones_equal (λ y h. h) in
+    rw slots (length-map (replicate c.args.room c.free.result) key_in ∙ length-replicate c.args.room c.free.result)

@@ -29,4 +29,4 @@ returns c =
     let d = some-of (held (entries_of l) c.args.number) c.requires.there in
     let low = within l c.args.number d.0 d.1 in
     let x = removed l c.join.new.self c.index-slot.result.now c.index_mut.result.now c.bucket_of-bucket.result c.args.number d.0 c.requires.kept d.1 c.index-slot.ensures c.bucket_of-bucket.ensures.is c.join.ensures (omega (arith, low, same-slots l c.join.new.self c.join.ensures.entries)) c.index_mut.ensures.value in
-    record { kept = x.0; entries = x.1 }
+    record { kept = x.0; entries = x.1; keys = x.2 }

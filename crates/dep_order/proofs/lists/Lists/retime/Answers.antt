@@ -1,4 +1,4 @@
-use Rattle.dep_order.proofs.Words.{◌≡◌, refl, sym, ◌∙◌, ap, arith, None, Some, Departure, entries_of, held, set, set-set, stored_in}
+use Rattle.dep_order.proofs.Words.{◌≡◌, refl, sym, ◌∙◌, ap, arith, None, Some, Departure, entries_of, held, key_in, map-set, map-set_same, set, set-set, stored_in}
 use Rattle.dep_order.proofs.ChangeLemmas.{freed, retimed, time-changes-as, with_time-is}
 use Rattle.dep_order.proofs.StoredLemmas.{read, some-of, within}
 use Rattle.dep_order.proofs.lists.Lists.retime.Goals as goal
@@ -46,7 +46,7 @@ returns-then-keeps_place c =
     let k = c.keeps_place.ensures in
     let stays = c.if-keeps_place.true in
     let x = time-changes-as l c.args.number s c.index_mut.result.now d.0 c.args.time e own c.requires.kept d.1 c.index-slot.ensures c.index_mut.ensures.value (k.bucket stays) (k.before stays) (k.after stays) in
-    record { kept = x.0; entries = x.1 ∙ sym (with_time-is (entries_of l) c.args.number c.args.time d.0 (stored_in s) d.1 same) }
+    record { kept = x.0; entries = x.1 ∙ sym (with_time-is (entries_of l) c.args.number c.args.time d.0 (stored_in s) d.1 same); keys = map-set_same key_in l.slots.items c.args.number (record (c.index_mut.result.now) { time = c.args.time }) c.index_mut.result.now (ap key_in c.index_mut.ensures.value) }
 
 pub returns-else-keeps_place-clause-entries : goal.returns-else-keeps_place-clause-entries
 returns-else-keeps_place-clause-entries c =
@@ -59,3 +59,10 @@ returns-else-keeps_place-clause-entries c =
     rw c.key.ensures at c.insert.ensures.entries ∙ ap (λ es. set es m (Some e)) c.remove.ensures.entries
     ∙ set-set (entries_of l) m None (Some e)
     ∙ sym (with_time-is (entries_of l) m c.args.time d.0 (stored_in s) d.1 same)
+
+pub returns-else-keeps_place-clause-keys : goal.returns-else-keeps_place-clause-keys
+returns-else-keeps_place-clause-keys c =
+    let l = c.args.self.now in
+    let m = c.args.number in
+    let s = c.index-slot.result.now in
+    rw (c.key.ensures, c.remove.ensures.keys) at c.insert.ensures.keys ∙ sym (map-set key_in l.slots.items m s) ∙ map-set_same key_in l.slots.items m s s (ap key_in c.index-slot.ensures)

@@ -1,4 +1,4 @@
-use Rattle.dep_order.proofs.Words.{◌≡◌, ◌∙◌, Some, true, false, refl, sym, subst, held, departures_in_order, Departure}
+use Rattle.dep_order.proofs.Words.{◌≡◌, ◌∙◌, Some, true, false, ap, take, refl, sym, subst, held, departures_in_order, Departure}
 use Rattle.std.specs.List.{list_any}
 use Rattle.mt_base.specs.Order.{is_same}
 use Rattle.mt_base.proofs.KeyLemmas.{same-itself}
@@ -17,12 +17,11 @@ invariant_of-self c =
     let a = c.self.inside in
     let h = c.self.invariant in
     let es = a.numbered.entries in
-    let b : Inside = record a { numbered = c.move_to.new.self } in
     let n = c.in-Some.number in
     let has = c.in-Some.ensures.some in
     let d = some-of (held es n) c.in-Some.ensures.there in
     let later : Departure = record (d.0) { time = c.args.time } in
-    set-ordered a h b n (Some later) (c.move_to.ensures ∙ with_time-is es n c.args.time d.0 d.0 d.1 refl) refl (number-within a h c.args.key.now n has) (λ e same. let own : later ≡ e = cc in rw (← own) (h.keys n d.0 d.1))
+    set-ordered a h c.move_to.new.self n (Some later) (c.move_to.ensures.entries ∙ with_time-is es n c.args.time d.0 d.0 d.1 refl) (ap (take a.numbers.loaded) c.move_to.ensures.keys) (number-within a h c.args.key.now n has) (λ e same. let own : later ≡ e = cc in rw (← own) (h.keys n d.0 d.1))
 
 pub returns-in-Some-clause-there : goal.returns-in-Some-clause-there
 returns-in-Some-clause-there c =
@@ -46,7 +45,7 @@ returns-in-Some-clause-departures c =
     let n = c.in-Some.number in
     let has = c.in-Some.ensures.some in
     let d = some-of (held es n) c.in-Some.ensures.there in
-    let is = c.move_to.ensures ∙ with_time-is es n time d.0 d.0 d.1 refl in
+    let is = c.move_to.ensures.entries ∙ with_time-is es n time d.0 d.0 d.1 refl in
     let apart = rw is at (distinct b (invariant_of-self c)) in
     subst (λ (o : Ordered). departures_in_order c.move_to.new.self.entries ≡ moved k time o.departures) c.self.view_is
     (rw is (move-order es (distinct a h) n d.0 (number-within a h k n has) d.1 k time (key-is a h k n d.0 has d.1) apart))
