@@ -1,4 +1,4 @@
-use Rattle.timetable.proofs.Words.{◌&&◌, ◌||◌, ap, events, is_live, is_same, ◌∙◌}
+use Rattle.timetable.proofs.Words.{◌≡◌, ◌&&◌, ◌||◌, Bool, Edge, Key, List, Node, ap, events, filter, is_live, is_same, list_any, subst, ◌∙◌}
 use Rattle.edge_rules.specs.AtEvent.{edges_from}
 use Rattle.edge_rules.specs.Deciding.{may_change}
 use Rattle.rank_order.specs.Marked.{is_marked}
@@ -27,6 +27,11 @@ returns-clause-fit c =
 
 pub returns-clause-marked : goal.returns-clause-marked
 returns-clause-marked c q live =
-    let gs = edges_from c.args.graph.now c.node.result in
-    let marked = rw (c.new-no_time.ensures, any-filter (λ e. is_same e.to q) (may_change no_time no_time) gs, c.mark.ensures.marked q) at c.mark_successors.ensures.marked q in
-    rw (← c.node.ensures) (marked ∙ or-turn (is_marked c.args.marks.now q) (is_same c.args.k.now q) _)
+    let gs : List Edge = edges_from c.args.graph.now c.node.result in
+    let may : Edge → Bool = may_change no_time no_time in
+    let marked : (p : Key) → is_marked c.mark_successors.new.marks p ≡ (is_marked c.mark.new.marks p || list_any (λ e. is_same e.to p && may e) gs) = rw c.new-no_time.ensures at c.mark_successors.ensures.marked in
+    subst (λ (n : Node). is_marked c.mark_successors.new.marks q ≡ (is_marked c.args.marks.now q || (is_same c.args.k.now q || list_any (λ (e : Edge). is_same e.to q) (filter may (edges_from c.args.graph.now n))))) c.node.ensures
+    (marked q
+    ∙ ap (λ b. is_marked c.mark.new.marks q || b) (any-filter (λ (e : Edge). is_same e.to q) may gs)
+    ∙ ap (λ b. b || list_any (λ (e : Edge). is_same e.to q) (filter may gs)) (c.mark.ensures.marked q)
+    ∙ or-turn (is_marked c.args.marks.now q) (is_same c.args.k.now q) (list_any (λ (e : Edge). is_same e.to q) (filter may gs)))
