@@ -53,19 +53,17 @@ same-numbers ns ms e f g cap ks h =
 -- keys that ascend, by their places
 pub first-numbers : (ks : List Key) (ns : Numbers) → AllPairs (λ a b. is_before a b ≡ true) ks → length ks + ns.room ≤ 2 ^ 22 → ns.loaded ≡ length ks → ns.added.items ≡ [] → ns.room ≤ vec_capacity ns.added → AreNumbers ks ns
 first-numbers ks ns up few e f cap =
+    let only : (k : Key) (n : ℕ) → HasNumber ks ns k n → slice_get ks n ≡ Some k = λ k n has. elim has [
+      | inl at ↦ at
+      | inr none ↦ (let x = rw f at none.1 in absurd (cc))
+    ] in
     record {
       loaded = up;
       count = sym e;
       added = rw f (λ i j d l m. absurd (omega arith));
       later = rw f (λ i d l. absurd (omega arith));
-      one = rw f (λ k m n a b. elim a [
-        | inl at ↦ elim b [ inl also ↦ place-one ks up k m n at also | inr none ↦ (let x = none.1 in absurd (cc)) ]
-        | inr none ↦ (let x = none.1 in absurd (cc))
-      ]);
-      own = rw f (λ k l n a b. elim a [
-        | inl at ↦ elim b [ inl also ↦ cc | inr none ↦ (let x = none.1 in absurd (cc)) ]
-        | inr none ↦ (let x = none.1 in absurd (cc))
-      ]);
+      one = λ k m n a b. place-one ks up k m n (only k m a) (only k n b);
+      own = λ k l n a b. let here = only k n a in let also = only l n b in cc;
       fits = rw f (omega arith);
       room = cap;
       few = omega arith;
