@@ -19,17 +19,12 @@ place-one ks up k m n h l =
       | inr (inr high) ↦ absurd (before-apart (get_or ks n k) (get_or ks m k) (up n m k high a.0) (b.1 ∙ sym a.1))
     ]
 
--- an element at a place in a list
-some-at : {X : Type 0} (xs : List X) (i : ℕ) → i < length xs → X
-some-at [] i l = absurd (omega arith)
-some-at (x ∷ xs) i l = x
-
 pub ascend-map : (ds : List Departure) → AllPairs (λ a b. is_before a.key b.key ≡ true) ds → AllPairs (λ a b. is_before a b ≡ true) (map (λ (d : Departure). d.key) ds)
-ascend-map ds up i j k l m =
+ascend-map [] up i j k l m = absurd (omega arith)
+ascend-map (d ∷ ds) up i j k l m =
     let key : Departure → Key = λ d. d.key in
-    let len = length-map ds key in
-    let d = some-at ds i (omega arith) in
-    rw (get_or-map key ds i d k (omega arith), get_or-map key ds j d k (omega arith)) (up i j d l (omega arith))
+    let len = length-map (d ∷ ds) key in
+    rw (get_or-map key (d ∷ ds) i d k (omega arith), get_or-map key (d ∷ ds) j d k (omega arith)) (up i j d l (omega arith))
 
 -- all numbers are below the next one
 pub number-below : (ks : List Key) (ns : Numbers) → AreNumbers ks ns → (k : Key) (n : ℕ) → HasNumber ks ns k n → n < given ns
@@ -58,19 +53,17 @@ same-numbers ns ms e f g cap ks h =
 -- keys that ascend, by their places
 pub first-numbers : (ks : List Key) (ns : Numbers) → AllPairs (λ a b. is_before a b ≡ true) ks → length ks + ns.room ≤ 2 ^ 22 → ns.loaded ≡ length ks → ns.added.items ≡ [] → ns.room ≤ vec_capacity ns.added → AreNumbers ks ns
 first-numbers ks ns up few e f cap =
+    let only : (k : Key) (n : ℕ) → HasNumber ks ns k n → slice_get ks n ≡ Some k = λ k n has. elim has [
+      | inl at ↦ at
+      | inr none ↦ (let x = rw f at none.1 in absurd (cc))
+    ] in
     record {
       loaded = up;
       count = sym e;
       added = rw f (λ i j d l m. absurd (omega arith));
       later = rw f (λ i d l. absurd (omega arith));
-      one = rw f (λ k m n a b. elim a [
-        | inl at ↦ elim b [ inl also ↦ place-one ks up k m n at also | inr none ↦ (let x = none.1 in absurd (cc)) ]
-        | inr none ↦ (let x = none.1 in absurd (cc))
-      ]);
-      own = rw f (λ k l n a b. elim a [
-        | inl at ↦ elim b [ inl also ↦ cc | inr none ↦ (let x = none.1 in absurd (cc)) ]
-        | inr none ↦ (let x = none.1 in absurd (cc))
-      ]);
+      one = λ k m n a b. place-one ks up k m n (only k m a) (only k n b);
+      own = λ k l n a b. let here = only k n a in let also = only l n b in cc;
       fits = rw f (omega arith);
       room = cap;
       few = omega arith;
@@ -80,11 +73,11 @@ module _ (ks : List Key) (ns ms : Numbers) (k : Key) (p : ℕ) (h : AreNumbers k
   abbrev next : Added
   next = record { key = k; number = given ns }
 
-  pub still : (l : Key) (n : ℕ) → HasNumber ks ns l n → HasNumber ks ms l n
+  still : (l : Key) (n : ℕ) → HasNumber ks ns l n → HasNumber ks ms l n
   still l n (inl own) = inl own
   still l n (inr there) = inr (rw f (has-still ns.added.items p next (record { key = l; number = n }) there))
 
-  pub has-next : HasNumber ks ms k (given ns)
+  has-next : HasNumber ks ms k (given ns)
   has-next = inr (rw f (has-insert ns.added.items p next))
 
   -- a number is an old one, or the new one
@@ -103,7 +96,7 @@ module _ (ks : List Key) (ns ms : Numbers) (k : Key) (p : ℕ) (h : AreNumbers k
   none-of : (x : Added) → Has ns.added.items x → x.key ≢ k
   none-of x there own = new x.number (inr (rw (← own) there))
 
-  pub added-numbers : AreNumbers ks ms
+  added-numbers : AreNumbers ks ms
   added-numbers =
       record {
         loaded = h.loaded;
@@ -124,6 +117,10 @@ module _ (ks : List Key) (ns ms : Numbers) (k : Key) (p : ℕ) (h : AreNumbers k
         room = omega (arith, h.room);
         few = rw (e, g) h.few;
       }
+
+  -- what holds once a key has the next number
+  pub next-number : AreNumbers ks ms × HasNumber ks ms k (given ns) × ((l : Key) (n : ℕ) → HasNumber ks ns l n → HasNumber ks ms l n) × (length ms.added.items ≡ length ns.added.items + 1)
+  next-number = (added-numbers, has-next, still, more)
 
 -- a key without a number
 pub no-number : (ks : List Key) (ns : Numbers) (k : Key) (o : Option ℕ) → ((i : ℕ) → slice_get ks i ≡ Some k → ⊥) → IfNone o (All (λ a. a.key ≢ k) ns.added.items) → IfNone o ((n : ℕ) → HasNumber ks ns k n → ⊥)

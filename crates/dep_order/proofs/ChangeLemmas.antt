@@ -161,7 +161,7 @@ module _ (l r : Lists) (s : Slot) (b m before after : ℕ) (j : IsJoined b befor
 pub link-apart : (lt : Departure → Departure → Bool) (by : Departure → ℕ) (es : List (Option Departure)) (b n m : ℕ) (o : Option Departure) → IsNext lt by es b o n → held es m ≡ None → m ≢ nobody → n ≢ m
 link-apart lt by es b n m o x free some own = some (sym own ∙ x.ends (ap (held es) own ∙ free))
 
-free-held : (l : Lists) (m : ℕ) → slice_get (entries_of l) m ≡ Some None → (m < length l.slots.items) × (held (entries_of l) m ≡ None)
+pub free-held : (l : Lists) (m : ℕ) → slice_get (entries_of l) m ≡ Some None → (m < length l.slots.items) × (held (entries_of l) m ≡ None)
 free-held l m free =
     let low = slice_get_within (entries_of l) m None free in
     (omega (arith, length-map l.slots.items departure_in), rw free refl)

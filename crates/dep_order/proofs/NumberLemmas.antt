@@ -122,17 +122,14 @@ module _ (ss : List Slot) (n : ℕ) (k : Key) (within : n ≤ length ss) (up : A
       let up = rw (take-map key_in n ss) at up in
       rw (get_or-map key_in (take n ss) i d (key_in d) (omega arith), get_or-map key_in (take n ss) j d (key_in d) m) at (up i j (key_in d) l (omega arith))
 
-  at-slot : (p : ℕ) (s : Slot) → p < n → s ≡ get_or ss p s → s ≡ get_or (take n ss) p s
-  at-slot p s l at = at ∙ sym (get_or-take n ss p s l)
-
   pub found-key : (p : ℕ) (s : Slot) → p < n → s ≡ get_or ss p s → key_in s ≡ k → slice_get (take n (map key_in ss)) p ≡ Some k
   found-key p s l at own =
-      let here = at-place key_in (take n ss) k slots-ascend p s (omega (arith, length-take-le n ss within)) (at-slot p s l at) in
+      let here = at-place key_in (take n ss) k slots-ascend p s (omega (arith, length-take-le n ss within)) (at ∙ sym (get_or-take n ss p s l)) in
       rw (take-map key_in n ss) (slice_get-map key_in (take n ss) p ∙ ap (option_map key_in) here ∙ ap Some own)
 
   module _ (p : ℕ) (at : IsPlace key_in (take n ss) k slots-ascend p) where
     pub other-key : (s : Slot) → p < n → s ≡ get_or ss p s → is_same (key_in s) k ≡ false → (i : ℕ) → slice_get (take n (map key_in ss)) i ≡ Some k → ⊥
-    other-key s l here other = rw (take-map key_in n ss) (no-key (take n ss) k (missed-other key_in (take n ss) k slots-ascend p at s (at-slot p s l here) other))
+    other-key s l here other = rw (take-map key_in n ss) (no-key (take n ss) k (missed-other key_in (take n ss) k slots-ascend p at s (here ∙ sym (get_or-take n ss p s l)) other))
 
     pub past-key : n ≤ p → (i : ℕ) → slice_get (take n (map key_in ss)) i ≡ Some k → ⊥
     past-key past = rw (take-map key_in n ss) (no-key (take n ss) k (missed-past key_in (take n ss) k slots-ascend p at (omega (arith, length-take-le n ss within))))

@@ -1,8 +1,8 @@
 //! Departures by number.
 
-ghost use Rattle.std.specs.Prelude.{◌≡◌, ℕ, ◌≤◌, ◌^◌, IfNone, IfOk, IfSome, IsSome, None, filter, Some};
-ghost use Rattle.std.specs.Prelude.{◌<◌, false, length, nat_le, replicate, slice_get, slice_set, take};
-ghost use Rattle.std.specs.Prelude.{true};
+ghost use Rattle.std.specs.Prelude.{◌≡◌, ℕ, ◌<◌, ◌≤◌, ◌^◌, IfNone, IfOk, IfSome, IsSome, None, Some};
+ghost use Rattle.std.specs.Prelude.{false, filter, length, nat_le, replicate, slice_get, slice_set};
+ghost use Rattle.std.specs.Prelude.{take, true};
 ghost use Rattle.std.specs.List.{AllPairs};
 ghost use Rattle.mt_base.specs.Order.{is_before};
 ghost use Rattle.dep_order.specs.Departing.{HaveDistinctKeys, IsFirst, IsNewKey, held};

@@ -1,7 +1,8 @@
 //! Departures in the order in which they take place, each found by its key.
 
 ghost use Rattle.std.specs.Prelude.{◌≡◌, ◌≢◌, ℕ, ◌+◌, ◌<◌, ◌≤◌, ◌^◌, All, IfNone, IfOk};
-ghost use Rattle.std.specs.Prelude.{IfSome, IsSome, None, filter, length, map, nat_le, not, take, true};
+ghost use Rattle.std.specs.Prelude.{IfSome, IsSome, None, filter, length, map, nat_le, not, take};
+ghost use Rattle.std.specs.Prelude.{true};
 ghost use Rattle.std.specs.List.{AllPairs, list_any};
 ghost use Rattle.mt_base.specs.Order.{is_before, is_same};
 ghost use Rattle.dep_order.specs.Departing.{held, leaves_before};

@@ -13,7 +13,7 @@ use mt_base::numbers::{Label, StopNo, Time, TrainNo};
 pub(crate) struct Slot {
     /// When the departure takes place.
     pub(crate) time: Time,
-    /// The time of its key.
+    /// Its scheduled time.
     pub(crate) scheduled: Time,
     pub(crate) train: TrainNo,
     pub(crate) label: Label,

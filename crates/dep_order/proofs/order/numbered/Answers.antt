@@ -5,13 +5,6 @@ use Rattle.dep_order.proofs.order.numbered.Goals as goal
 pub loop-number-init : goal.loop-number-init
 loop-number-init c = record { entries = c.in_ok-all.ensures.entries ∙ load-start c.args.departures.now c.args.spare; room = c.in_ok-all.ensures.keys; keys = refl }
 
-pub put-requires-clause-free : goal.put-requires-clause-free
-put-requires-clause-free c = rw c.loop-number.invariant.entries (load-free c.loop-number.number c.args.departures.now c.args.spare (omega arith))
-
-pub put-requires-clause-new_key : goal.put-requires-clause-new_key
-put-requires-clause-new_key c =
-    rw c.loop-number.invariant.entries (load-new c.loop-number.number c.args.departures.now c.args.spare c.index-departures-number.result (omega arith) c.index-departures-number.is c.requires.ascends)
-
 pub loop-number-preserved : goal.loop-number-preserved
 loop-number-preserved c =
     let i = c.loop-number.invariant in
@@ -24,4 +17,13 @@ loop-number-preserved c =
       entries = rw e next;
       room = rw c.put.ensures.keys (length-set c.loop-number.all.keys n d.key ∙ i.room);
       keys = rw c.put.ensures.keys (load-keys c.loop-number.all.keys ds n d (omega (arith, i.room)) (omega arith) c.index-departures-number.is i.keys);
+    }
+
+pub put-requires : goal.put-requires
+put-requires c =
+    let n = c.loop-number.number in
+    let ds = c.args.departures.now in
+    record {
+      free = rw c.loop-number.invariant.entries (load-free n ds c.args.spare (omega arith));
+      new_key = rw c.loop-number.invariant.entries (load-new n ds c.args.spare c.index-departures-number.result (omega arith) c.index-departures-number.is c.requires.ascends);
     }

@@ -6,18 +6,14 @@ use Rattle.dep_order.proofs.InsideLemmas.{distinct, key-new, more-numbers, numbe
 use Rattle.dep_order.proofs.PlaceLemmas.{put-order}
 use Rattle.dep_order.proofs.order.DepartureOrder.put.Goals as goal
 
--- no departure has the key yet
-pub put-requires-clause-new_key : goal.put-requires-clause-new_key
-put-requires-clause-new_key c =
-    let k = c.args.departure.now.key in
-    key-new c.self.inside c.self.invariant k (subst (λ (o : Ordered). All (λ d. d.key ≢ k) o.departures) (sym c.self.view_is) c.requires.new_key)
-
-pub put-requires-clause-free : goal.put-requires-clause-free
-put-requires-clause-free c =
+pub put-requires : goal.put-requires
+put-requires c =
     let a : Inside = record (c.self.inside) { numbers = c.number_of-number.new.self } in
     let more = c.number_of-number.ensures in
     let kept = more-numbers c.self.inside c.self.invariant c.number_of-number.new.self more.numbers more.others more.loaded more.room in
-    number-free a kept c.args.departure.now.key c.number_of-number.result more.has (put-requires-clause-new_key c)
+    let k = c.args.departure.now.key in
+    let unknown = key-new c.self.inside c.self.invariant k (subst (λ (o : Ordered). All (λ d. d.key ≢ k) o.departures) (sym c.self.view_is) c.requires.new_key) in
+    record { free = number-free a kept k c.number_of-number.result more.has unknown; new_key = unknown }
 
 pub invariant_of-self : goal.invariant_of-self
 invariant_of-self c =
