@@ -1,5 +1,5 @@
 -- Networks with the same change times, waits and stations have the same outputs.
-use Rattle.std.proofs.Common.{◌≡◌, ◌++◌, ◌+◌, ℕ, zero, suc, List, [], ◌∷◌, Option, Result, Ok, arith, refl}
+use Rattle.std.proofs.Common.{◌≡◌, ◌++◌, ◌+◌, ℕ, zero, suc, List, [], ◌∷◌, Option, Result, Ok, Err, arith, refl}
 use Rattle.mt_base.specs.declared.keys.Key.{Key}
 use Rattle.mt_base.specs.declared.plans.PlanRide.{PlanRide}
 use Rattle.mt_base.specs.declared.plans.Query.{Query}
@@ -15,17 +15,19 @@ use Rattle.delay_model.specs.Journeys.{IsRide, GoesOn, IsJourney}
 use Rattle.delay_model.specs.Refusals.{against_rank, refusal}
 use Rattle.delay_model.specs.Timing.{event_time}
 use Rattle.delay_model.specs.Touched.{changed, changed_count}
-use Rattle.delay_report.specs.declared.replies.BadLine.{BadLine}
 use Rattle.delay_report.specs.declared.replies.Reply.{Reply}
 use Rattle.delay_report.specs.Table.{rows_from, table}
+use Rattle.message_reader.specs.declared.bad_line.BadLine.{BadLine}
+use Rattle.message_reader.specs.declared.resolve_queries.AskedQuery.{AskedQuery}
 use Rattle.message_reader.specs.declared.wire.Wire.{Wire}
 use Rattle.message_reader.specs.declared.wire.Line.{Line as Spoken}
 use Rattle.message_reader.specs.declared.wire.Line.TheVariants.{Query as Asks}
+use Rattle.message_reader.specs.ResolvedQueries.{query_resolved}
 use Rattle.mt_io.specs.Lines.{Line}
 use Rattle.schedule_build.specs.Directory.{Names}
 use Rattle.information_service.specs.Networks.{IsSame}
 use Rattle.information_service.specs.Lines.{messages_of, by_names}
-use Rattle.information_service.specs.Output.{reply_to_message, IsReplyToQuery, IsReply, IsTextAfter, AreReplies, IsOutput}
+use Rattle.information_service.specs.Output.{reply_to_message, IsReplyToQuery, IsReplyToResolved, IsReply, IsTextAfter, AreReplies, IsOutput}
 
 transfer-same : (a b : Network) → IsSame a b → (choice : Option Override) (u v : Event) → transfer b choice u v ≡ transfer a choice u v
 unfolding transfer
@@ -90,13 +92,17 @@ same-back a b h = grind arith
 query-same : (a b : Network) → IsSame a b → (st : State) (count line day : ℕ) (q : Query) (reply : Reply) → IsReplyToQuery b st count line day q reply → IsReplyToQuery a st count line day q reply
 query-same a b h st count line day q reply is = grind (arith, journey-same a b h st q, journey-same b a (same-back a b h) st q)
 
+resolved-same : (a b : Network) → IsSame a b → (st : State) (count line : ℕ) (asked : Result AskedQuery BadLine) (reply : Reply) → IsReplyToResolved b st count line asked reply → IsReplyToResolved a st count line asked reply
+resolved-same a b h st count line (Ok q) reply is = query-same a b h st count line q.day q.query reply is
+resolved-same a b h st count line (Err bad) reply is = is
+
 reply-same : (a b : Network) → IsSame a b → (names : Names) (st : State) (count line : ℕ) (said : Result Spoken BadLine) (reply : Reply) → IsReply b names st count line said reply → IsReply a names st count line said reply
-reply-same a b h names st count line (Ok (Asks client day q)) reply is = query-same a b h st count line day q reply is
+reply-same a b h names st count line (Ok (Asks q)) reply is = resolved-same a b h st count line (query_resolved names q) reply is
 reply-same a b h names st count line said reply is = grind (arith, reply-to-message-same a b h names st count line)
 
 text-same : (a b : Network) → IsSame a b → (names : Names) (st : State) (before : List Line) (x : Line) (bytes : List ℕ) → IsTextAfter b names st before x bytes → IsTextAfter a names st before x bytes
 text-same a b h names st before x bytes t =
-    let ws = messages_of names before in
+    let ws = messages_of before in
     grind (arith, accepted-same a b h by_names st names ws, known-same a b h by_names st names ws, reply-same a b h)
 
 -- the same replies
@@ -116,5 +122,5 @@ table-same a b h names st = rw (rows-same a b h)
 -- the same outputs
 pub output-same : (a b : Network) → IsSame a b → (names : Names) (st : State) (lines : List Line) (bytes : List ℕ) → IsOutput b names st lines bytes → IsOutput a names st lines bytes
 output-same a b h names st lines bytes o =
-    let ws = messages_of names lines in
+    let ws = messages_of lines in
     grind (arith, replies-same a b h names st [] lines, accepted-same a b h by_names st names ws, known-same a b h by_names st names ws, table-same a b h)

@@ -13,15 +13,13 @@ use Rattle.delay_model.specs.declared.state.State.{State}
 use Rattle.delay_model.specs.After.{after, accepted, accepted_message, known_after}
 use Rattle.delay_model.specs.Effect.{effect}
 use Rattle.delay_model.specs.Refusals.{refusal}
-use Rattle.delay_report.specs.declared.replies.BadLine.{BadLine}
 use Rattle.delay_report.specs.declared.replies.Reply.{Reply}
 use Rattle.delay_report.specs.Replies.{text_of_reply}
 use Rattle.message_reader.specs.declared.wire.Wire.{Wire}
 use Rattle.message_reader.specs.declared.wire.Line.{Line as Spoken}
-use Rattle.message_reader.specs.declared.bad.Bad.{Bad}
+use Rattle.message_reader.specs.declared.bad_line.BadLine.{BadLine}
 use Rattle.message_reader.specs.declared.wire.Line.TheVariants.{Message as Says, Query as Asks, Flush}
-use Rattle.message_reader.specs.Lines.{line_of, message_in}
-use Rattle.message_reader.proofs.Unnamed.{same_message}
+use Rattle.message_reader.specs.Lines.{message_in}
 use Rattle.message_reader.specs.Resolved.{resolved}
 use Rattle.mt_io.specs.Lines.{Line, short, long}
 use Rattle.mt_io.specs.Reader.{Reader, GivesNext}
@@ -33,14 +31,14 @@ use Rattle.mt_io.proofs.Runs.{begins, goes_on}
 use Rattle.schedule_build.specs.Directory.{Names}
 use Rattle.information_service.specs.Fronts.{Answered, AppendsFirstReplies, AppendsFront, Begun}
 use Rattle.information_service.proofs.Fronts.{front_after}
-use Rattle.information_service.specs.Lines.{said_by, with_word, message_by, messages_of, names_with, by_names}
+use Rattle.information_service.specs.Lines.{said_by, messages_of, names_with, by_names}
 use Rattle.information_service.specs.Output.{reply_by_refusal, reply_to_message, IsReply, IsReplyTo, IsTextAfter, AreReplies}
-use Rattle.information_service.specs.ServiceState.{ServiceState, next_by, next_by_message, next_by_refusal, after_line, service_after}
+use Rattle.information_service.specs.ServiceState.{ServiceState, after_said, after_message, after_answer, after_line, service_after}
 
 -- the service after these messages, one after the other
 abbrev after_each : ServiceState → List Wire → ServiceState
 after_each t [] = t
-after_each t (w ∷ ws) = after_each (next_by_message t w (resolved t.names w)) ws
+after_each t (w ∷ ws) = after_each (after_message t w (resolved t.names w)) ws
 
 -- the service after these messages, by which of them are accepted
 abbrev after_all : ServiceState → List Wire → ServiceState
@@ -62,64 +60,54 @@ after_this t w ws o =
 abbrev with_count : ServiceState → ℕ → ServiceState
 with_count t n = record { network = t.network; state = t.state; count = n; names = t.names }
 
-refusal-all : (t : ServiceState) (w : Wire) (ws : List Wire) (m : Message) (o : Option Refusal) → after_all (next_by_refusal t w m o) ws ≡ after_this t w ws (cond (is_none o) (Some m) None)
+refusal-all : (t : ServiceState) (w : Wire) (ws : List Wire) (m : Message) (o : Option Refusal) → after_all (after_answer t w m o) ws ≡ after_this t w ws (cond (is_none o) (Some m) None)
 refusal-all t w ws m None =
-    let next = after_all (next_by_refusal t w m None) ws in
+    let next = after_all (after_answer t w m None) ws in
     ap (with_count next) (omega arith)
 refusal-all t w ws m (Some r) = refl
 
-message-all : (t : ServiceState) (w : Wire) (ws : List Wire) (read : Result Message Refusal) → after_all (next_by_message t w read) ws ≡ after_this t w ws (accepted_message t.network t.state read)
+message-all : (t : ServiceState) (w : Wire) (ws : List Wire) (read : Result Message Refusal) → after_all (after_message t w read) ws ≡ after_this t w ws (accepted_message t.network t.state read)
 message-all t w ws (Ok m) = refusal-all t w ws m (refusal t.network t.state m)
 message-all t w ws (Err r) = refl
 
 each-all : (t : ServiceState) (ws : List Wire) → after_each t ws ≡ after_all t ws
 each-all t [] = ap (with_count t) (omega arith)
-each-all t (w ∷ ws) = each-all (next_by_message t w (resolved t.names w)) ws ∙ message-all t w ws (resolved t.names w)
+each-all t (w ∷ ws) = each-all (after_message t w (resolved t.names w)) ws ∙ message-all t w ws (resolved t.names w)
 
 each-append : (t : ServiceState) (ws vs : List Wire) → after_each t (ws ++ vs) ≡ after_each (after_each t ws) vs
 each-append t [] vs = refl
-each-append t (w ∷ ws) vs = each-append (next_by_message t w (resolved t.names w)) ws vs
+each-append t (w ∷ ws) vs = each-append (after_message t w (resolved t.names w)) ws vs
 
 abbrev option_list : Option Wire → List Wire
 option_list None = []
 option_list (Some w) = w ∷ []
 
-last-message : (names : Names) (o : Option Wire) (x : Line) → message_by names x ≡ o → messages_of names (x ∷ []) ≡ option_list o
-last-message names None x e = rw e refl
-last-message names (Some w) x e = rw e refl
+last-message : (o : Option Wire) (x : Line) → message_in (said_by x) ≡ o → messages_of (x ∷ []) ≡ option_list o
+last-message None x e = rw e refl
+last-message (Some w) x e = rw e refl
 
-line-each : (t : ServiceState) (said : Result Spoken Bad) → next_by t (with_word said) ≡ after_each t (option_list (message_in said))
-line-each t (Ok (Says w)) = refl
-line-each t (Ok (Asks client day q)) = refl
-line-each t (Ok Flush) = refl
-line-each t (Err b) = refl
-
-said-each : (t : ServiceState) (x : Line) → next_by t (said_by t.names x) ≡ after_each t (option_list (message_by t.names x))
-said-each t long = refl
-said-each t (short bytes) = line-each t (line_of t.names bytes)
-
--- a line says a message by any names
-message-any : (names others : Names) (x : Line) → message_by names x ≡ message_by others x
-message-any names others long = refl
-message-any names others (short bytes) = same_message names others bytes
+said-each : (t : ServiceState) (said : Result Spoken BadLine) → after_said t said ≡ after_each t (option_list (message_in said))
+said-each t (Ok (Says w)) = refl
+said-each t (Ok (Asks q)) = refl
+said-each t (Ok Flush) = refl
+said-each t (Err b) = refl
 
 abbrev start : Network → Names → State → ServiceState
 start nw names st = record { network = nw; state = st; count = 0; names = names }
 
-service-each : (nw : Network) (names : Names) (st : State) (lines : List Line) → service_after nw names st lines ≡ after_each (start nw names st) (messages_of names lines)
-service-each nw names st lines = ap (with_count (service_after nw names st lines)) (omega arith) ∙ sym (each-all (start nw names st) (messages_of names lines))
+service-each : (nw : Network) (names : Names) (st : State) (lines : List Line) → service_after nw names st lines ≡ after_each (start nw names st) (messages_of lines)
+service-each nw names st lines = ap (with_count (service_after nw names st lines)) (omega arith) ∙ sym (each-all (start nw names st) (messages_of lines))
 
 -- one more line leaves the service as it is after all of them
 line-after : (nw : Network) (names : Names) (st : State) (lines : List Line) (x : Line) → after_line (service_after nw names st lines) x ≡ service_after nw names st (lines ++ x ∷ [])
 line-after nw names st lines x =
     let t = start nw names st in
-    let then = after_each t (messages_of names lines) in
+    let then = after_each t (messages_of lines) in
     ap (λ (s : ServiceState). after_line s x) (service-each nw names st lines)
-    ∙ said-each then x
-    ∙ ap (λ (o : Option Wire). after_each then (option_list o)) (message-any then.names names x)
-    ∙ ap (after_each then) (sym (last-message names (message_by names x) x refl))
-    ∙ sym (each-append t (messages_of names lines) (messages_of names (x ∷ [])))
-    ∙ ap (after_each t) (sym (filter_map-append (message_by names) lines (x ∷ [])))
+    ∙ said-each then (said_by x)
+    ∙ ap (after_each then) (sym (last-message (message_in (said_by x)) x refl))
+    ∙ sym (each-append t (messages_of lines) (messages_of (x ∷ [])))
+    ∙ ap (after_each t) (sym (filter_map-append (λ (y : Line). message_in (said_by y)) lines (x ∷ [])))
     ∙ sym (service-each nw names st (lines ++ x ∷ []))
 
 -- one more reply
@@ -137,19 +125,19 @@ replies-more nw names st before (y ∷ ys) x bytes text all one =
     )
 
 -- the reply to a line that adds a name has no name in it
-answer-text : (t : ServiceState) (line : ℕ) (w : Wire) (m : Message) (o : Option Refusal) → text_of_reply (next_by_refusal t w m o).names (reply_by_refusal t.network t.names t.state t.count line w m o) ≡ text_of_reply t.names (reply_by_refusal t.network t.names t.state t.count line w m o)
+answer-text : (t : ServiceState) (line : ℕ) (w : Wire) (m : Message) (o : Option Refusal) → text_of_reply (after_answer t w m o).names (reply_by_refusal t.network t.names t.state t.count line w m o) ≡ text_of_reply t.names (reply_by_refusal t.network t.names t.state t.count line w m o)
 unfolding text_of_reply
 answer-text t line w m None = refl
 answer-text t line w m (Some r) = refl
 
-message-text : (t : ServiceState) (line : ℕ) (w : Wire) (read : Result Message Refusal) → text_of_reply (next_by_message t w read).names (reply_to_message t.network t.names t.state t.count line w read) ≡ text_of_reply t.names (reply_to_message t.network t.names t.state t.count line w read)
+message-text : (t : ServiceState) (line : ℕ) (w : Wire) (read : Result Message Refusal) → text_of_reply (after_message t w read).names (reply_to_message t.network t.names t.state t.count line w read) ≡ text_of_reply t.names (reply_to_message t.network t.names t.state t.count line w read)
 message-text t line w (Ok m) = answer-text t line w m (refusal t.network t.state m)
 message-text t line w (Err r) = refl
 
-said-text : (t : ServiceState) (line : ℕ) (said : Result Spoken BadLine) (reply : Reply) → IsReply t.network t.names t.state t.count line said reply → text_of_reply (next_by t said).names reply ≡ text_of_reply t.names reply
+said-text : (t : ServiceState) (line : ℕ) (said : Result Spoken BadLine) (reply : Reply) → IsReply t.network t.names t.state t.count line said reply → text_of_reply (after_said t said).names reply ≡ text_of_reply t.names reply
 said-text t line (Ok (Says w)) reply is =
-    ap (text_of_reply (next_by_message t w (resolved t.names w)).names) is ∙ message-text t line w (resolved t.names w) ∙ ap (text_of_reply t.names) (sym is)
-said-text t line (Ok (Asks client day q)) reply is = refl
+    ap (text_of_reply (after_message t w (resolved t.names w)).names) is ∙ message-text t line w (resolved t.names w) ∙ ap (text_of_reply t.names) (sym is)
+said-text t line (Ok (Asks q)) reply is = refl
 said-text t line (Ok Flush) reply is = refl
 said-text t line (Err b) reply is = refl
 
@@ -164,7 +152,7 @@ reply_is first now next lines x number reply stood is_number is is_next =
     record {
       reply = reply;
       is_reply = subst (λ (n : ℕ). IsReplyTo (service_after first.network first.names first.state lines) n x reply) is_number (subst (λ (t : ServiceState). IsReplyTo t number x reply) stood is);
-      text = ap (λ (t : ServiceState). text_of_reply t.names reply) is_next ∙ said-text now number (said_by now.names x) reply is ∙ ap (λ (t : ServiceState). text_of_reply t.names reply) stood;
+      text = ap (λ (t : ServiceState). text_of_reply t.names reply) is_next ∙ said-text now number (said_by x) reply is ∙ ap (λ (t : ServiceState). text_of_reply t.names reply) stood;
     }
 
 -- bytes that were taken, and the lines of them that were answered
@@ -232,22 +220,22 @@ one_line_more {first = first} {now = now} {written = written} {written_old = wri
     )
 
 -- the count of accepted messages grows by one at most
-few-answer : (t : ServiceState) (w : Wire) (m : Message) (o : Option Refusal) → (next_by_refusal t w m o).count ≤ t.count + 1
+few-answer : (t : ServiceState) (w : Wire) (m : Message) (o : Option Refusal) → (after_answer t w m o).count ≤ t.count + 1
 few-answer t w m None = omega arith
 few-answer t w m (Some r) = omega arith
 
-few-message : (t : ServiceState) (w : Wire) (read : Result Message Refusal) → (next_by_message t w read).count ≤ t.count + 1
+few-message : (t : ServiceState) (w : Wire) (read : Result Message Refusal) → (after_message t w read).count ≤ t.count + 1
 few-message t w (Ok m) = few-answer t w m (refusal t.network t.state m)
 few-message t w (Err r) = omega arith
 
-few-said : (t : ServiceState) (said : Result Spoken BadLine) → (next_by t said).count ≤ t.count + 1
+few-said : (t : ServiceState) (said : Result Spoken BadLine) → (after_said t said).count ≤ t.count + 1
 few-said t (Ok (Says w)) = few-message t w (resolved t.names w)
-few-said t (Ok (Asks client day q)) = omega arith
+few-said t (Ok (Asks q)) = omega arith
 few-said t (Ok Flush) = omega arith
 few-said t (Err b) = omega arith
 
 pub counts-one : (t next : ServiceState) (x : Line) → next ≡ after_line t x → next.count ≤ t.count + 1
-counts-one t next x is = omega (arith, ap (λ (r : ServiceState). r.count) is, few-said t (said_by t.names x))
+counts-one t next x is = omega (arith, ap (λ (r : ServiceState). r.count) is, few-said t (said_by x))
 
 -- a front of the reply to one line more
 pub front_more : {first now : ServiceState} {r : Reader} {left left_now written written_old written_new : Option (List ℕ)} {bytes : List ℕ} {lines : List Line} (next : ServiceState) (x : Line) (number : ℕ) (reply : Reply)

@@ -1,32 +1,34 @@
 -- How far two outputs of the same lines are alike.
 use Rattle.std.specs.Prelude.{◌≡◌, ◌⊎◌, ℕ, List, [], ◌∷◌, ◌++◌, Ok}
 use Rattle.mt_base.specs.declared.plans.PlanRide.{PlanRide}
-use Rattle.mt_base.specs.declared.plans.Query.{Query}
 use Rattle.delay_model.specs.declared.network.Network.{Network}
 use Rattle.delay_model.specs.declared.state.State.{State}
 use Rattle.delay_model.specs.After.{after}
 use Rattle.delay_report.specs.declared.replies.Reply.TheVariants.{Journey}
 use Rattle.delay_report.specs.Replies.{text_of_reply}
 use Rattle.delay_report.specs.Table.{table}
+use Rattle.message_reader.specs.declared.resolve_queries.AskedQuery.{AskedQuery}
+use Rattle.message_reader.specs.declared.wire.WireQuery.{WireQuery}
 use Rattle.message_reader.specs.declared.wire.Line.TheVariants.{Query as Asks}
+use Rattle.message_reader.specs.ResolvedQueries.{query_resolved}
 use Rattle.mt_io.specs.Lines.{Line}
 use Rattle.schedule_build.specs.Directory.{Names}
 use Rattle.information_service.specs.Lines.{said_by, accepted_of, names_after}
 
--- by the names that are known the line asks a query, and these texts show two journeys for it that
+-- the line asks a query by the names that are known, and these texts show two journeys for it that
 -- arrive at the same time
 pub record ShowTwoJourneys (known : Names) (x : Line) (a b : List ℕ) : Type 0 where
-  pub client : List ℕ
-  pub day : ℕ
-  pub query : Query
-  pub asks : said_by known x ≡ Ok (Asks client day query)
+  pub query : WireQuery
+  pub asks : said_by x ≡ Ok (Asks query)
+  pub asked : AskedQuery
+  pub resolved : query_resolved known query ≡ Ok asked
   pub line : ℕ
   pub count : ℕ
   pub arrives : ℕ
   pub rides : List PlanRide
   pub others : List PlanRide
-  pub first : a ≡ text_of_reply known (Journey line count day arrives rides)
-  pub second : b ≡ text_of_reply known (Journey line count day arrives others)
+  pub first : a ≡ text_of_reply known (Journey line count asked.day arrives rides)
+  pub second : b ≡ text_of_reply known (Journey line count asked.day arrives others)
 
 -- two lists of reply lines to these lines, which stand behind those before, are alike: line by line
 -- they are the same, or show two journeys that arrive at the same time

@@ -13,16 +13,18 @@ use Rattle.delay_model.specs.After.{after}
 use Rattle.delay_model.specs.Journeys.{IsEarliest, HasNoJourney}
 use Rattle.delay_model.specs.Refusals.{refusal}
 use Rattle.delay_model.specs.Touched.{changed_count}
-use Rattle.delay_report.specs.declared.replies.BadLine.{BadLine}
 use Rattle.delay_report.specs.declared.replies.Reply.{Reply}
 use Rattle.delay_report.specs.declared.replies.Reply.TheVariants.{Accepted, Refused, RefusedExtra, Bad, Flush as Flushed, Journey, NoJourney}
 use Rattle.delay_report.specs.Replies.{text_of_reply}
 use Rattle.delay_report.specs.Table.{table}
+use Rattle.message_reader.specs.declared.bad_line.BadLine.{BadLine}
+use Rattle.message_reader.specs.declared.resolve_queries.AskedQuery.{AskedQuery}
 use Rattle.message_reader.specs.declared.wire.Wire.{Wire}
 use Rattle.message_reader.specs.declared.wire.Wire.TheVariants.{Extra}
 use Rattle.message_reader.specs.declared.wire.Line.{Line as Spoken}
 use Rattle.message_reader.specs.declared.wire.Line.TheVariants.{Message as Says, Query as Asks, Flush}
 use Rattle.message_reader.specs.Resolved.{resolved}
+use Rattle.message_reader.specs.ResolvedQueries.{query_resolved}
 use Rattle.mt_io.specs.Lines.{Line}
 use Rattle.schedule_build.specs.Directory.{Names, day_named}
 use Rattle.information_service.specs.Lines.{said_by, accepted_of, names_after}
@@ -59,20 +61,25 @@ IsReplyToQuery nw st count line day q reply =
     × IsEarliest nw st q rides arrives)
     ⊎ ((reply ≡ NoJourney line count) × HasNoJourney nw st q)
 
--- this is a reply to what a line says. That to a flush has the number of messages accepted so far.
--- The names serve messages alone: a query has its stops and its day by number
+-- this is a reply to a query by number, or to one whose names make its line bad
+abbrev pub IsReplyToResolved : Network → State → ℕ → ℕ → Result AskedQuery BadLine → Reply → Type 0
+IsReplyToResolved nw st count line (Ok asked) reply =
+    IsReplyToQuery nw st count line asked.day asked.query reply
+IsReplyToResolved nw st count line (Err b) reply = reply ≡ Bad line b
+
+-- this is a reply to what a line says. That to a flush has the number of messages accepted so far
 abbrev pub IsReply : Network → Names → State → ℕ → ℕ → Result Spoken BadLine → Reply → Type 0
 IsReply nw names st count line (Err b) reply = reply ≡ Bad line b
 IsReply nw names st count line (Ok Flush) reply = reply ≡ Flushed line count
 IsReply nw names st count line (Ok (Says w)) reply =
     reply ≡ reply_to_message nw names st count line w (resolved names w)
-IsReply nw names st count line (Ok (Asks client day q)) reply =
-    IsReplyToQuery nw st count line day q reply
+IsReply nw names st count line (Ok (Asks q)) reply =
+    IsReplyToResolved nw st count line (query_resolved names q) reply
 
 -- this is a reply to the line of this number, in this state of the service
 abbrev pub IsReplyTo : ServiceState → ℕ → Line → Reply → Type 0
 IsReplyTo t number x reply =
-    IsReply t.network t.names t.state t.count number (said_by t.names x) reply
+    IsReply t.network t.names t.state t.count number (said_by x) reply
 
 -- these bytes are the text of the reply to the line that stands behind these lines: in the state
 -- after their accepted messages, by the names that are known after them, with the number of the

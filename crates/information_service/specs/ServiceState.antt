@@ -11,7 +11,7 @@ use Rattle.delay_model.specs.contracts.state.State.{the_row as state_row}
 use Rattle.delay_model.specs.After.{after}
 use Rattle.delay_model.specs.Effect.{effect}
 use Rattle.delay_model.specs.Refusals.{refusal}
-use Rattle.delay_report.specs.declared.replies.BadLine.{BadLine}
+use Rattle.message_reader.specs.declared.bad_line.BadLine.{BadLine}
 use Rattle.message_reader.specs.declared.wire.Wire.{Wire}
 use Rattle.message_reader.specs.declared.wire.Line.{Line as Spoken}
 use Rattle.message_reader.specs.declared.wire.Line.TheVariants.{Message as Says, Query as Asks, Flush}
@@ -35,29 +35,29 @@ service_state_code =
     code_by (Network × (State × (ℕ × Names))) (coded× network_row.coded (coded× state_row.coded (coded× coded_ℕ directory_row.coded))) (λ t. (t.network, (t.state, (t.count, t.names)))) (λ p. record { network = p.0; state = p.1.0; count = p.1.1.0; names = p.1.1.1 }) (λ _. refl)
 
 -- after a message with this answer
-abbrev pub next_by_refusal : ServiceState → Wire → Message → Option Refusal → ServiceState
-next_by_refusal t w m None = record t {
+abbrev pub after_answer : ServiceState → Wire → Message → Option Refusal → ServiceState
+after_answer t w m None = record t {
   state = effect t.state m;
   count = t.count + 1;
   names = names_with t.names w;
 }
-next_by_refusal t w m (Some r) = t
+after_answer t w m (Some r) = t
 
 -- after a message, or after names that decide its refusal
-abbrev pub next_by_message : ServiceState → Wire → Result Message Refusal → ServiceState
-next_by_message t w (Ok m) = next_by_refusal t w m (refusal t.network t.state m)
-next_by_message t w (Err r) = t
+abbrev pub after_message : ServiceState → Wire → Result Message Refusal → ServiceState
+after_message t w (Ok m) = after_answer t w m (refusal t.network t.state m)
+after_message t w (Err r) = t
 
 -- after a line that says this
-abbrev pub next_by : ServiceState → Result Spoken BadLine → ServiceState
-next_by t (Ok (Says w)) = next_by_message t w (resolved t.names w)
-next_by t (Ok (Asks client day q)) = t
-next_by t (Ok Flush) = t
-next_by t (Err b) = t
+abbrev pub after_said : ServiceState → Result Spoken BadLine → ServiceState
+after_said t (Ok (Says w)) = after_message t w (resolved t.names w)
+after_said t (Ok (Asks q)) = t
+after_said t (Ok Flush) = t
+after_said t (Err b) = t
 
 -- after this line
 abbrev pub after_line : ServiceState → Line → ServiceState
-after_line t x = next_by t (said_by t.names x)
+after_line t x = after_said t (said_by x)
 
 -- the service that began in the state `st` with these names, after these lines
 abbrev pub service_after : Network → Names → State → List Line → ServiceState

@@ -3,17 +3,20 @@
 ghost use Rattle.std.specs.Prelude.{◌≡◌, ◌<◌, ◌-◌, ◌^◌, Ok, Err, IfOk, IfErr, IfSome, OnOk};
 ghost use Rattle.message_reader.specs.declared.wire.Line.TheVariants.{Message as Says};
 ghost use Rattle.message_reader.specs.Resolved.{resolved};
-ghost use Rattle.message_reader.specs.Wires.{IsLine, IsWire};
+ghost use Rattle.message_reader.specs.ResolvedQueries.{query_resolved};
+ghost use Rattle.message_reader.specs.Wires.{IsLine, IsWire, IsWireQuery};
 ghost use Rattle.mt_io.specs.Lines.{short};
 ghost use Rattle.information_service.specs.Lines.{added_name, with_added, CanBeAdded};
-ghost use Rattle.information_service.specs.Output.{reply_to_message, reply_to_refused, IsReply, IsReplyTo, IsReplyToQuery};
-ghost use Rattle.information_service.specs.ServiceState.{after_line, next_by, next_by_message};
+ghost use Rattle.information_service.specs.Output.{reply_to_message, reply_to_refused, IsReply, IsReplyTo, IsReplyToQuery, IsReplyToResolved};
+ghost use Rattle.information_service.specs.ServiceState.{after_line, after_said, after_message};
 
 use crate::service::InformationService;
 use conn_scan::{Found, earliest};
 use delay_model::messages::Refusal;
-use delay_report::{BadLine, Reply};
-use message_reader::{Bad, Line, ResolveFault, Wire, read_line, resolve};
+use delay_report::Reply;
+use message_reader::{
+    Line, LineError, ResolveError, Wire, WireQuery, read_line, resolve, resolve_query,
+};
 use mt_base::memory::OutOfMemory;
 use mt_base::numbers::Day;
 use mt_base::plans::{PlanRide, Query};
@@ -94,7 +97,7 @@ fn reply_to_message<L: Ledger>(
     requires some { 0 < blank.parts }
     ensures reply { IfOk result (λ r. r ≡ reply_to_message service.old.network service.old.names
         service.old.state service.old.count number wire.now (Ok message.now)) }
-    ensures next { OnOk result (service.new ≡ next_by_message service.old wire.now
+    ensures next { OnOk result (service.new ≡ after_message service.old wire.now
         (Ok message.now)) }
     ensures unchanged { IfErr result (λ _. service.new ≡ service.old) }
 {
@@ -124,7 +127,7 @@ fn reply_to_wire(
     requires count { service.old.count < 2 ^ 64 - 1 }
     ensures reply { IfOk result (λ r. r ≡ reply_to_message service.old.network service.old.names
         service.old.state service.old.count number wire.now (resolved service.old.names wire.now)) }
-    ensures next { OnOk result (service.new ≡ next_by service.old (Ok (Says wire.now))) }
+    ensures next { OnOk result (service.new ≡ after_said service.old (Ok (Says wire.now))) }
     ensures unchanged { IfErr result (λ _. service.new ≡ service.old) }
 {
     match resolve(alloc, wire, &service.directory) {
@@ -136,15 +139,11 @@ fn reply_to_wire(
             &message,
             Blank::new(1),
         ),
-        Err(ResolveFault::Unknown) => Ok(Reply::Refused {
+        Err(ResolveError::Refused(refusal)) => Ok(Reply::Refused {
             line: number,
-            refusal: Refusal::Unknown,
+            refusal,
         }),
-        Err(ResolveFault::Known) => Ok(Reply::Refused {
-            line: number,
-            refusal: Refusal::Known,
-        }),
-        Err(ResolveFault::OutOfMemory) => Err(AllocError),
+        Err(ResolveError::OutOfMemory) => Err(AllocError),
     }
 }
 
@@ -157,7 +156,7 @@ fn copy_rides(alloc: Global, rides: &[PlanRide]) -> Result<Rows<PlanRide>, OutOf
     Ok(Rows::build(copy))
 }
 
-/// The reply to a query. It counts no steps.
+/// The reply to a query by number. It counts no steps.
 fn reply_to_query<L: Ledger>(
     alloc: Global,
     service: &mut InformationService,
@@ -190,15 +189,32 @@ fn reply_to_query<L: Ledger>(
     }
 }
 
-/// The reply to a bad line.
-fn reply_to_bad(number: u64, bad: BadLine) -> Reply
-    ensures { result ≡ Reply.Bad number bad }
+/// The reply to a query by names. Who asks it has no use here.
+fn reply_to_wire_query(
+    alloc: Global,
+    service: &mut InformationService,
+    number: u64,
+    query: &WireQuery,
+) -> Result<Reply, OutOfMemory>
+    requires times { IsWireQuery query.now }
+    ensures reply { IfOk result (IsReplyToResolved service.old.network service.old.state
+        service.old.count number (query_resolved service.old.names query.now)) }
+    ensures kept { service.new ≡ service.old }
 {
-    Reply::Bad { line: number, bad }
+    match resolve_query(query, &service.directory) {
+        Ok(asked) => reply_to_query::<Brand>(
+            alloc,
+            service,
+            number,
+            asked.day,
+            &asked.query,
+            Blank::new(1),
+        ),
+        Err(bad) => Ok(Reply::Bad { line: number, bad }),
+    }
 }
 
-/// The reply to what a line says, which may change the timetable and add a name. Who asks a query
-/// has no use here.
+/// The reply to what a line says, which may change the timetable and add a name.
 fn reply_to_said(
     alloc: Global,
     service: &mut InformationService,
@@ -209,16 +225,12 @@ fn reply_to_said(
     requires count { service.old.count < 2 ^ 64 - 1 }
     ensures reply { IfOk result (IsReply service.old.network service.old.names service.old.state
         service.old.count number (Ok said.now)) }
-    ensures next { OnOk result (service.new ≡ next_by service.old (Ok said.now)) }
+    ensures next { OnOk result (service.new ≡ after_said service.old (Ok said.now)) }
     ensures unchanged { IfErr result (λ _. service.new ≡ service.old) }
 {
     match said {
         Line::Message(wire) => reply_to_wire(alloc, service, number, wire),
-        Line::Query {
-            client: _,
-            day,
-            query,
-        } => reply_to_query::<Brand>(alloc, service, number, *day, query, Blank::new(1)),
+        Line::Query(query) => reply_to_wire_query(alloc, service, number, query),
         Line::Flush => Ok(Reply::Flush {
             line: number,
             count: service.timetable.count(),
@@ -230,25 +242,16 @@ impl InformationService {
     /// Answers the line of this number: takes its message if the timetable accepts it, or looks for
     /// the journey that it asks for, and gives the reply. It fails only by memory, and then nothing
     /// has changed.
-    pub fn answer(
-        &mut self,
-        alloc: Global,
-        number: u64,
-        line: &[u8],
-    ) -> Result<Reply, OutOfMemory>
+    pub fn answer(&mut self, alloc: Global, number: u64, line: &[u8]) -> Result<Reply, OutOfMemory>
         requires count { self.old.count < 2 ^ 64 - 1 }
         ensures reply { IfOk result (IsReplyTo self.old number (short line.now)) }
         ensures next { OnOk result (self.new ≡ after_line self.old (short line.now)) }
         ensures unchanged { IfErr result (λ _. self.new ≡ self.old) }
     {
-        match read_line(alloc, line, &self.directory) {
+        match read_line(alloc, line) {
             Ok(said) => reply_to_said(alloc, self, number, &said),
-            Err(Bad::Utf8) => Ok(reply_to_bad(number, BadLine::Utf8)),
-            Err(Bad::Json) => Ok(reply_to_bad(number, BadLine::Json)),
-            Err(Bad::Shape) => Ok(reply_to_bad(number, BadLine::Shape)),
-            Err(Bad::Stop) => Ok(reply_to_bad(number, BadLine::Stop)),
-            Err(Bad::Time) => Ok(reply_to_bad(number, BadLine::Time)),
-            Err(Bad::OutOfMemory) => Err(AllocError),
+            Err(LineError::Bad(bad)) => Ok(Reply::Bad { line: number, bad }),
+            Err(LineError::OutOfMemory) => Err(AllocError),
         }
     }
 }

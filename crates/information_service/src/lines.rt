@@ -12,8 +12,8 @@ ghost use Rattle.information_service.specs.Fronts.{Answered, AppendsFront, Begun
 
 use crate::fault::LinesFault;
 use crate::service::InformationService;
-
-use delay_report::{BadLine, Reply, reply_text};
+use delay_report::{Reply, reply_text};
+use message_reader::BadLine;
 use mt_io::{LineReader, Next, Sink, Source, put};
 use schedule_build::Directory;
 use std::alloc::Global;

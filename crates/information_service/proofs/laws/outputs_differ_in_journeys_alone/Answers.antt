@@ -1,22 +1,31 @@
-use Rattle.std.proofs.Common.{◌≡◌, ◌∙◌, ◌⊎◌, ℕ, ◌++◌, List, [], ◌∷◌, Result, Ok, inl, sym, ap, arith}
+use Rattle.std.proofs.Common.{◌≡◌, ◌∙◌, ◌⊎◌, ℕ, ◌++◌, List, [], ◌∷◌, Result, Ok, Err, inl, sym, ap, refl, arith}
 use Rattle.delay_model.specs.declared.network.Network.{Network}
 use Rattle.delay_model.specs.declared.state.State.{State}
-use Rattle.delay_report.specs.declared.replies.BadLine.{BadLine}
 use Rattle.delay_report.specs.declared.replies.Reply.{Reply}
 use Rattle.delay_report.specs.Replies.{text_of_reply}
+use Rattle.message_reader.specs.declared.bad_line.BadLine.{BadLine}
+use Rattle.message_reader.specs.declared.resolve_queries.AskedQuery.{AskedQuery}
+use Rattle.message_reader.specs.declared.wire.WireQuery.{WireQuery}
 use Rattle.message_reader.specs.declared.wire.Line.{Line as Spoken}
 use Rattle.message_reader.specs.declared.wire.Line.TheVariants.{Query as Asks}
+use Rattle.message_reader.specs.ResolvedQueries.{query_resolved}
 use Rattle.mt_io.specs.Lines.{Line}
 use Rattle.schedule_build.specs.Directory.{Names}
 use Rattle.information_service.specs.Alike.{ShowTwoJourneys, AreAlike}
 use Rattle.information_service.specs.Lines.{said_by, names_after}
-use Rattle.information_service.specs.Output.{IsReply, AreReplies}
+use Rattle.information_service.specs.Output.{IsReply, IsReplyToResolved, AreReplies}
 use Rattle.information_service.proofs.laws.outputs_differ_in_journeys_alone.Goals as goal
 
 -- each of two earliest journeys arrives no later than the other
-texts-alike : (nw : Network) (known : Names) (st : State) (count line : ℕ) (x : Line) (said : Result Spoken BadLine) (r s : Reply) → said_by known x ≡ said → IsReply nw known st count line said r → IsReply nw known st count line said s
+queries-alike : (nw : Network) (known : Names) (st : State) (count line : ℕ) (x : Line) (q : WireQuery) (asked : Result AskedQuery BadLine) (r s : Reply) → said_by x ≡ Ok (Asks q) → query_resolved known q ≡ asked
+    → IsReplyToResolved nw st count line asked r → IsReplyToResolved nw st count line asked s
     → (text_of_reply known r ≡ text_of_reply known s) ⊎ ShowTwoJourneys known x (text_of_reply known r) (text_of_reply known s)
-texts-alike nw known st count line x (Ok (Asks client day q)) r s says i j = grind arith
+queries-alike nw known st count line x q (Ok asked) r s says is i j = grind arith
+queries-alike nw known st count line x q (Err bad) r s says is i j = inl (ap (text_of_reply known) (i ∙ sym j))
+
+texts-alike : (nw : Network) (known : Names) (st : State) (count line : ℕ) (x : Line) (said : Result Spoken BadLine) (r s : Reply) → said_by x ≡ said → IsReply nw known st count line said r → IsReply nw known st count line said s
+    → (text_of_reply known r ≡ text_of_reply known s) ⊎ ShowTwoJourneys known x (text_of_reply known r) (text_of_reply known s)
+texts-alike nw known st count line x (Ok (Asks q)) r s says i j = queries-alike nw known st count line x q (query_resolved known q) r s says refl i j
 texts-alike nw known st count line x said r s says i j = inl (ap (text_of_reply known) (i ∙ sym j))
 
 replies-alike : (nw : Network) (names : Names) (st : State) (before lines : List Line) (a b : List ℕ) → AreReplies nw names st before lines a → AreReplies nw names st before lines b → AreAlike nw names st before lines a b
