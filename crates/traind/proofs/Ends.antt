@@ -70,3 +70,8 @@ on_ok_also (Err f) P Q h p = tt
 pub handed_on : (run : Result (Unit {0}) Fault) (f : Fault) (Q : Fault → Type 0) → IsErrAnd run (λ e. e ≡ f) → Q f → IfErr run Q
 handed_on (Ok u) f Q is q = tt
 handed_on (Err e) f Q is q = subst Q (sym is) q
+
+-- what holds of a run however it ended
+pub however : (run : Result (Unit {0}) Fault) (P : Type 0) → OnOk run P → IfErr run (λ f. P) → P
+however (Ok u) P p q = p
+however (Err f) P p q = q

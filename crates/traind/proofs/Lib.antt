@@ -1,4 +1,3 @@
 pub mod Ends
 pub mod SameTables
-pub mod StatusFacts
-pub mod Tables
+pub pub mod Tables

@@ -5,8 +5,7 @@ use Rattle.command_words.specs.Held.{asked_view}
 use Rattle.information_service.proofs.Ends.{nothing_yet}
 use Rattle.information_service.proofs.Fronts.{output_is_front}
 use Rattle.traind.specs.Runs.{WritesReplies, times_output}
-use Rattle.traind.proofs.Ends.{anywhere, on_ok_also, where_also}
-use Rattle.traind.proofs.StatusFacts.{however}
+use Rattle.traind.proofs.Ends.{anywhere, however, on_ok_also, where_also}
 use Rattle.traind.proofs.Tables.{same-start, output-is, replies-are, front-is}
 use Rattle.traind.proofs.run.run_words.Goals as goal
 
