@@ -1,3 +1,3 @@
 pub mod Ends
 pub mod SameTables
-pub pub mod Tables
+pub mod Tables
