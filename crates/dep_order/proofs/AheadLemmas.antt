@@ -1,5 +1,5 @@
 -- The first departure from a bucket on, and what a walk to it keeps.
-use Rattle.dep_order.proofs.Words.{◌≡◌, ◌≢◌, ◌+◌, ◌-◌, ◌/◌, ◌<◌, ◌≤◌, ℕ, Some, Bool, true, false, sym, ◌∙◌, ap, subst, arith, nat_le, nat_tests, get_or, length, min, Bucket, Departure, Lists, Slot, held, AreKept, IsAhead, IsFirstAt, IsNextIn, IsReached, bucket_count, bucket_of, entries_of, leaves_before, nobody}
+use Rattle.dep_order.proofs.Words.{◌≡◌, ◌≢◌, ◌+◌, ◌-◌, ◌/◌, ◌<◌, ◌≤◌, ℕ, Some, Bool, true, false, sym, ◌∙◌, ap, subst, arith, nat_le, nat_tests, get_or, length, min, Bucket, Departure, Lists, Slot, held, AreKept, IsAhead, IsFirstAt, IsNextIn, IsReached, bucket_count, bucket_of, entries_of, leaves_before, nobody, stored_in}
 use Rattle.std.specs.Ordering.{is_le, nat_cmp}
 use Rattle.dep_order.proofs.OrderLemmas.{before-strict, before-time, bucket-before}
 use Rattle.dep_order.proofs.ReachLemmas.{bucket-empty, first-found, left, left-falls, reach-first, reach-held, reach-next}
@@ -33,7 +33,7 @@ module _ (l : Lists) (k : AreKept l) where
     pub walk-within : n ≢ nobody → n < length l.slots.items
     walk-within some = let f = reach-held leaves_before before-strict by (entries_of l) b passes n r some in within l n f.0 f.1
 
-    pub walk-further : (s : Slot) → n ≢ nobody → s ≡ get_or l.slots.items n s → passes s.departure ≡ false → IsReached leaves_before by (entries_of l) b passes s.after × (left leaves_before (entries_of l) s.after < left leaves_before (entries_of l) n)
+    pub walk-further : (s : Slot) → n ≢ nobody → s ≡ get_or l.slots.items n s → passes (stored_in s) ≡ false → IsReached leaves_before by (entries_of l) b passes s.after × (left leaves_before (entries_of l) s.after < left leaves_before (entries_of l) n)
     walk-further s some at h =
         let f = reach-held leaves_before before-strict by (entries_of l) b passes n r some in
         let x = read l n f.0 s k f.1 at in
@@ -41,7 +41,7 @@ module _ (l : Lists) (k : AreKept l) where
         (reach-next leaves_before before-strict by (entries_of l) b passes n s.after f.0 r f.1 (ap passes (sym x.departure) ∙ h) next, left-falls leaves_before before-strict by (entries_of l) b n s.after f.0 f.1 next)
 
     -- it ends at one that passes, or at the end of the bucket
-    pub walk-passes : (s : Slot) → n ≢ nobody → s ≡ get_or l.slots.items n s → passes s.departure ≡ true → (d : Departure) → held (entries_of l) n ≡ Some d → passes d ≡ true
+    pub walk-passes : (s : Slot) → n ≢ nobody → s ≡ get_or l.slots.items n s → passes (stored_in s) ≡ true → (d : Departure) → held (entries_of l) n ≡ Some d → passes d ≡ true
     walk-passes s some at h d is = ap passes (sym (read l n d s k is at).departure) ∙ h
 
     pub walk-none : n ≡ nobody → (d : Departure) → held (entries_of l) n ≡ Some d → passes d ≡ true
@@ -58,11 +58,11 @@ module _ (l : Lists) (k : AreKept l) where
       }
 
   -- what comes after a departure
-  pub ahead-next : (i : ℕ) (d : Departure) (s : Slot) → held (entries_of l) i ≡ Some d → s ≡ get_or l.slots.items i s → IsAhead by (entries_of l) (by s.departure) (leaves_before d) s.after
+  pub ahead-next : (i : ℕ) (d : Departure) (s : Slot) → held (entries_of l) i ≡ Some d → s ≡ get_or l.slots.items i s → IsAhead by (entries_of l) (by (stored_in s)) (leaves_before d) s.after
   ahead-next i d s is at =
       let x = read l i d s k is at in
       let u : IsNextIn l (by d) (Some d) s.after = x.next in
-      rw x.departure (record {
+      subst (λ e. IsAhead by (entries_of l) (by e) (leaves_before d) s.after) (sym x.departure) (record {
         reached = record { ends = u.ends; mine = λ e h. (u.there e h).0; rest = u.rest };
         passes_is = λ e h. (u.there e h).1;
         low = λ j e h p. let late = before-time d e p in omega arith;

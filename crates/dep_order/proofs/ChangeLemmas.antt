@@ -1,5 +1,5 @@
 -- What stays kept where a departure is put in, taken out or moved.
-use Rattle.dep_order.proofs.Words.{◌≡◌, ◌≢◌, ◌<◌, ℕ, inl, inr, List, Option, None, Some, refl, sym, ◌∙◌, ap, subst, arith, length, set, cases_eq, length-map, length-set, nat_tests, Bool, IsNext, false, get_or, map-set, slice_get, slice_get_within, true, with_item, Departure, Lists, Slot, held, AreKept, AreLinked, HaveDistinctKeys, IsJoined, IsNewKey, IsNextIn, IsPreviousIn, bucket_count, bucket_of, departure_in, entries_of, leaves_after, leaves_before, next_in, previous_in, nobody, is_above, slice_get_read, with_time}
+use Rattle.dep_order.proofs.Words.{◌≡◌, ◌≢◌, ◌<◌, ℕ, inl, inr, List, Option, None, Some, refl, sym, ◌∙◌, ap, subst, arith, length, set, cases_eq, length-map, length-set, nat_tests, Bool, IsNext, false, get_or, key_in, keys_of, map-set, map-set_same, slice_get, slice_get_within, true, with_item, Departure, Lists, Slot, held, AreKept, AreLinked, HaveDistinctKeys, IsJoined, IsNewKey, IsNextIn, IsPreviousIn, bucket_count, bucket_of, departure_in, entries_of, leaves_after, leaves_before, next_in, previous_in, nobody, is_above, slice_get_read, stored_in, with_time}
 use Rattle.dep_order.proofs.LinkLemmas.{IsPut, gap-apart, held-apart, put-linked, stay-linked, take-gap, take-linked}
 use Rattle.dep_order.proofs.OrderLemmas.{after-strict, before-strict}
 use Rattle.dep_order.proofs.SlotLemmas.{get-set_other, get-set_same, read-set}
@@ -161,26 +161,26 @@ module _ (l r : Lists) (s : Slot) (b m before after : ℕ) (j : IsJoined b befor
 pub link-apart : (lt : Departure → Departure → Bool) (by : Departure → ℕ) (es : List (Option Departure)) (b n m : ℕ) (o : Option Departure) → IsNext lt by es b o n → held es m ≡ None → m ≢ nobody → n ≢ m
 link-apart lt by es b n m o x free some own = some (sym own ∙ x.ends (ap (held es) own ∙ free))
 
-free-held : (l : Lists) (m : ℕ) → slice_get (entries_of l) m ≡ Some None → (m < length l.slots.items) × (held (entries_of l) m ≡ None)
+pub free-held : (l : Lists) (m : ℕ) → slice_get (entries_of l) m ≡ Some None → (m < length l.slots.items) × (held (entries_of l) m ≡ None)
 free-held l m free =
     let low = slice_get_within (entries_of l) m None free in
     (omega (arith, length-map l.slots.items departure_in), rw free refl)
 
 -- what is kept once a departure was put in between two
-pub inserted : (l l₂ l₃ : Lists) (b m before after : ℕ) (d : Departure) → AreKept l → slice_get (entries_of l) m ≡ Some None → IsNewKey (entries_of l) d.key → b ≡ bucket_of (bucket_count l) d → IsNextIn l b (Some d) after → IsPreviousIn l b (Some d) before → IsJoined b before m (with_slot l m (record { departure = d; before = before; after = after; there = true })) l₂ → IsJoined b m after l₂ l₃ → AreKept l₃ × (entries_of l₃ ≡ set (entries_of l) m (Some d))
-inserted l l₂ l₃ b m before after d k free new is u g j i =
+pub inserted : (l l₂ l₃ : Lists) (b m before after : ℕ) (d : Departure) (s : Slot) → stored_in s ≡ d → s.there ≡ true → AreKept l → slice_get (entries_of l) m ≡ Some None → IsNewKey (entries_of l) d.key → b ≡ bucket_of (bucket_count l) d → IsNextIn l b (Some d) after → IsPreviousIn l b (Some d) before → IsJoined b before m (with_slot l m s) l₂ → IsJoined b m after l₂ l₃ → AreKept l₃ × (entries_of l₃ ≡ set (entries_of l) m (Some d)) × (keys_of l₃ ≡ set (keys_of l) m d.key)
+inserted l l₂ l₃ b m before after d s own there k free new is u g j i =
     let f = free-held l m free in
     let p = put l m d k f.0 f.1 new in
-    let s : Slot = record { departure = d; before = before; after = after; there = true } in
     let back = link-apart leaves_after (bucket_of (bucket_count l)) (entries_of l) b before m (Some d) g f.1 p.number in
     let on = link-apart leaves_before (bucket_of (bucket_count l)) (entries_of l) b after m (Some d) u f.1 p.number in
-    let entries = inserted-entries l l₂ l₃ s b m before after p.number j i back on in (
+    let entries = inserted-entries l l₂ l₃ s b m before after p.number j i back on ∙ ap (set (entries_of l) m) (rw there (ap Some own)) in (
       kept-put l l₃ b m before after d k (i.buckets ∙ j.buckets) (sym is) p entries u g (inserted-next l l₂ l₃ s b m before after p.number j i back on) (inserted-previous l l₂ l₃ s b m before after p.number j i back on),
       entries,
+      i.keys ∙ j.keys ∙ map-set key_in l.slots.items m s ∙ ap (λ (e : Departure). set (keys_of l) m e.key) own,
     )
 
 -- what is kept once a departure was taken out
-pub removed : (l r : Lists) (s t : Slot) (b m : ℕ) (d : Departure) → AreKept l → held (entries_of l) m ≡ Some d → s ≡ get_or l.slots.items m s → b ≡ bucket_of (bucket_count l) s.departure → IsJoined b s.before s.after l r → m < length r.slots.items → t ≡ get_or r.slots.items m t → AreKept (without_slot r m t) × (entries_of (without_slot r m t) ≡ set (entries_of l) m None)
+pub removed : (l r : Lists) (s t : Slot) (b m : ℕ) (d : Departure) → AreKept l → held (entries_of l) m ≡ Some d → s ≡ get_or l.slots.items m s → b ≡ bucket_of (bucket_count l) (stored_in s) → IsJoined b s.before s.after l r → m < length r.slots.items → t ≡ get_or r.slots.items m t → AreKept (without_slot r m t) × (entries_of (without_slot r m t) ≡ set (entries_of l) m None) × (keys_of (without_slot r m t) ≡ keys_of l)
 removed l r s t b m d k is at own j low there =
     let x = read l m d s k is at in
     let mine : bucket_of (bucket_count l) d ≡ b = ap (bucket_of (bucket_count l)) (sym x.departure) ∙ sym own in
@@ -188,19 +188,24 @@ removed l r s t b m d k is at own j low there =
     let entries = removed-entries l r t b m s.before s.after j low there in (
       kept-take l (without_slot r m t) b m s.before s.after d k j.buckets mine p entries (subst (λ c. IsNextIn l c (Some d) s.after) mine x.next) (subst (λ c. IsPreviousIn l c (Some d) s.before) mine x.previous) (removed-next l r t b m s.before s.after j low there) (removed-previous l r t b m s.before s.after j low there),
       entries,
+      map-set_same key_in r.slots.items m (record t { there = false }) t (ap key_in there) ∙ j.keys,
     )
 
 same-links : (lt : Departure → Departure → Bool) (by : Departure → ℕ) (count : ℕ) (es fs : List (Option Departure)) (next next' : ℕ → ℕ → ℕ) → fs ≡ es → ((c i : ℕ) → next' c i ≡ next c i) → AreLinked lt by count es next → AreLinked lt by count fs next'
 same-links lt by count es fs next next' e same w = rw e (λ c i l of. rw (same c i) (w c i l of))
 
 -- what is kept where a departure stays in its slot
-abbrev pub time_changes_slot : Lists → ℕ → Slot → Departure → Lists
-time_changes_slot l m s e = record l { slots = with_item l.slots m (record s { departure = e }) }
+abbrev pub retimed : Slot → ℕ → Departure
+retimed s time = record (stored_in s) { time = time }
 
-pub time_changes : (l : Lists) (m : ℕ) (s : Slot) (d e : Departure) → AreKept l → held (entries_of l) m ≡ Some d → s ≡ get_or l.slots.items m s → e.key ≡ d.key → bucket_of (bucket_count l) e ≡ bucket_of (bucket_count l) s.departure → is_above leaves_before (held (entries_of l) s.before) e ≡ true → is_above leaves_after (held (entries_of l) s.after) e ≡ true → AreKept (time_changes_slot l m s e) × (entries_of (time_changes_slot l m s e) ≡ set (entries_of l) m (Some e))
-time_changes l m s d e k is at key bucket above below =
-    let r = time_changes_slot l m s e in
-    let t : Slot = record s { departure = e } in
+abbrev pub time_changes_slot : Lists → ℕ → Slot → ℕ → Lists
+time_changes_slot l m s time = record l { slots = with_item l.slots m (record s { time = time }) }
+
+pub time_changes : (l : Lists) (m : ℕ) (s : Slot) (d : Departure) (time : ℕ) → AreKept l → held (entries_of l) m ≡ Some d → s ≡ get_or l.slots.items m s → bucket_of (bucket_count l) (retimed s time) ≡ bucket_of (bucket_count l) (stored_in s) → is_above leaves_before (held (entries_of l) s.before) (retimed s time) ≡ true → is_above leaves_after (held (entries_of l) s.after) (retimed s time) ≡ true → AreKept (time_changes_slot l m s time) × (entries_of (time_changes_slot l m s time) ≡ set (entries_of l) m (Some (retimed s time)))
+time_changes l m s d time k is at bucket above below =
+    let e = retimed s time in
+    let r = time_changes_slot l m s time in
+    let t : Slot = record s { time = time } in
     let es = entries_of l in
     let by = bucket_of (bucket_count l) in
     let b = by d in
@@ -217,7 +222,7 @@ time_changes l m s d e k is at key bucket above below =
       free = p.free;
       is = held-set es m (Some e) many;
       others = λ i n. held-else es m i (Some e) n ∙ sym (held-else es m i None n);
-      new = λ i f h same. p.new i f h (same ∙ key);
+      new = λ i f h same. p.new i f h (same ∙ ap (λ (x : Departure). x.key) x.departure);
     } in
     let some : b < bucket_count l = let some = k.some in omega arith in
     let before = p.others s.before (gap-apart leaves_after after-strict by es b s.before m d x.previous is) in
@@ -237,13 +242,13 @@ time_changes l m s d e k is at key bucket above below =
     )
 
 -- the same where the slot was read twice
-pub time-changes-as : (l : Lists) (m : ℕ) (s t : Slot) (d e : Departure) → AreKept l → held (entries_of l) m ≡ Some d → s ≡ get_or l.slots.items m s → t ≡ get_or l.slots.items m t → e.key ≡ d.key → bucket_of (bucket_count l) e ≡ bucket_of (bucket_count l) s.departure → is_above leaves_before (held (entries_of l) s.before) e ≡ true → is_above leaves_after (held (entries_of l) s.after) e ≡ true → AreKept (time_changes_slot l m t e) × (entries_of (time_changes_slot l m t e) ≡ set (entries_of l) m (Some e))
-time-changes-as l m s t d e k is at also key bucket above below =
+pub time-changes-as : (l : Lists) (m : ℕ) (s t : Slot) (d : Departure) (time : ℕ) (e : Departure) → e ≡ retimed s time → AreKept l → held (entries_of l) m ≡ Some d → s ≡ get_or l.slots.items m s → t ≡ get_or l.slots.items m t → bucket_of (bucket_count l) e ≡ bucket_of (bucket_count l) (stored_in s) → is_above leaves_before (held (entries_of l) s.before) e ≡ true → is_above leaves_after (held (entries_of l) s.after) e ≡ true → AreKept (time_changes_slot l m t time) × (entries_of (time_changes_slot l m t time) ≡ set (entries_of l) m (Some (retimed s time)))
+time-changes-as l m s t d time e own k is at also bucket above below =
     let low = within l m d is in
     let a = slice_get_read l.slots.items (length l.slots.items) m s refl low at in
     let b = slice_get_read l.slots.items (length l.slots.items) m t refl low also in
     let same : s ≡ t = cc in
-    subst (λ x. AreKept (time_changes_slot l m x e) × (entries_of (time_changes_slot l m x e) ≡ set (entries_of l) m (Some e))) same (time_changes l m s d e k is at key bucket above below)
+    subst (λ x. AreKept (time_changes_slot l m x time) × (entries_of (time_changes_slot l m x time) ≡ set (entries_of l) m (Some (retimed s time)))) same (time_changes l m s d time k is at (rw own at bucket) (rw own at above) (rw own at below))
 
 pub with_time-is : (es : List (Option Departure)) (m time : ℕ) (d e : Departure) → held es m ≡ Some d → e ≡ d → with_time m time es ≡ set es m (Some (record e { time = time }))
 with_time-is es m time d e is same = rw (is, same) refl

@@ -1,5 +1,5 @@
 -- The search from both ends of a bucket for the two departures between which another belongs.
-use Rattle.dep_order.proofs.Words.{◌≡◌, ◌≢◌, ◌<◌, ℕ, Some, true, false, sym, ◌∙◌, ap, subst, get_or, length, refl, Bucket, Departure, Lists, Slot, AreKept, IsNewKey, IsNextIn, IsPreviousIn, IsReached, bucket_count, bucket_of, entries_of, leaves_after, leaves_before, nobody}
+use Rattle.dep_order.proofs.Words.{◌≡◌, ◌≢◌, ◌<◌, ℕ, Some, true, false, sym, ◌∙◌, ap, subst, get_or, length, refl, Bucket, Departure, Lists, Slot, AreKept, IsNewKey, IsNextIn, IsPreviousIn, IsReached, bucket_count, bucket_of, entries_of, leaves_after, leaves_before, nobody, stored_in}
 use Rattle.dep_order.proofs.OrderLemmas.{after-strict, before-strict}
 use Rattle.dep_order.proofs.ReachLemmas.{bucket-empty, gap-beside, gap-empty, left, left-falls, reach-first, reach-gap, reach-held, reach-next, reach-some}
 use Rattle.dep_order.proofs.StoredLemmas.{IsBucket, nobody-none, read, within}
@@ -40,7 +40,7 @@ module _ (l : Lists) (b : ℕ) (d : Departure) (k : AreKept l) (new : IsNewKey (
   back-within n r some =
       let f = reach-held leaves_after after-strict (bucket_of (bucket_count l)) (entries_of l) b (leaves_after d) n r some in within l n f.0 f.1
 
-  pub front-gap : (n : ℕ) (s : Slot) → IsFront n → n ≢ nobody → s ≡ get_or l.slots.items n s → leaves_before d s.departure ≡ true → IsNextIn l b (Some d) n × IsPreviousIn l b (Some d) s.before
+  pub front-gap : (n : ℕ) (s : Slot) → IsFront n → n ≢ nobody → s ≡ get_or l.slots.items n s → leaves_before d (stored_in s) ≡ true → IsNextIn l b (Some d) n × IsPreviousIn l b (Some d) s.before
   front-gap n s r some at h =
       let by = bucket_of (bucket_count l) in
       let es = entries_of l in
@@ -49,7 +49,7 @@ module _ (l : Lists) (b : ℕ) (d : Departure) (k : AreKept l) (new : IsNewKey (
       let next = reach-gap leaves_before before-strict by es b d f.0 n r f.1 (ap (leaves_before d) (sym x.departure) ∙ h) in
       (next, gap-beside leaves_before before-strict by es b d f.0 n s.before new next f.1 (subst (λ c. IsPreviousIn l c (Some f.0) s.before) f.2 x.previous))
 
-  pub back-gap : (n : ℕ) (s : Slot) → IsBack n → n ≢ nobody → s ≡ get_or l.slots.items n s → leaves_before s.departure d ≡ true → IsNextIn l b (Some d) s.after × IsPreviousIn l b (Some d) n
+  pub back-gap : (n : ℕ) (s : Slot) → IsBack n → n ≢ nobody → s ≡ get_or l.slots.items n s → leaves_before (stored_in s) d ≡ true → IsNextIn l b (Some d) s.after × IsPreviousIn l b (Some d) n
   back-gap n s r some at h =
       let by = bucket_of (bucket_count l) in
       let es = entries_of l in
@@ -59,7 +59,7 @@ module _ (l : Lists) (b : ℕ) (d : Departure) (k : AreKept l) (new : IsNewKey (
       (gap-beside leaves_after after-strict by es b d f.0 n s.after new last f.1 (subst (λ c. IsNextIn l c (Some f.0) s.after) f.2 x.next), last)
 
   -- where neither has come to the gap, both go on
-  pub both-further : (n p : ℕ) (s t : Slot) → IsFront n → n ≢ nobody → IsBack p → p ≢ nobody → s ≡ get_or l.slots.items n s → t ≡ get_or l.slots.items p t → leaves_before d s.departure ≡ false → leaves_before t.departure d ≡ false → IsFront s.after × (s.after ≢ nobody) × IsBack t.before × (t.before ≢ nobody) × (left leaves_before (entries_of l) s.after < left leaves_before (entries_of l) n)
+  pub both-further : (n p : ℕ) (s t : Slot) → IsFront n → n ≢ nobody → IsBack p → p ≢ nobody → s ≡ get_or l.slots.items n s → t ≡ get_or l.slots.items p t → leaves_before d (stored_in s) ≡ false → leaves_before (stored_in t) d ≡ false → IsFront s.after × (s.after ≢ nobody) × IsBack t.before × (t.before ≢ nobody) × (left leaves_before (entries_of l) s.after < left leaves_before (entries_of l) n)
   both-further n p s t front some back last at there h g =
       let by = bucket_of (bucket_count l) in
       let es = entries_of l in

@@ -1,8 +1,9 @@
 -- Departures that get their places as numbers, one after another.
-use Rattle.dep_order.proofs.Words.{◌≡◌, ℕ, zero, suc, ◌+◌, ◌<◌, List, [], ◌∷◌, Option, None, Some, true, refl, ap, arith, get_or, length, set, slice_get, Departure, departures_of, held, IsNewKey}
+use Rattle.dep_order.proofs.Words.{◌≡◌, ℕ, zero, suc, ◌+◌, ◌<◌, List, [], ◌∷◌, Option, None, Some, true, refl, ap, arith, get_or, length, set, slice_get, Departure, Key, departures_of, held, IsNewKey, map, sym, take, ◌∙◌}
 use Rattle.std.proofs.Math.ListN.{replicate}
 use Rattle.std.specs.List.{AllPairs}
-use Rattle.std.proofs.lemmas.List.{length-replicate}
+use Rattle.std.proofs.Common.{◌++◌}
+use Rattle.std.proofs.lemmas.List.{length-replicate, map_more, take_more_set}
 use Rattle.mt_base.specs.Order.{is_before}
 use Rattle.dep_order.specs.Loaded.{first_loaded}
 use Rattle.dep_order.proofs.BuildLemmas.{none-held}
@@ -50,3 +51,9 @@ none-of (suc n) = none-of n
 pub load-all : (ds : List Departure) (spare : ℕ) → departures_of (first_loaded (length ds) ds spare) ≡ ds
 load-all [] spare = none-of spare
 load-all (d ∷ ds) spare = ap (λ es. d ∷ es) (load-all ds spare)
+
+-- the keys that are kept for them
+pub load-keys : (ks : List Key) (ds : List Departure) (i : ℕ) (d : Departure) → i < length ks → i < length ds → d ≡ get_or ds i d → take i ks ≡ map (λ (d : Departure). d.key) (take i ds) → take (i + 1) (set ks i d.key) ≡ map (λ (d : Departure). d.key) (take (i + 1) ds)
+load-keys ks ds i d l m at e =
+    let key : Departure → Key = λ d. d.key in
+    take_more_set ks i d.key l ∙ ap (λ xs. xs ++ d.key ∷ []) e ∙ ap (λ (x : Departure). map key (take i ds) ++ key x ∷ []) at ∙ sym (map_more key ds i d m)

@@ -1,6 +1,8 @@
 -- Keys in order: where one stands, and what its number is.
-use Rattle.dep_order.proofs.Words.{◌≡◌, ◌≢◌, ℕ, zero, suc, ◌⊎◌, inl, inr, ◌<◌, ◌≤◌, List, [], ◌∷◌, Some, true, false, refl, sym, ◌∙◌, ap, arith, length, slice_get, get_or, cases_eq, cases_lt, slice_get-get_or, slice_get_within, get_or_from_slice_get}
+use Rattle.dep_order.proofs.Words.{◌≡◌, ◌≢◌, ℕ, zero, suc, ◌⊎◌, inl, inr, ◌<◌, ◌≤◌, List, [], ◌∷◌, Some, true, false, refl, sym, ◌∙◌, ap, arith, length, slice_get, get_or, cases_eq, cases_lt, slice_get-get_or, slice_get_within, get_or_from_slice_get, map, take, take-map, length-map, length-take-le, slice_get-map, Slot, key_in}
 use Rattle.std.proofs.Common.{All}
+use Rattle.std.proofs.lemmas.List.{get_or-map, get_or-take}
+use Rattle.std.specs.Option.{option_map}
 use Rattle.std.specs.List.{AllPairs, insert}
 use Rattle.std.specs.List.Sorted.{IsPartitionPoint, IsPartitionedBy}
 use Rattle.std.proofs.lemmas.List.Elements.{All-cons, All-nil}
@@ -106,3 +108,28 @@ module _ {X : Type 0} (key : X → Key) (xs : List X) (k : Key) (up : AllPairs (
 
   pub missed-past : (p : ℕ) → IsPlace p → length xs ≤ p → (y : X) → Has xs y → key y ≢ k
   missed-past p at past = missed p at (λ d l. absurd (omega arith))
+
+no-key : (ss : List Slot) (k : Key) → ((s : Slot) → Has ss s → key_in s ≢ k) → (i : ℕ) → slice_get (map key_in ss) i ≡ Some k → ⊥
+no-key [] k none i h = absurd (cc)
+no-key (s ∷ ss) k none zero h = none s (0, refl) (cc)
+no-key (s ∷ ss) k none (suc i) h = no-key ss k (λ t has. none t (suc has.0, has.1)) i h
+
+-- the keys of the first slots, where they ascend
+module _ (ss : List Slot) (n : ℕ) (k : Key) (within : n ≤ length ss) (up : AllPairs (λ a b. is_before a b ≡ true) (take n (map key_in ss))) where
+  pub slots-ascend : AllPairs (λ s t. is_before (key_in s) (key_in t) ≡ true) (take n ss)
+  slots-ascend i j d l m =
+      let len = length-map (take n ss) key_in in
+      let up = rw (take-map key_in n ss) at up in
+      rw (get_or-map key_in (take n ss) i d (key_in d) (omega arith), get_or-map key_in (take n ss) j d (key_in d) m) at (up i j (key_in d) l (omega arith))
+
+  pub found-key : (p : ℕ) (s : Slot) → p < n → s ≡ get_or ss p s → key_in s ≡ k → slice_get (take n (map key_in ss)) p ≡ Some k
+  found-key p s l at own =
+      let here = at-place key_in (take n ss) k slots-ascend p s (omega (arith, length-take-le n ss within)) (at ∙ sym (get_or-take n ss p s l)) in
+      rw (take-map key_in n ss) (slice_get-map key_in (take n ss) p ∙ ap (option_map key_in) here ∙ ap Some own)
+
+  module _ (p : ℕ) (at : IsPlace key_in (take n ss) k slots-ascend p) where
+    pub other-key : (s : Slot) → p < n → s ≡ get_or ss p s → is_same (key_in s) k ≡ false → (i : ℕ) → slice_get (take n (map key_in ss)) i ≡ Some k → ⊥
+    other-key s l here other = rw (take-map key_in n ss) (no-key (take n ss) k (missed-other key_in (take n ss) k slots-ascend p at s (here ∙ sym (get_or-take n ss p s l)) other))
+
+    pub past-key : n ≤ p → (i : ℕ) → slice_get (take n (map key_in ss)) i ≡ Some k → ⊥
+    past-key past = rw (take-map key_in n ss) (no-key (take n ss) k (missed-past key_in (take n ss) k slots-ascend p at (omega (arith, length-take-le n ss within))))

@@ -1,6 +1,6 @@
 -- What a changed link is in the lists.
 use Rattle.dep_order.proofs.Words.{◌≡◌, ◌≢◌, ◌<◌, ℕ, List, Some, refl, sym, ◌∙◌, ap, arith, inl, inr, length, slice_get, get_or, set, suc, ◌∷◌, []}
-use Rattle.dep_order.proofs.Words.{map-set_same, length-set, get_or-set_same, slice_get-get_or, cases_eq, nat_tests, option_map_or, with_item, nobody, Lists, Slot, IsLinkSet, next_in, previous_in, departure_in}
+use Rattle.dep_order.proofs.Words.{map-set_same, length-set, get_or-set_same, slice_get-get_or, cases_eq, nat_tests, option_map_or, with_item, nobody, Lists, Slot, IsLinkSet, next_in, previous_in, departure_in, key_in}
 
 pub get-set_same : {X : Type 0} (xs : List X) (i : ℕ) (x : X) → i < length xs → slice_get (set xs i x) i ≡ Some x
 get-set_same xs i x l =
@@ -26,6 +26,7 @@ module _ (l : Lists) (b n beside : ℕ) (s : Slot) (some : n ≢ nobody) (within
       let t : Slot = record s { after = beside } in
       record {
         entries = map-set_same departure_in l.slots.items n t s (ap departure_in at);
+        keys = map-set_same key_in l.slots.items n t s (ap key_in at);
         buckets = refl;
         is = grind (arith, nat_tests, some, get-set_same l.slots.items n t within);
         others = λ c i h. grind (arith, nat_tests, get-set_other l.slots.items n i t (λ e. some (sym e ∙ (h e).0)));
@@ -37,6 +38,7 @@ module _ (l : Lists) (b n beside : ℕ) (s : Slot) (some : n ≢ nobody) (within
       let t : Slot = record s { before = beside } in
       record {
         entries = map-set_same departure_in l.slots.items n t s (ap departure_in at);
+        keys = map-set_same key_in l.slots.items n t s (ap key_in at);
         buckets = refl;
         is = grind (arith, nat_tests, some, get-set_same l.slots.items n t within);
         others = λ c i h. grind (arith, nat_tests, get-set_other l.slots.items n i t (λ e. some (sym e ∙ (h e).0)));

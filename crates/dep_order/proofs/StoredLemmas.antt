@@ -1,13 +1,13 @@
 -- What slots and buckets tell of the departures that are stored.
-use Rattle.dep_order.proofs.Words.{◌≡◌, ◌≢◌, ◌<◌, ℕ, zero, suc, inl, inr, List, [], ◌∷◌, Option, Some, None, Bool, true, refl, sym, ◌∙◌, ap, arith, length, map, slice_get, get_or, cases_Bool, nat_tests, length-map, slice_get-get_or, slice_get_past, Departure, Bucket, Lists, Slot, held, AreKept, IsNext, IsNextIn, IsPreviousIn, bucket_count, bucket_of, departure_in, entries_of, next_in, previous_in, nobody}
+use Rattle.dep_order.proofs.Words.{◌≡◌, ◌≢◌, ◌<◌, ℕ, zero, suc, inl, inr, List, [], ◌∷◌, Option, Some, None, Bool, true, refl, sym, ◌∙◌, ap, arith, length, map, slice_get, get_or, cases_Bool, nat_tests, length-map, slice_get-get_or, slice_get_past, Departure, Bucket, Lists, Slot, held, AreKept, IsNext, IsNextIn, IsPreviousIn, bucket_count, bucket_of, departure_in, entries_of, next_in, previous_in, nobody, stored_in}
 use Rattle.std.specs.Option.{IsSome}
 use Rattle.dep_order.proofs.LinkLemmas.{some-or-none}
 
-slot-in : (xs : List Slot) (i : ℕ) (d : Departure) → held (map departure_in xs) i ≡ Some d → (s : Slot) × (slice_get xs i ≡ Some s) × (s.there ≡ true) × (s.departure ≡ d) × (i < length xs)
+slot-in : (xs : List Slot) (i : ℕ) (d : Departure) → held (map departure_in xs) i ≡ Some d → (s : Slot) × (slice_get xs i ≡ Some s) × (s.there ≡ true) × (stored_in s ≡ d) × (i < length xs)
 slot-in [] i d h = absurd (cc)
 slot-in (s ∷ xs) zero d h =
     elim (cases_Bool s.there) [
-      | inl t ↦ (let k = rw t at h in let e : s.departure ≡ d = cc in (s, refl, t, e, omega arith))
+      | inl t ↦ (let k = rw t at h in let e : stored_in s ≡ d = cc in (s, refl, t, e, omega arith))
       | inr f ↦ (let k = rw f at h in absurd (cc))
     ]
 slot-in (s ∷ xs) (suc i) d h = let r = slot-in xs i d h in (r.0, r.1, r.2, r.3, omega arith)
@@ -22,7 +22,7 @@ within l i d h = (slot-in l.slots.items i d h).4
 
 -- what is read of its slot
 pub record IsRead (l : Lists) (i : ℕ) (d : Departure) (s : Slot) : Type 0 where
-  pub departure : s.departure ≡ d
+  pub departure : stored_in s ≡ d
   pub there : s.there ≡ true
   pub next : IsNextIn l (bucket_of (bucket_count l) d) (Some d) s.after
   pub previous : IsPreviousIn l (bucket_of (bucket_count l) d) (Some d) s.before

@@ -11,9 +11,11 @@ use Rattle.mt_base.specs.Order.{key_cmp}
 use Rattle.mt_base.specs.Sorted.{in_order}
 use Rattle.dep_order.specs.declared.departure.Departure.{Departure}
 
--- departures by number: none where no departure has the number
+-- departures by number: none where no departure has the number. A number keeps the key of the
+-- departure that had it last.
 pub record Numbered : Type 0 where
   pub entries : List (Option Departure)
+  pub keys : List Key
 
 -- a departure as its fields
 abbrev pub coded_departure : Coded Departure
@@ -25,8 +27,9 @@ coded_departure =
 
 abbrev pub coded_numbered : Coded Numbered
 coded_numbered =
-    code_by (List (Option Departure)) (coded_list (coded_option coded_departure))
-    (λ n. n.entries) (λ es. record { entries = es }) (λ _. refl)
+    code_by (List (Option Departure) × List Key)
+    (coded× (coded_list (coded_option coded_departure)) (coded_list key_row.coded))
+    (λ n. (n.entries, n.keys)) (λ p. record { entries = p.0; keys = p.1 }) (λ _. refl)
 
 -- the order of departures: by time, and then by key, of which no two are the same
 abbrev pub departure_cmp : Departure → Departure → Ordering

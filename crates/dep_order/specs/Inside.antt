@@ -3,7 +3,7 @@ use Rattle.std.specs.Prelude.{◌≡◌, ℕ, ◌+◌, ◌-◌, Some, length}
 use Rattle.dep_order.specs.declared.departure.Departure.{Departure}
 use Rattle.dep_order.specs.declared.order.DepartureOrder.TheInside.{Inside}
 use Rattle.dep_order.specs.Departing.{departures_in_order, held}
-use Rattle.dep_order.specs.Numbering.{AreNumbers, HasNumber}
+use Rattle.dep_order.specs.Numbering.{AreNumbers, HasNumber, loaded_keys}
 use Rattle.dep_order.specs.Ordered.{Ordered}
 
 abbrev pub seen : Inside → Ordered
@@ -15,9 +15,9 @@ seen a = record {
 -- departures by number go with the numbers of their keys
 pub record IsOrdered (a : Inside) : Type 0 where
   -- what holds of the numbers
-  pub numbers : AreNumbers a.numbers
+  pub numbers : AreNumbers (loaded_keys a.numbered a.numbers) a.numbers
   -- a departure that is there has the number of its key
   pub keys : (i : ℕ) (d : Departure) → held a.numbered.entries i ≡ Some d
-      → HasNumber a.numbers d.key i
+      → HasNumber (loaded_keys a.numbered a.numbers) a.numbers d.key i
   -- there is a slot for each number that was given or can be given
-  pub slots : length a.numbered.entries ≡ length a.numbers.loaded.items + a.numbers.room
+  pub slots : length a.numbered.entries ≡ a.numbers.loaded + a.numbers.room

@@ -3,19 +3,37 @@ use Rattle.std.specs.Prelude.{◌≡◌, ◌≢◌, ℕ, ◌-◌, ◌/◌, ◌<�
 use Rattle.std.specs.Prelude.{Some}
 use Rattle.std.specs.Prelude.{if◌then◌else◌, nat_eq, length, map, slice_get}
 use Rattle.std.specs.Option.{option_map_or}
+use Rattle.mt_base.specs.declared.keys.Key.{Key}
 use Rattle.dep_order.specs.declared.departure.Departure.{Departure}
 use Rattle.dep_order.specs.declared.lists.Bucket.{Bucket}
 use Rattle.dep_order.specs.declared.lists.Lists.{Lists}
-use Rattle.dep_order.specs.declared.lists.Slot.{Slot}
+use Rattle.dep_order.specs.declared.slot.Slot.{Slot}
 use Rattle.dep_order.specs.Departing.{HaveDistinctKeys, leaves_before}
 use Rattle.dep_order.specs.Linked.{AreLinked, IsNext, leaves_after, nobody}
 
+-- the departure that a slot keeps, also once it was taken out
+abbrev pub stored_in : Slot → Departure
+stored_in s = record {
+  time = s.time;
+  key = record { time = s.scheduled; train = s.train; label = s.label; dep = s.dep };
+  stop = s.stop;
+  board = s.board;
+}
+
+-- its key
+abbrev pub key_in : Slot → Key
+key_in s = (stored_in s).key
+
 -- the departure in a slot, if one is there
 abbrev pub departure_in : Slot → Option Departure
-departure_in s = if s.there then Some s.departure else None
+departure_in s = if s.there then Some (stored_in s) else None
 
 abbrev pub entries_of : Lists → List (Option Departure)
 entries_of l = map departure_in l.slots.items
+
+-- the keys that the slots keep, by number
+abbrev pub keys_of : Lists → List Key
+keys_of l = map key_in l.slots.items
 
 -- how many buckets there are
 abbrev pub bucket_count : Lists → ℕ
@@ -63,6 +81,7 @@ pub record AreKept (l : Lists) : Type 0 where
 pub record IsLinkSet (set stays : Lists → ℕ → ℕ → ℕ) (b number beside : ℕ)
     (old new : Lists) : Type 0 where
   pub entries : entries_of new ≡ entries_of old
+  pub keys : keys_of new ≡ keys_of old
   pub buckets : bucket_count new ≡ bucket_count old
   pub is : set new b number ≡ beside
   pub others : (c i : ℕ) → (i ≡ number → (i ≡ nobody) × (c ≢ b)) → set new c i ≡ set old c i
@@ -71,6 +90,7 @@ pub record IsLinkSet (set stays : Lists → ℕ → ℕ → ℕ) (b number besid
 -- the lists before and after two numbers got to follow each other in a bucket
 pub record IsJoined (b before after : ℕ) (old new : Lists) : Type 0 where
   pub entries : entries_of new ≡ entries_of old
+  pub keys : keys_of new ≡ keys_of old
   pub buckets : bucket_count new ≡ bucket_count old
   pub next_is : next_in new b before ≡ after
   pub previous_is : previous_in new b after ≡ before

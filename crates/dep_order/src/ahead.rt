@@ -27,7 +27,7 @@ impl Lists {
         let mut number = self.buckets[bucket].first;
         'walk: while number != NOBODY {
             let slot = &self.slots[number as usize];
-            if time <= slot.departure.time {
+            if time <= slot.time {
                 break;
             }
             number = slot.after;
@@ -45,8 +45,8 @@ impl Lists {
     {
         let slot = &self.slots[number as usize];
         Step {
-            departure: slot.departure,
-            next: self.first_ahead(self.bucket_of(slot.departure.time), slot.after),
+            departure: slot.departure(),
+            next: self.first_ahead(self.bucket_of(slot.time), slot.after),
         }
     }
 

@@ -4,9 +4,11 @@ ghost use Rattle.std.specs.Prelude.{◌≡◌, None, Some, slice_get, slice_set,
 ghost use Rattle.dep_order.specs.Departing.{IsNewKey, held, leaves_before, with_time};
 ghost use Rattle.dep_order.specs.Linked.{is_above, leaves_after, nobody};
 ghost use Rattle.dep_order.specs.Stored.{AreKept, bucket_count, bucket_of, entries_of};
+ghost use Rattle.dep_order.specs.Stored.{keys_of, stored_in};
 
 use crate::departure::Departure;
-use crate::lists::{Lists, NOBODY, Slot};
+use crate::lists::{Lists, NOBODY};
+use crate::slot::Slot;
 use mt_base::numbers::Time;
 
 impl Lists {
@@ -18,15 +20,11 @@ impl Lists {
         ensures kept { AreKept self.new }
         ensures entries { entries_of self.new
             ≡ slice_set (entries_of self.old) number (Some departure) }
+        ensures keys { keys_of self.new ≡ slice_set (keys_of self.old) number departure.key }
     {
         let bucket = self.bucket_of(departure.time);
         let gap = self.gap(bucket, &departure);
-        self.slots[number as usize] = Slot {
-            departure,
-            before: gap.before,
-            after: gap.after,
-            there: true,
-        };
+        self.slots[number as usize] = Slot::new(&departure, gap.before, gap.after);
         self.join(bucket, gap.before, number);
         self.join(bucket, number, gap.after);
     }
@@ -37,9 +35,10 @@ impl Lists {
         requires there { IsSome (held (entries_of self.old) number) }
         ensures kept { AreKept self.new }
         ensures entries { entries_of self.new ≡ slice_set (entries_of self.old) number None }
+        ensures keys { keys_of self.new ≡ keys_of self.old }
     {
         let slot = self.slots[number as usize];
-        let bucket = self.bucket_of(slot.departure.time);
+        let bucket = self.bucket_of(slot.time);
         self.join(bucket, slot.before, slot.after);
         self.slots[number as usize].there = false;
     }
@@ -52,16 +51,17 @@ impl Lists {
         requires there { IsSome (held (entries_of self.old) number) }
         ensures kept { AreKept self.new }
         ensures entries { entries_of self.new ≡ with_time number time (entries_of self.old) }
+        ensures keys { keys_of self.new ≡ keys_of self.old }
     {
         let slot = &self.slots[number as usize];
         let moved = Departure {
             time,
-            key: slot.departure.key,
-            stop: slot.departure.stop,
-            board: slot.departure.board,
+            key: slot.key(),
+            stop: slot.stop,
+            board: slot.board,
         };
         if self.keeps_place(slot, &moved) {
-            self.slots[number as usize].departure = moved;
+            self.slots[number as usize].time = time;
         } else {
             self.remove(number);
             self.insert(number, moved);
@@ -77,13 +77,13 @@ impl Lists {
         requires after { held (entries_of self.now) slot.now.after ≡ None
             → slot.now.after ≡ nobody }
         ensures bucket { result ≡ true → bucket_of (bucket_count self.now) moved.now
-            ≡ bucket_of (bucket_count self.now) slot.now.departure }
+            ≡ bucket_of (bucket_count self.now) (stored_in slot.now) }
         ensures before { result ≡ true
             → is_above leaves_before (held (entries_of self.now) slot.now.before) moved.now ≡ true }
         ensures after { result ≡ true
             → is_above leaves_after (held (entries_of self.now) slot.now.after) moved.now ≡ true }
     {
-        self.bucket_of(moved.time) == self.bucket_of(slot.departure.time)
+        self.bucket_of(moved.time) == self.bucket_of(slot.time)
             && self.comes_after(moved, slot.before)
             && self.comes_before(moved, slot.after)
     }
@@ -98,7 +98,7 @@ impl Lists {
     {
         before == NOBODY
             || self.slots[before as usize]
-                .departure
+                .departure()
                 .leaves_before(departure)
     }
 
@@ -109,6 +109,6 @@ impl Lists {
         requires after { held (entries_of self.now) after ≡ None → after ≡ nobody }
         ensures { result ≡ is_above leaves_after (held (entries_of self.now) after) departure.now }
     {
-        after == NOBODY || departure.leaves_before(&self.slots[after as usize].departure)
+        after == NOBODY || departure.leaves_before(&self.slots[after as usize].departure())
     }
 }

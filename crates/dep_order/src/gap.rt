@@ -28,14 +28,14 @@ impl Lists {
         }
         'search: loop {
             let front = &self.slots[after as usize];
-            if departure.leaves_before(&front.departure) {
+            if departure.leaves_before(&front.departure()) {
                 return Gap {
                     before: front.before,
                     after,
                 };
             }
             let back = &self.slots[before as usize];
-            if back.departure.leaves_before(departure) {
+            if back.departure().leaves_before(departure) {
                 return Gap {
                     before,
                     after: back.after,

@@ -11,6 +11,8 @@ mod numbered;
 mod numbers;
 pub mod order;
 pub mod scan;
+mod search;
+mod slot;
 
 pub use departure::Departure;
 pub use order::DepartureOrder;

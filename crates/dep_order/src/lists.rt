@@ -3,12 +3,10 @@
 ghost use Rattle.std.specs.Prelude.{◌≡◌, ◌<◌, ◌≤◌, ◌^◌, IfOk, IsSome, None, false, length};
 ghost use Rattle.std.specs.Prelude.{replicate, true};
 ghost use Rattle.dep_order.specs.Departing.{held};
-ghost use Rattle.dep_order.specs.Stored.{AreKept, entries_of};
+ghost use Rattle.dep_order.specs.Stored.{AreKept, entries_of, keys_of};
 
-use crate::departure::Departure;
-use mt_base::keys::Key;
+use crate::slot::Slot;
 use mt_base::memory::OutOfMemory;
-use mt_base::numbers::{Label, StopNo, Time, TrainNo};
 use std::alloc::Global;
 
 /// What stands for no departure in a link.
@@ -16,18 +14,6 @@ pub(crate) const NOBODY: u32 = u32::MAX;
 
 /// How many seconds a bucket is for.
 pub(crate) const BUCKET_SECONDS: u32 = 8;
-
-/// What is kept for a number: the departure, if one has the number, and which stand beside it.
-#[derive(Clone, Copy)]
-pub(crate) struct Slot {
-    pub(crate) departure: Departure,
-    /// The number of the one before it in its bucket.
-    pub(crate) before: u32,
-    /// The number of the one after it in its bucket.
-    pub(crate) after: u32,
-    /// Whether a departure has the number.
-    pub(crate) there: bool,
-}
 
 /// The numbers of the first and the last departure of a bucket.
 #[derive(Clone, Copy)]
@@ -58,6 +44,7 @@ impl Lists {
         requires { room ≤ 2 ^ 22 }
         ensures kept { IfOk result (λ lists. AreKept lists) }
         ensures entries { IfOk result (λ lists. entries_of lists ≡ replicate room None) }
+        ensures keys { IfOk result (λ lists. length (keys_of lists) ≡ room) }
     {
         let buckets = (latest / BUCKET_SECONDS) as usize + 1;
         let bucket = Bucket {
@@ -65,7 +52,7 @@ impl Lists {
             last: NOBODY,
         };
         Ok(Lists {
-            slots: vec![in alloc; free_slot(); room as usize]?,
+            slots: vec![in alloc; Slot::free(); room as usize]?,
             buckets: vec![in alloc; bucket; buckets]?,
         })
     }
@@ -74,6 +61,7 @@ impl Lists {
     pub(crate) fn copy(&self, alloc: Global) -> Result<Lists, OutOfMemory>
         ensures kept { AreKept self.now → IfOk result (λ copy. AreKept copy) }
         ensures entries { IfOk result (λ copy. entries_of copy ≡ entries_of self.now) }
+        ensures keys { IfOk result (λ copy. keys_of copy ≡ keys_of self.now) }
     {
         Ok(Lists {
             slots: Vec::from_slice(alloc, &self.slots)?,
@@ -89,28 +77,5 @@ impl Lists {
         ensures no { result ≡ false → held (entries_of self.now) number ≡ None }
     {
         self.slots[number as usize].there
-    }
-}
-
-/// A slot for a number that no departure has.
-fn free_slot() -> Slot
-    ensures { result.there ≡ false }
-{
-    let time = Time::new(0);
-    Slot {
-        departure: Departure {
-            time,
-            key: Key {
-                time,
-                train: TrainNo::new(0),
-                label: Label::new(0),
-                dep: true,
-            },
-            stop: StopNo::new(0),
-            board: false,
-        },
-        before: NOBODY,
-        after: NOBODY,
-        there: false,
     }
 }

@@ -1,7 +1,10 @@
 //! Departures by number.
 
-ghost use Rattle.std.specs.Prelude.{◌≡◌, ◌≤◌, ◌^◌, IfOk, IsSome, None, filter, Some, nat_le};
-ghost use Rattle.std.specs.Prelude.{◌<◌, false, length, replicate, slice_get, slice_set, true};
+ghost use Rattle.std.specs.Prelude.{◌≡◌, ℕ, ◌<◌, ◌≤◌, ◌^◌, IfNone, IfOk, IfSome, IsSome, None, Some};
+ghost use Rattle.std.specs.Prelude.{false, filter, length, nat_le, replicate, slice_get, slice_set};
+ghost use Rattle.std.specs.Prelude.{take, true};
+ghost use Rattle.std.specs.List.{AllPairs};
+ghost use Rattle.mt_base.specs.Order.{is_before};
 ghost use Rattle.dep_order.specs.Departing.{HaveDistinctKeys, IsFirst, IsNewKey, held};
 ghost use Rattle.dep_order.specs.Departing.{departures_in_order, leaves_before, with_time};
 
@@ -9,13 +12,15 @@ use crate::ahead::Step;
 use crate::departure::Departure;
 use crate::lists::Lists;
 use crate::scan::Departures;
+use mt_base::keys::Key;
 use mt_base::memory::OutOfMemory;
 use mt_base::numbers::Time;
 use std::alloc::Global;
 use std::marker::Model;
 
 /// Departures by number, in the order of their times and then of their keys, which all differ. It
-/// is seen as the list, by number, of the departures that are there.
+/// is seen as the list, by number, of the departures that are there, and that of the keys of those
+/// that had the number last.
 #[derive(Drop)]
 pub(crate) struct NumberedDepartures {
     lists: Lists,
@@ -45,7 +50,8 @@ impl NumberedDepartures {
         latest: u32,
     ) -> Result<NumberedDepartures, OutOfMemory>
         requires { room ≤ 2 ^ 22 }
-        ensures { IfOk result (λ order. order.entries ≡ replicate room None) }
+        ensures entries { IfOk result (λ order. order.entries ≡ replicate room None) }
+        ensures keys { IfOk result (λ order. length order.keys ≡ room) }
     {
         Ok(NumberedDepartures {
             lists: Lists::empty(alloc, room, latest)?,
@@ -71,11 +77,25 @@ impl NumberedDepartures {
         self.lists.has(number)
     }
 
+    /// The number of a key among the first so many, which ascend. A number keeps the key of the
+    /// departure that had it last.
+    #[inline]
+    pub(crate) fn find(&self, count: u32, key: &Key) -> Option<u32>
+        requires within { count ≤ length self.now.keys }
+        requires ascends { AllPairs (λ a b. is_before a b ≡ true) (take count self.now.keys) }
+        ensures some { IfSome result (λ n. slice_get (take count self.now.keys) n ≡ Some key.now) }
+        ensures none { IfNone result ((n : ℕ) → slice_get (take count self.now.keys) n
+            ≡ Some key.now → ⊥) }
+    {
+        self.lists.find(count, key)
+    }
+
     /// Gives a departure a number that no departure has. It takes no memory.
     pub(crate) fn put(&mut self, number: u32, departure: Departure)
         requires free { slice_get self.old.entries number ≡ Some None }
         requires new_key { IsNewKey self.old.entries departure.key }
-        ensures { self.new.entries ≡ slice_set self.old.entries number (Some departure) }
+        ensures entries { self.new.entries ≡ slice_set self.old.entries number (Some departure) }
+        ensures keys { self.new.keys ≡ slice_set self.old.keys number departure.key }
     {
         self.lists.insert(number, departure);
     }
@@ -83,7 +103,8 @@ impl NumberedDepartures {
     /// Takes out the departure that has a number.
     pub(crate) fn take(&mut self, number: u32)
         requires { IsSome (held self.old.entries number) }
-        ensures { self.new.entries ≡ slice_set self.old.entries number None }
+        ensures entries { self.new.entries ≡ slice_set self.old.entries number None }
+        ensures keys { self.new.keys ≡ self.old.keys }
     {
         self.lists.remove(number);
     }
@@ -93,7 +114,8 @@ impl NumberedDepartures {
     #[inline]
     pub(crate) fn move_to(&mut self, number: u32, time: Time)
         requires { IsSome (held self.old.entries number) }
-        ensures { self.new.entries ≡ with_time number time self.old.entries }
+        ensures entries { self.new.entries ≡ with_time number time self.old.entries }
+        ensures keys { self.new.keys ≡ self.old.keys }
     {
         self.lists.retime(number, time);
     }

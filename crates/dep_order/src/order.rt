@@ -1,12 +1,13 @@
 //! Departures in the order in which they take place, each found by its key.
 
 ghost use Rattle.std.specs.Prelude.{◌≡◌, ◌≢◌, ℕ, ◌+◌, ◌<◌, ◌≤◌, ◌^◌, All, IfNone, IfOk};
-ghost use Rattle.std.specs.Prelude.{IfSome, IsSome, None, filter, length, nat_le, not, true};
+ghost use Rattle.std.specs.Prelude.{IfSome, IsSome, None, filter, length, map, nat_le, not, take};
+ghost use Rattle.std.specs.Prelude.{true};
 ghost use Rattle.std.specs.List.{AllPairs, list_any};
 ghost use Rattle.mt_base.specs.Order.{is_before, is_same};
 ghost use Rattle.dep_order.specs.Departing.{held, leaves_before};
 ghost use Rattle.dep_order.specs.Loaded.{first_loaded};
-ghost use Rattle.dep_order.specs.Numbering.{AreNumbers, HasNumber};
+ghost use Rattle.dep_order.specs.Numbering.{AreNumbers, HasNumber, loaded_keys};
 ghost use Rattle.dep_order.specs.Ordered.{moved};
 ghost use Rattle.mt_base.specs.Sorted.{in_order, placed};
 
@@ -59,7 +60,7 @@ impl DepartureOrder {
     {
         Ok(DepartureOrder {
             numbered: numbered(alloc, departures, spare)?,
-            numbers: Numbers::build(alloc, departures, spare)?,
+            numbers: Numbers::build(alloc, departures.len() as u32, spare)?,
         })
     }
 
@@ -81,7 +82,7 @@ impl DepartureOrder {
             ≡ placed leaves_before departure.now self.old.departures }
         ensures room { self.old.spare ≤ self.new.spare + 1 }
     {
-        let number = self.numbers.number_of(&departure.key);
+        let number = self.numbers.number_of(&self.numbered, &departure.key);
         self.numbered.put(number, *departure);
     }
 
@@ -133,15 +134,16 @@ impl DepartureOrder {
 /// The number of the departure that has a key, if there is one.
 #[inline]
 fn number_there(numbered: &NumberedDepartures, numbers: &Numbers, key: &Key) -> Option<u32>
-    requires numbers { AreNumbers numbers.now }
-    requires slots { length numbered.now.entries
-        ≡ length numbers.now.loaded.items + numbers.now.room }
-    ensures some { IfSome result (λ n. HasNumber numbers.now key.now n) }
+    requires numbers { AreNumbers (loaded_keys numbered.now numbers.now) numbers.now }
+    requires slots { length numbered.now.entries ≡ numbers.now.loaded + numbers.now.room }
+    ensures some { IfSome result (λ n. HasNumber (loaded_keys numbered.now numbers.now) numbers.now
+        key.now n) }
     ensures there { IfSome result (λ n. IsSome (held numbered.now.entries n)) }
-    ensures none { IfNone result ((n : ℕ) → HasNumber numbers.now key.now n
+    ensures none { IfNone result ((n : ℕ)
+        → HasNumber (loaded_keys numbered.now numbers.now) numbers.now key.now n
         → held numbered.now.entries n ≡ None) }
 {
-    let number = numbers.find(key)?;
+    let number = numbers.find(numbered, key)?;
     if numbered.has(number) {
         Some(number)
     } else {
@@ -157,8 +159,10 @@ fn numbered(
 ) -> Result<NumberedDepartures, OutOfMemory>
     requires ascends { AllPairs (λ a b. is_before a.key b.key ≡ true) departures.now }
     requires few { length departures.now + spare ≤ 2 ^ 22 }
-    ensures { IfOk result (λ all. all.entries
+    ensures entries { IfOk result (λ all. all.entries
         ≡ first_loaded (length departures.now) departures.now spare) }
+    ensures keys { IfOk result (λ all. take (length departures.now) all.keys
+        ≡ map (λ d. d.key) departures.now) }
 {
     let room = departures.len() as u32 + spare;
     let mut all = NumberedDepartures::build(alloc, room, latest(departures))?;

@@ -3,8 +3,9 @@
 #![tactic(auto)]
 
 mod settling;
-mod successors;
+pub mod successors;
 pub mod time_changes;
 
 pub use settling::settle;
+pub use successors::mark_successors;
 pub use time_changes::TimeChange;

@@ -15,8 +15,9 @@ use mt_base::keys::Node;
 use mt_base::numbers::Time;
 use rank_order::Marks;
 
-/// Marks the events whose times may change where an event gets another time.
-pub(crate) fn mark_successors(graph: &Graph, n: &Node, was: Time, is: Time, marks: &mut Marks)
+/// Marks the events whose times may change where an event gets the time `is` in place of `was`. It
+/// takes no memory.
+pub fn mark_successors(graph: &Graph, n: &Node, was: Time, is: Time, marks: &mut Marks)
     requires live { IsTrue (is_live graph.now.state n.now) }
     requires ends { All (λ e. Contains (live_keys (events graph.now.state)) e.to)
         (edges_from graph.now n.now) }

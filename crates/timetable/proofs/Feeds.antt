@@ -32,6 +32,11 @@ filter-swap : {X : Type 0} (p q : X → Bool) (xs : List X) → filter p (filter
 filter-swap p q [] = refl
 filter-swap p q (x ∷ xs) = grind (arith, filter-swap p q xs)
 
+-- one that passes both tests is one of those that pass the one, and passes the other
+pub any-filter : {X : Type 0} (p m : X → Bool) (xs : List X) → list_any (λ x. p x && m x) xs ≡ list_any p (filter m xs)
+any-filter p m [] = refl
+any-filter p m (x ∷ xs) = grind (arith, any-filter p m xs)
+
 any-either : {X : Type 0} (p a b : X → Bool) (xs : List X) → list_any (λ x. p x && (a x || b x)) xs ≡ (list_any a (filter p xs) || list_any b (filter p xs))
 any-either p a b [] = refl
 any-either p a b (x ∷ xs) = grind (arith, any-either p a b xs)

@@ -5,6 +5,7 @@ use Rattle.timetable.proofs.Words.{Contains-there, None, Option, Some, event_nam
 use Rattle.dep_order.specs.Ordered.{Ordered}
 use Rattle.propagate.proofs.{Ordered.keyed-live}
 use Rattle.timetable.proofs.Changed.{filter-same}
+use Rattle.timetable.proofs.Moved.{filter-all}
 
 -- a part of them is taken out: with the events that are left those stay that are to stay
 pub record AreTakenTo (st : State) (gone : List Node) (before : Ordered) (left : List Node) (now : Ordered) : Type 0 where
@@ -42,10 +43,6 @@ filter-both : (n : Node) (ns : List Node) (ds : List Departure) → filter (is_o
 filter-both n ns [] = refl
 filter-both n ns (d ∷ ds) = grind (arith, filter-both n ns ds)
 
-filter-true : {X : Type 0} (p : X → Bool) (xs : List X) → All (λ x. p x ≡ true) xs → filter p xs ≡ xs
-filter-true p [] h = refl
-filter-true p (x ∷ xs) h = rw (h 0 x (omega arith), filter-true p xs (λ i d l. h (suc i) d (omega arith))) refl
-
 module _ (st : State) (trains : All IsTrain st.trains) (gone : List Node) (before now : Ordered) (n : Node) (left : List Node) (h : AreTakenTo st gone before (n ∷ left) now) where
   -- a departure of an event's name has its key
   same-by-name : (v : Event) → Contains (events st) v → node_of v.key ≡ n → (d : Departure) → Contains now.departures d → not (is_same_node (node_of d.key) n) ≡ is_other_than v.key d
@@ -82,7 +79,7 @@ module _ (st : State) (trains : All IsTrain st.trains) (gone : List Node) (befor
   pub one-arrives : n.dep ≡ false → AreTakenTo st gone before left now
   one-arrives arrives =
       let ds = now.departures in
-      let all = filter-true (λ (d : Departure). not (is_same_node (node_of d.key) n)) ds (λ i e l.
+      let all = filter-all (λ (d : Departure). not (is_same_node (node_of d.key) n)) ds (λ i e l.
       let live = h.live i e l in
       ap not (false_from_ne_true _ (λ same. let name = ap (λ (m : Node). m.dep) (same_node-is (node_of (get_or ds i e).key) n same) in let departs = live.1 in cc))) in
       record {
@@ -93,4 +90,4 @@ module _ (st : State) (trains : All IsTrain st.trains) (gone : List Node) (befor
       }
 
 pub none-taken : (ds : List Departure) → filter (is_of_none []) ds ≡ ds
-none-taken ds = filter-true (is_of_none []) ds (λ i d l. refl)
+none-taken ds = filter-all (is_of_none []) ds (λ i d l. refl)

@@ -35,16 +35,6 @@ pub(crate) fn empty_lists(alloc: Global, room: u32) -> Result<Lists, OutOfMemory
     })
 }
 
-/// A copy of these items, with room for so many in all.
-fn copy_with_room<T: Copy>(alloc: Global, items: &[T], room: usize) -> Result<Vec<T>, OutOfMemory>
-    ensures items { IfOk result (λ all. all.items ≡ items.now) }
-    ensures room { IfOk result (λ all. room ≤ vec_capacity all) }
-{
-    let mut all = Vec::with_capacity(alloc, room)?;
-    all.extend_from_slice(items)?;
-    Ok(all)
-}
-
 /// The same lists and marks once more, with the same room, but for the list of events that get
 /// other times: nothing is in it.
 pub(crate) fn copy_lists(
@@ -61,10 +51,11 @@ pub(crate) fn copy_lists(
         vec_capacity time_changes.now ≤ vec_capacity lists.time_changes) }
 {
     let marks = marks.copy(alloc)?;
-    let changed = copy_with_room(alloc, changed, changed.capacity())?;
+    let mut all = Vec::with_capacity(alloc, changed.capacity())?;
+    all.extend_from_slice(changed)?;
     let time_changes = Vec::with_capacity(alloc, time_changes.capacity())?;
     Ok(Lists {
-        changed,
+        changed: all,
         marks,
         time_changes,
     })

@@ -23,6 +23,7 @@ use delay_model::state::Event;
 use edge_rules::Graph;
 use mt_base::keys::{Key, Node};
 use mt_base::numbers::{Time, TrainNo};
+use propagate::mark_successors;
 use rank_order::Marks;
 use train_nodes::kinds::{Kind, Shape, Value, ValueKind};
 use train_nodes::{Msg, Trains};
@@ -97,21 +98,6 @@ fn mark_fed(graph: &Graph, list: &[Node], marks: &mut Marks)
     }
 }
 
-/// Marks each event whose time this one may change when it gets its first.
-fn mark_fed_first(graph: &Graph, n: &Node, marks: &mut Marks)
-    requires live { IsTrue (is_live graph.now.state n.now) }
-    requires fit { AreMarksOf (events graph.now.state) marks.old }
-    ensures fit { AreMarksOf (events graph.now.state) marks.new }
-    ensures marked { (q : AKey) → Contains (live_keys (events graph.now.state)) q
-        → is_marked marks.new q ≡ (is_marked marks.old q || is_fed_from_new graph.now q n.now) }
-    ensures room { marks.new.room ≡ marks.old.room }
-{
-    let no_time = Time::new(33_554_431);
-    for edge in graph.changing(*n, no_time, no_time) {
-        mark(marks, &edge.to);
-    }
-}
-
 /// Marks an event that a message made, and each event whose time it may change.
 fn mark_one_made(graph: &Graph, k: &Key, marks: &mut Marks)
     requires live { Contains (live_keys (events graph.now.state)) k.now }
@@ -122,8 +108,9 @@ fn mark_one_made(graph: &Graph, k: &Key, marks: &mut Marks)
         || (is_same k.now q || is_fed_from_new graph.now q (node_of k.now))) }
     ensures room { marks.new.room ≡ marks.old.room }
 {
+    let no_time = Time::new(33_554_431);
     mark(marks, k);
-    mark_fed_first(graph, &k.node(), marks);
+    mark_successors(graph, &k.node(), no_time, no_time, marks);
 }
 
 /// Whether an event is live, and its label is one of those from `first` on.

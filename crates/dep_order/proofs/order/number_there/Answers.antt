@@ -1,5 +1,5 @@
 use Rattle.std.proofs.Common.{IfNone}
-use Rattle.dep_order.proofs.Words.{◌≡◌, ℕ, None, Some, Option, arith, held, HasNumber}
+use Rattle.dep_order.proofs.Words.{◌≡◌, ℕ, None, Some, Option, arith, held, HasNumber, loaded_keys}
 use Rattle.dep_order.proofs.AddLemmas.{number-below}
 use Rattle.dep_order.proofs.order.number_there.Goals as goal
 
@@ -9,10 +9,10 @@ if-none P (Some n) p = tt
 
 pub returns-in_err-number-clause-none : goal.returns-in_err-number-clause-none
 returns-in_err-number-clause-none c =
-    if-none ((n : ℕ) → HasNumber c.args.numbers.now c.args.key.now n → held c.args.numbered.now.entries n ≡ None) c.from_residual.result (λ n has. absurd (c.in_err-number.ensures.none n has))
+    if-none ((n : ℕ) → HasNumber (loaded_keys c.args.numbered.now c.args.numbers.now) c.args.numbers.now c.args.key.now n → held c.args.numbered.now.entries n ≡ None) c.from_residual.result (λ n has. absurd (c.in_err-number.ensures.none n has))
 
 pub has-requires : goal.has-requires
-has-requires c = omega (arith, number-below c.args.numbers.now c.requires.numbers c.args.key.now c.in_ok-number.number c.in_ok-number.ensures.some, c.requires.slots, c.requires.numbers.fits)
+has-requires c = omega (arith, number-below (loaded_keys c.args.numbered.now c.args.numbers.now) c.args.numbers.now c.requires.numbers c.args.key.now c.in_ok-number.number c.in_ok-number.ensures.some, c.requires.slots, c.requires.numbers.fits)
 
 pub returns-else-has-clause-none : goal.returns-else-has-clause-none
 returns-else-has-clause-none c = λ n has.

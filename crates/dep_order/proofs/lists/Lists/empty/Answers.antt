@@ -1,15 +1,18 @@
 use Rattle.std.proofs.Common.{refl, ◌∙◌, ap, arith, map}
-use Rattle.dep_order.proofs.Words.{Bucket, departure_in, nobody}
+use Rattle.dep_order.proofs.Words.{Bucket, departure_in, key_in, length-map, nobody}
+use Rattle.std.proofs.Math.ListN.{replicate}
+use Rattle.std.proofs.lemmas.List.{length-replicate}
 use Rattle.dep_order.proofs.BuildLemmas.{empty-entries, kept-empty}
 use Rattle.dep_order.proofs.lists.Lists.empty.Goals as goal
 
-pub returns-clause-kept : goal.returns-clause-kept
-returns-clause-kept c =
+pub returns : goal.returns
+returns c =
     let slots = c.in_ok-vec.ensures.items_if_clones_equal (λ y h. h) in
     let buckets = c.in_ok-vec-2.ensures.items_if_clones_equal (λ y h. h) in
     let a : Bucket = record { first = nobody; last = nobody } in
-    kept-empty _ c.args.room _ c.free_slot.result a c.requires (omega arith) slots buckets c.free_slot.ensures refl refl
-
-pub returns-clause-entries : goal.returns-clause-entries
-returns-clause-entries c =
-    ap (map departure_in) (c.in_ok-vec.ensures.items_if_clones_equal (λ y h. h)) ∙ empty-entries c.args.room c.free_slot.result c.free_slot.ensures
+    let s = c.free.result in
+    record {
+      kept = kept-empty _ c.args.room _ s a c.requires (omega arith) slots buckets c.free.ensures refl refl;
+      entries = ap (map departure_in) slots ∙ empty-entries c.args.room s c.free.ensures;
+      keys = rw slots (length-map (replicate c.args.room s) key_in ∙ length-replicate c.args.room s);
+    }

@@ -20,18 +20,18 @@ index-slot-requires c =
 pub walk-smaller : goal.walk-smaller
 walk-smaller c =
     let s = c.index-slot.result.now in
-    (walk-further c.args.self.now c.requires c.bucket_of-bucket.result (λ d. nat_le c.args.time d.time) c.walk.number c.walk.invariant s c.walk-test.true c.index-slot.ensures (late-is c.args.time s.departure.time c.le.result _ c.le.ensures c.if-le.false)).1
+    (walk-further c.args.self.now c.requires c.bucket_of-bucket.result (λ d. nat_le c.args.time d.time) c.walk.number c.walk.invariant s c.walk-test.true c.index-slot.ensures (late-is c.args.time s.time c.le.result _ c.le.ensures c.if-le.false)).1
 
 pub walk-preserved : goal.walk-preserved
 walk-preserved c =
     let s = c.index-slot.result.now in
-    (walk-further c.args.self.now c.requires c.bucket_of-bucket.result (λ d. nat_le c.args.time d.time) c.walk.number c.walk.invariant s c.walk-test.true c.index-slot.ensures (late-is c.args.time s.departure.time c.le.result _ c.le.ensures c.if-le.false)).0
+    (walk-further c.args.self.now c.requires c.bucket_of-bucket.result (λ d. nat_le c.args.time d.time) c.walk.number c.walk.invariant s c.walk-test.true c.index-slot.ensures (late-is c.args.time s.time c.le.result _ c.le.ensures c.if-le.false)).0
 
 pub returns : goal.returns
 returns c =
     let l = c.args.self.now in
     let passes : (d : Departure) → held (entries_of l) c.walk.number ≡ Some d → nat_le c.args.time d.time ≡ true = elim c.walk-test.branch [
-      | then-walk-test+then-le w ↦ (let s = w.index-slot.result.now in walk-passes l c.requires c.bucket_of-bucket.result (λ d. nat_le c.args.time d.time) c.walk.number c.walk.invariant s w.walk-test.true w.index-slot.ensures (late-is c.args.time s.departure.time w.le.result _ w.le.ensures w.if-le.true))
+      | then-walk-test+then-le w ↦ (let s = w.index-slot.result.now in walk-passes l c.requires c.bucket_of-bucket.result (λ d. nat_le c.args.time d.time) c.walk.number c.walk.invariant s w.walk-test.true w.index-slot.ensures (late-is c.args.time s.time w.le.result _ w.le.ensures w.if-le.true))
       | else-walk-test w ↦ walk-none l c.requires c.bucket_of-bucket.result (λ d. nat_le c.args.time d.time) c.walk.number c.walk.invariant w.walk-test.false
     ] in
     c.first_ahead.ensures (λ d. nat_le c.args.time d.time) (ahead-time l c.requires c.args.time c.bucket_of-bucket.result c.walk.number c.bucket_of-bucket.ensures.is c.walk.invariant passes)

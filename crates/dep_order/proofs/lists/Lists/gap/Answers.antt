@@ -30,21 +30,21 @@ index-back-requires c =
 
 pub returns-then-leaves_before : goal.returns-then-leaves_before
 returns-then-leaves_before c =
-    let x = front-gap c.args.self.now c.args.bucket c.args.departure.now c.requires.kept c.requires.new_key c.search.after c.index-front.result.now c.search.invariant.front c.search.invariant.front_is c.index-front.ensures (sym c.leaves_before.ensures ∙ c.if-leaves_before.true) in
+    let x = front-gap c.args.self.now c.args.bucket c.args.departure.now c.requires.kept c.requires.new_key c.search.after c.index-front.result.now c.search.invariant.front c.search.invariant.front_is c.index-front.ensures (sym (rw c.departure.ensures at c.leaves_before.ensures) ∙ c.if-leaves_before.true) in
     record { after = x.0; before = x.1 }
 
 pub returns-then-leaves_before-2 : goal.returns-then-leaves_before-2
 returns-then-leaves_before-2 c =
-    let x = back-gap c.args.self.now c.args.bucket c.args.departure.now c.requires.kept c.requires.new_key c.search.before c.index-back.result.now c.search.invariant.back c.search.invariant.back_is c.index-back.ensures (sym c.leaves_before-in-search.ensures ∙ c.if-leaves_before-2.true) in
+    let x = back-gap c.args.self.now c.args.bucket c.args.departure.now c.requires.kept c.requires.new_key c.search.before c.index-back.result.now c.search.invariant.back c.search.invariant.back_is c.index-back.ensures (sym (rw c.departure-in-search.ensures at c.leaves_before-in-search.ensures) ∙ c.if-leaves_before-2.true) in
     record { after = x.0; before = x.1 }
 
 pub search-preserved : goal.search-preserved
 search-preserved c =
     let i = c.search.invariant in
-    let all = both-further c.args.self.now c.args.bucket c.args.departure.now c.requires.kept c.requires.new_key c.search.after c.search.before c.index-front.result.now c.index-back.result.now i.front i.front_is i.back i.back_is c.index-front.ensures c.index-back.ensures (sym c.leaves_before.ensures ∙ c.if-leaves_before.false) (sym c.leaves_before-in-search.ensures ∙ c.if-leaves_before-2.false) in
+    let all = both-further c.args.self.now c.args.bucket c.args.departure.now c.requires.kept c.requires.new_key c.search.after c.search.before c.index-front.result.now c.index-back.result.now i.front i.front_is i.back i.back_is c.index-front.ensures c.index-back.ensures (sym (rw c.departure.ensures at c.leaves_before.ensures) ∙ c.if-leaves_before.false) (sym (rw c.departure-in-search.ensures at c.leaves_before-in-search.ensures) ∙ c.if-leaves_before-2.false) in
     record { front = all.0; front_is = all.1; back = all.2; back_is = all.3 }
 
 pub search-smaller : goal.search-smaller
 search-smaller c =
     let i = c.search.invariant in
-    (both-further c.args.self.now c.args.bucket c.args.departure.now c.requires.kept c.requires.new_key c.search.after c.search.before c.index-front.result.now c.index-back.result.now i.front i.front_is i.back i.back_is c.index-front.ensures c.index-back.ensures (sym c.leaves_before.ensures ∙ c.if-leaves_before.false) (sym c.leaves_before-in-search.ensures ∙ c.if-leaves_before-2.false)).4
+    (both-further c.args.self.now c.args.bucket c.args.departure.now c.requires.kept c.requires.new_key c.search.after c.search.before c.index-front.result.now c.index-back.result.now i.front i.front_is i.back i.back_is c.index-front.ensures c.index-back.ensures (sym (rw c.departure.ensures at c.leaves_before.ensures) ∙ c.if-leaves_before.false) (sym (rw c.departure-in-search.ensures at c.leaves_before-in-search.ensures) ∙ c.if-leaves_before-2.false)).4

@@ -15,5 +15,5 @@ returns-clause-next c =
     let d = some-of (held (entries_of l) c.args.number) c.requires.there in
     let s = c.index-slot.result.now in
     let same = (read l c.args.number d.0 s c.requires.kept d.1 c.index-slot.ensures).departure in
-    rw same (c.first_ahead.ensures (leaves_before d.0)
+    rw (c.departure.ensures, same) (c.first_ahead.ensures (leaves_before d.0)
     (subst (λ b. IsAhead (bucket_of (bucket_count l)) (entries_of l) b (leaves_before d.0) s.after) (sym c.bucket_of.ensures.is) (ahead-next l c.requires.kept c.args.number d.0 s d.1 c.index-slot.ensures)))

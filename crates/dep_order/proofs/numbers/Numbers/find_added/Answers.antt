@@ -24,7 +24,7 @@ returns-else-place-len-clause-none c =
     let xs = c.args.self.now.added.items in
     let k = c.args.key.now in
     let key : Added → Key = λ a. a.key in
-    let up = c.requires.added in
+    let up = c.requires in
     let at = c.place-place.ensures.place in
     let none : (y : Added) → Has xs y → y.key ≢ k = elim c.else-place-len.branch [
       | else-place-len-via-then-place-len+else-is_same w ↦ missed-other key xs k up c.place-place.result at w.index.result.now w.index.ensures (sym w.is_same.ensures ∙ w.if-is_same.false)

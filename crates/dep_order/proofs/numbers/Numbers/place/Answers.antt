@@ -9,4 +9,4 @@ pub returns-clause-place : goal.returns-clause-place
 returns-clause-place c =
     let xs = c.args.self.now.added.items in
     let k = c.args.key.now in
-    rw c.deref.ensures.value at (IsPartitionPoint-from_clause (λ (a : Added). is_before a.key k) c.deref.result.now c.partition_point.result c.partition_point.ensures.partitioned (rw c.deref.ensures.value (parted (λ (a : Added). a.key) xs k c.requires.added)) (λ a r f h. search rules))
+    rw c.deref.ensures.value at (IsPartitionPoint-from_clause (λ (a : Added). is_before a.key k) c.deref.result.now c.partition_point.result c.partition_point.ensures.partitioned (rw c.deref.ensures.value (parted (λ (a : Added). a.key) xs k c.requires)) (λ a r f h. search rules))

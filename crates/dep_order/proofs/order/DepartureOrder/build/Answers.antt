@@ -6,10 +6,10 @@ pub invariant_of-result : goal.invariant_of-result
 invariant_of-result c =
     let a : Inside = record { numbered = c.in_ok-numbered.field-0; numbers = c.in_ok-build.field-0 } in
     let made = c.in_ok-build.ensures in
-    load-ordered a c.args.departures.now c.args.spare c.in_ok-numbered.ensures made.room made.numbers made.loaded
+    load-ordered a c.args.departures.now c.args.spare c.in_ok-numbered.ensures.entries made.room c.requires.ascends c.requires.few c.in_ok-numbered.ensures.keys made.loaded made.added made.capacity
 
 pub returns : goal.returns
 returns c =
     let a : Inside = record { numbered = c.in_ok-numbered.field-0; numbers = c.in_ok-build.field-0 } in
     let made = c.in_ok-build.ensures in
-    load-seen a c.args.departures.now c.args.spare c.in_ok-numbered.ensures made.room made.added
+    load-seen a c.args.departures.now c.args.spare c.in_ok-numbered.ensures.entries made.room made.added

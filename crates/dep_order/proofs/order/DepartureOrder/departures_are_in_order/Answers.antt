@@ -7,12 +7,11 @@ use Rattle.dep_order.proofs.PlaceLemmas.{different-keys}
 use Rattle.dep_order.proofs.SortedLemmas.{ascends}
 use Rattle.dep_order.proofs.order.DepartureOrder.departures_are_in_order.Goals as goal
 
-pub returns-clause-ascends : goal.returns-clause-ascends
-returns-clause-ascends c =
+pub returns : goal.returns
+returns c =
     let es = c.self.inside.numbered.entries in
-    subst (λ (o : Ordered). AllPairs (λ a b. leaves_before a b ≡ true) o.departures) c.self.view_is (ascends-pairs (departures_in_order es) (ascends es (distinct c.self.inside c.self.invariant)))
-
-pub returns-clause-keys : goal.returns-clause-keys
-returns-clause-keys c =
-    let es = c.self.inside.numbered.entries in
-    subst (λ (o : Ordered). AllPairs (λ a b. a.key ≢ b.key) o.departures) c.self.view_is (different-keys es (distinct c.self.inside c.self.invariant))
+    let apart = distinct c.self.inside c.self.invariant in
+    record {
+      ascends = subst (λ (o : Ordered). AllPairs (λ a b. leaves_before a b ≡ true) o.departures) c.self.view_is (ascends-pairs (departures_in_order es) (ascends es apart));
+      keys = subst (λ (o : Ordered). AllPairs (λ a b. a.key ≢ b.key) o.departures) c.self.view_is (different-keys es apart);
+    }

@@ -1,5 +1,5 @@
 use Rattle.std.proofs.Common.{filter, not}
-use Rattle.dep_order.proofs.Words.{◌≡◌, None, refl, sym, subst, held, departures_in_order}
+use Rattle.dep_order.proofs.Words.{◌≡◌, None, ap, take, sym, subst, held, departures_in_order}
 use Rattle.mt_base.specs.Order.{is_same}
 use Rattle.dep_order.specs.declared.order.DepartureOrder.TheInside.{Inside}
 use Rattle.dep_order.specs.Ordered.{Ordered}
@@ -11,9 +11,8 @@ use Rattle.dep_order.proofs.order.DepartureOrder.take.Goals as goal
 pub invariant_of-self : goal.invariant_of-self
 invariant_of-self c =
     let a = c.self.inside in
-    let b : Inside = record a { numbered = c.take.new.self } in
     let n = c.in-Some.number in
-    set-ordered a c.self.invariant b n None c.take.ensures refl (number-within a c.self.invariant c.args.key.now n c.in-Some.ensures.some) (λ d e. absurd (cc))
+    set-ordered a c.self.invariant c.take.new.self n None c.take.ensures.entries (ap (take a.numbers.loaded) c.take.ensures.keys) (number-within a c.self.invariant c.args.key.now n c.in-Some.ensures.some) (λ d e. absurd (cc))
 
 pub returns-in-Some-clause-departures : goal.returns-in-Some-clause-departures
 returns-in-Some-clause-departures c =
@@ -25,9 +24,9 @@ returns-in-Some-clause-departures c =
     let n = c.in-Some.number in
     let has = c.in-Some.ensures.some in
     let d = some-of (held es n) c.in-Some.ensures.there in
-    let apart = rw c.take.ensures at (distinct b (invariant_of-self c)) in
+    let apart = rw c.take.ensures.entries at (distinct b (invariant_of-self c)) in
     subst (λ (o : Ordered). departures_in_order c.take.new.self.entries ≡ filter (λ d. not (is_same d.key k)) o.departures) c.self.view_is
-    (rw c.take.ensures (take-order es (distinct a h) n d.0 (number-within a h k n has) d.1 k (key-is a h k n d.0 has d.1) apart))
+    (rw c.take.ensures.entries (take-order es (distinct a h) n d.0 (number-within a h k n has) d.1 k (key-is a h k n d.0 has d.1) apart))
 
 pub returns-in_default-clause-departures : goal.returns-in_default-clause-departures
 returns-in_default-clause-departures c =
