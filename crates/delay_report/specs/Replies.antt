@@ -8,8 +8,8 @@ use Rattle.delay_model.specs.declared.messages.Refusal.TheVariants as refusals
 use Rattle.delay_model.specs.declared.messages.Short.{Short}
 use Rattle.delay_model.specs.declared.messages.Short.TheVariants as shorts
 use Rattle.schedule_build.specs.Directory.{Names, trip_of_train, day_of_train, date_of_day}
-use Rattle.delay_report.specs.declared.replies.BadLine.{BadLine}
-use Rattle.delay_report.specs.declared.replies.BadLine.TheVariants as lines
+use Rattle.message_reader.specs.declared.bad_line.BadLine.{BadLine}
+use Rattle.message_reader.specs.declared.bad_line.BadLine.TheVariants as lines
 use Rattle.delay_report.specs.declared.replies.Reply.{Reply}
 use Rattle.delay_report.specs.declared.replies.Reply.TheVariants.{Accepted, Refused, RefusedExtra, Bad, Flush, Journey, NoJourney}
 use Rattle.delay_report.specs.Clocks.{date_text}
@@ -20,7 +20,7 @@ use Rattle.delay_report.specs.Journeys.{journey_object, no_journey_object}
 abbrev pub event_word : Bool → List ℕ
 event_word dep = if dep then codes "dep" else codes "arr"
 
--- what is wrong with a line
+-- why a line is bad
 abbrev pub bad_word : BadLine → List ℕ
 bad_word lines.Long = codes "long"
 bad_word lines.Utf8 = codes "utf8"
@@ -103,7 +103,7 @@ accepted_object line count changed =
     (member (codes "changed") (number (unsigned changed))
     (member (codes "line") (number (unsigned line)) no_members)))
 
--- a line that says nothing
+-- a bad line
 abbrev pub bad_object : ℕ → BadLine → Data
 bad_object line bad =
     object (member (codes "bad") (string (bad_word bad))

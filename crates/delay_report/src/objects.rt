@@ -9,8 +9,8 @@ ghost use Rattle.delay_report.specs.Replies.{event_word, bad_word, short_word, e
 ghost use Rattle.delay_report.specs.Trains.{date_of_train, seconds_on_day};
 
 use crate::clocks::{date_text, write_clock};
-use crate::replies::BadLine;
 use delay_model::messages::{Refusal, Short};
+use message_reader::BadLine;
 use mt_base::keys::Node;
 use mt_base::memory::OutOfMemory;
 use mt_base::numbers::{Day, Time, TrainNo};
@@ -199,7 +199,7 @@ pub(crate) fn refused_extra_value(
     rank_value(alloc, line, from, to)
 }
 
-/// The object for a line that says nothing.
+/// The object for a bad line.
 pub(crate) fn bad_value(alloc: Global, line: u64, bad: BadLine) -> Result<Value, OutOfMemory>
     ensures { IfOk result (λ v. view v ≡ bad_object line bad) }
 {

@@ -9,6 +9,7 @@ use crate::journeys::{journey_value, no_journey_value};
 use crate::objects::{bad_value, flush_value, refusal_value, refused_extra_value};
 use delay_model::messages::Refusal;
 use itoa::Buffer;
+use message_reader::BadLine;
 use mt_base::keys::Node;
 use mt_base::memory::OutOfMemory;
 use mt_base::names::Name;
@@ -21,23 +22,6 @@ use std::alloc::Global;
 
 /// The most bytes that the reply to an accepted message has, with three numbers of 20 digits.
 const ACCEPTED_ROOM: usize = 93;
-
-/// What is wrong with a line that says nothing.
-#[derive(Clone, Copy, Debug, PartialEq, Eq)]
-pub enum BadLine {
-    /// It has 65,536 bytes or more.
-    Long,
-    /// It is no UTF-8.
-    Utf8,
-    /// It is no JSON.
-    Json,
-    /// Its members are not those of a line.
-    Shape,
-    /// A query names a place that is neither a stop nor a station.
-    Stop,
-    /// A date or a time of day is none, or the date of a query is not loaded.
-    Time,
-}
 
 /// What is answered to a line, which is numbered from 1.
 #[derive(Drop)]
@@ -63,7 +47,7 @@ pub enum Reply {
         from: Node,
         to: Node,
     },
-    /// The line says nothing.
+    /// The line is bad.
     Bad {
         line: u64,
         bad: BadLine,

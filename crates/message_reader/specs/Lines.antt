@@ -8,7 +8,7 @@
 -- type needs is absent or of another kind; `Time`, a date of a message is not eight digits that name
 -- a civil date, or a time of it is not H:MM:SS or HH:MM:SS. The places, the date and the time of a
 -- query are asked for when it is resolved. A `Long` line does not come here.
-use Rattle.std.specs.Prelude.{ℕ, ◌==◌, List, if◌then◌else◌, true, false, Some, None, Result, Ok, Err, codes}
+use Rattle.std.specs.Prelude.{ℕ, ◌==◌, List, if◌then◌else◌, Some, None, Result, Ok, Err, codes}
 use Rattle.std.specs.declared.option.Option.{Option}
 use Rattle.std.specs.Str.{is_utf8}
 use Rattle.serde_json.specs.Data.{Data}

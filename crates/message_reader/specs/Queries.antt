@@ -1,5 +1,5 @@
 -- What the object of a query says.
-use Rattle.std.specs.Prelude.{ℕ, List, Some, None, option_and_then, Result, Ok, codes}
+use Rattle.std.specs.Prelude.{ℕ, List, Some, option_and_then, Result, Ok, codes}
 use Rattle.std.specs.declared.option.Option.{Option}
 use Rattle.serde_json.specs.Data.{Data}
 use Rattle.message_reader.specs.declared.bad_line.BadLine.{BadLine}

@@ -1,6 +1,7 @@
 //! Lists of calls.
 
-ghost use Rattle.std.specs.Prelude.{◌≡◌, IfOk, All, length, result_map_both};
+ghost use Rattle.std.specs.Prelude.{◌≡◌, IfOk, All, length};
+ghost use Rattle.std.specs.Result.{result_map_both};
 ghost use Rattle.serde_json.specs.View.{view, items_view};
 ghost use Rattle.message_reader.specs.Errors.{Gives, bad_in};
 ghost use Rattle.message_reader.specs.Messages.{call_texts, call_of, calls_shape, calls_of};

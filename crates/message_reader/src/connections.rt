@@ -1,6 +1,7 @@
 //! Messages about connections.
 
-ghost use Rattle.std.specs.Prelude.{◌≡◌, IfOk, result_map_both};
+ghost use Rattle.std.specs.Prelude.{◌≡◌, IfOk};
+ghost use Rattle.std.specs.Result.{result_map_both};
 ghost use Rattle.serde_json.specs.View.{view};
 ghost use Rattle.mt_base.specs.Civil.{IsCivil};
 ghost use Rattle.message_reader.specs.Errors.{Gives, bad_in};

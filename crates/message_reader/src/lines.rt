@@ -1,6 +1,7 @@
 //! A line: its text, its value, its type, and what it says.
 
-ghost use Rattle.std.specs.Prelude.{◌≡◌, IfOk, result_map_both};
+ghost use Rattle.std.specs.Prelude.{◌≡◌, IfOk};
+ghost use Rattle.std.specs.Result.{result_map_both};
 ghost use Rattle.serde_json.specs.View.{view};
 ghost use Rattle.message_reader.specs.Errors.{Gives, GivesAs, bad_in};
 ghost use Rattle.message_reader.specs.Lines.{utf8_of, json_of, head_of, message_of, said_by, line_of};
