@@ -4,10 +4,10 @@
 -- {"v":1,"type":"keep","feeder":{"trip":"T1","date":"20260105","call":1},"train":{"trip":"T2","date":"20260105","call":0}}
 -- Members that are not named here are passed over, and of two members of one name the last counts.
 -- The faults, in order: `Utf8`, the bytes are no text; `Json`, the text is no JSON, or nests deeper
--- than `serde_json` reads; `Shape`, the value is no object with `v` and `type`, or a member that its
--- type needs is absent or of another kind; `Time`, a date of a message is not eight digits that name
--- a civil date, or a time of it is not H:MM:SS or HH:MM:SS. The places, the date and the time of a
--- query are asked for when it is resolved. A `Long` line does not come here.
+-- than `serde_json` reads; `Shape`, the value is no object with `v` and `type`, or a member that
+-- its type needs is absent or of another kind; `Time`, a date of a message is not eight digits that
+-- name a civil date, or a time of it is not H:MM:SS or HH:MM:SS. The places, the date and the time
+-- of a query are asked for when it is resolved. A `Long` line does not come here.
 use Rattle.std.specs.Prelude.{ℕ, ◌==◌, List, if◌then◌else◌, Some, None, Result, Ok, Err, codes}
 use Rattle.std.specs.declared.option.Option.{Option}
 use Rattle.std.specs.Str.{is_utf8}

@@ -43,7 +43,8 @@ fn reference_texts<'v>(value: &'v Value) -> Result<RefTexts<'v>, BadLine>
 #[tactic(auto, unfolding(crate::specs::Messages::ref_of))]
 fn reference(alloc: Global, texts: &RefTexts) -> Result<WireRef, LineError>
     ensures exact { let r = texts.now in
-        Gives bad_in result (ref_of (record { trip = r.trip.now; date = r.date.now; call = r.call })) }
+        Gives bad_in result
+        (ref_of (record { trip = r.trip.now; date = r.date.now; call = r.call })) }
     ensures kept { IfOk result (λ r. IsCivil r.date) }
 {
     let date = date(texts.date.as_bytes()).ok_or(BadLine::Time)?;

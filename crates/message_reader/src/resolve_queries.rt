@@ -34,8 +34,8 @@ fn stop_or_station(dir: &Directory, id: &str) -> Option<StopNo>
     }
 }
 
-/// The query with the numbers for which its names stand. The line that asks it is bad, `Stop`, where
-/// `from` or `to` is no id of a stop or station; and otherwise `Time` where its date or its time of
+/// The query with the numbers for which its names stand. The line that asks it is bad: `Stop` where
+/// `from` or `to` is no id of a stop or station, and otherwise `Time` where its date or its time of
 /// day is none, or its date is not loaded. Its time is in seconds from the base of day 0.
 #[tactic(auto, unfolding(crate::specs::ResolvedQueries::query_resolved))]
 pub fn resolve_query(query: &WireQuery, dir: &Directory) -> Result<AskedQuery, BadLine>
