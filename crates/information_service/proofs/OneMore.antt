@@ -21,7 +21,7 @@ use Rattle.message_reader.specs.declared.bad_line.BadLine.{BadLine}
 use Rattle.message_reader.specs.declared.wire.Line.TheVariants.{Message as Says, Query as Asks, Flush}
 use Rattle.message_reader.specs.Lines.{message_in}
 use Rattle.message_reader.specs.Resolved.{resolved}
-use Rattle.mt_io.specs.Lines.{Line, short, long}
+use Rattle.mt_io.specs.Lines.{Line}
 use Rattle.mt_io.specs.Reader.{Reader, GivesNext}
 use Rattle.mt_io.specs.Answers.{next_lines, LeavesNext}
 use Rattle.mt_io.specs.declared.lines.Next.{Next}

@@ -2,12 +2,10 @@ use Rattle.std.proofs.Common.{ℕ, List, [], ◌++◌, true, false, subst, sym, 
 use Rattle.std.proofs.KnownBytes.{Appends-trans}
 use Rattle.std.specs.Io.KnownBytes.{Consumes}
 use Rattle.delay_report.specs.Table.{table}
-use Rattle.information_service.specs.Causes.{TookAll}
 use Rattle.information_service.specs.Fronts.{AppendsReplies}
 use Rattle.information_service.specs.ServiceState.{ServiceState}
 use Rattle.information_service.proofs.Ends.{whole_output}
 use Rattle.information_service.proofs.Fronts.{front_none, front_after, output_front}
-use Rattle.mt_io.specs.Causes.{Rose}
 use Rattle.mt_io.specs.Lines.{Line, lines_of}
 use Rattle.traind.specs.Causes.{HasFaultCause, WhereLinesStop}
 use Rattle.traind.specs.Statuses.{lines_fault}
