@@ -46,7 +46,7 @@ fn added_name(
 /// Adds the name of an extra train, if there is one.
 fn add_name(directory: &mut Directory, name: Option<ExtraName>)
     requires ready { IfSome name (λ n. CanBeAdded directory.old n) }
-    ensures { directory.new ≡ with_added name directory.old }
+    ensures names { directory.new ≡ with_added name directory.old }
 {
     if let Some(name) = name {
         let _ = directory.add_extra(name);
@@ -81,7 +81,7 @@ fn reply_to_refused(
     })
 }
 
-/// The reply to a message. It counts no steps.
+/// The reply to a message. The steps that it counts are not used.
 fn reply_to_message<L: Ledger>(
     alloc: Global,
     service: &mut InformationService,
@@ -156,7 +156,7 @@ fn copy_rides(alloc: Global, rides: &[PlanRide]) -> Result<Rows<PlanRide>, OutOf
     Ok(Rows::build(copy))
 }
 
-/// The reply to a query by number. It counts no steps.
+/// The reply to a query by number. The steps that it counts are not used.
 fn reply_to_query<L: Ledger>(
     alloc: Global,
     service: &mut InformationService,
@@ -239,9 +239,10 @@ fn reply_to_said(
 }
 
 impl InformationService {
-    /// Answers the line of this number: takes its message if the timetable accepts it, or looks for
-    /// the journey that it asks for, and gives the reply. It fails only by memory, and then nothing
-    /// has changed.
+    /// The reply to a line of the input, without its line end, which has this number from 1 on. Its
+    /// message is taken if the timetable accepts it, its query is answered by a journey, a flush by
+    /// the number of accepted messages, and a bad line by its fault. Want of memory is the only
+    /// error, and then nothing has changed.
     pub fn answer(&mut self, alloc: Global, number: u64, line: &[u8]) -> Result<Reply, OutOfMemory>
         requires count { self.old.count < 2 ^ 64 - 1 }
         ensures reply { IfOk result (IsReplyTo self.old number (short line.now)) }

@@ -6,9 +6,9 @@ use mt_io::Failed;
 /// Why answering lines, or writing the table, stops before its end.
 #[derive(Clone, Copy, Debug, PartialEq, Eq)]
 pub enum LinesFault {
-    /// The input failed.
+    /// A read of the input failed.
     ReadFault,
-    /// The output failed.
+    /// A write of the output failed.
     WriteFault,
     /// There was no memory.
     Memory,

@@ -3,7 +3,7 @@
 
 mod answer;
 mod fault;
-pub mod laws;
+mod laws;
 mod lines;
 mod service;
 mod table;

@@ -39,9 +39,10 @@ fn write_reply<K: Sink>(
 }
 
 /// Answers each line of the input, from line 1 on, and writes its reply before the next line is
-/// read, until the input is at its end. It fails with `ReadFault` or `TooLong` where the reader
-/// does, when all lines before are answered, with `WriteFault` where the output failed, and with
-/// `Memory`; then the last line may have no reply, or a part of one.
+/// read, until the input is at its end: for a new reader, and a service that has accepted no
+/// message. It fails with `ReadFault` or `TooLong` where the reader does, when all lines before are
+/// answered, with `WriteFault` where a write of the output failed, and with `Memory` where there was
+/// none, or behind line 2^64 - 2; then the last line may have no reply, or a part of one.
 pub fn answer_lines<S: Source, K: Sink>(
     alloc: Global,
     service: &mut InformationService,

@@ -1,6 +1,6 @@
 -- The query by number that a query by name stands for, or why the line that asks it is bad.
--- The causes, in order: `Stop`, the text `from` or `to` is no id of a stop or station; `Time`, the
--- date is no civil date, the time is no time of day, or the date is not loaded.
+-- The causes, in order: `Stop`, the text `from` or `to` is no id of a stop, platform or station;
+-- `Time`, the date is no civil date, the time is no time of day, or the date is not loaded.
 use Rattle.std.specs.Prelude.{ℕ, ◌+◌, List, false, if◌then◌else◌, Some, None, option_and_then, Result, Ok}
 use Rattle.std.specs.declared.option.Option.{Option}
 use Rattle.std.specs.Option.{option_map_or}

@@ -15,11 +15,12 @@ pub enum BadLine {
     Utf8,
     /// Its text is not JSON.
     Json,
-    /// Its value has not the members that a line of its type needs.
+    /// Its value does not have the members that a line of its type needs.
     Shape,
-    /// A query names a place that is neither a stop nor a station of the feed.
+    /// A query names a place that is no stop, platform or station of the feed.
     Stop,
-    /// A date or a time of day is none, or the date of a query is not loaded.
+    /// A date is not eight digits that name a civil date, a time of day is not H:MM:SS or HH:MM:SS,
+    /// or the date of a query is not loaded.
     Time,
 }
 

@@ -1,4 +1,5 @@
-//! From the bytes of an input line to what it says, or to its first fault.
+//! From the bytes of an input line to what it says, or to its first fault, and from its names to
+//! numbers.
 #![tactic(auto)]
 
 mod bad_line;

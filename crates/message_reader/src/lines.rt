@@ -79,8 +79,9 @@ fn said(alloc: Global, value: &Value) -> Result<Line, LineError>
     message(alloc, kind, value)
 }
 
-/// What a line says, or why it is bad: the first fault that holds. Of a query whose date or time of
-/// day is none, this is told by `resolve_query`. Memory may run out at any line.
+/// What a line says, or the first fault that holds: `Utf8`, `Json`, `Shape`, or in a message
+/// `Time`. The faults of a query's places, date and time are told by `resolve_query`. `OutOfMemory`
+/// may come at any line.
 #[tactic(auto, unfolding(crate::specs::Lines::line_of))]
 pub fn read_line(alloc: Global, bytes: &[u8]) -> Result<Line, LineError>
     ensures exact { Gives bad_in result (line_of bytes.now) }

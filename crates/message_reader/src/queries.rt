@@ -13,7 +13,8 @@ use mt_base::names::Name;
 use serde_json::Value;
 use std::alloc::Global;
 
-/// The service day and the time of day of these texts. None where either text is none.
+/// The date and the time of day of these texts. None where the one is no civil date, or the other
+/// is not H:MM:SS or HH:MM:SS.
 #[tactic(auto, unfolding(crate::specs::Queries::wire_time_of))]
 fn wire_time(day: &str, time: &str) -> Option<WireTime>
     ensures exact { result ≡ wire_time_of day.now time.now }

@@ -129,8 +129,8 @@ pub struct WireQuery {
     /// The id of the stop or station where it ends.
     pub to: Name,
 
-    /// From when on the passenger can leave. None where the date is no civil date or the time of
-    /// day is none.
+    /// From when on the passenger can leave. None where the date is no civil date, or the time of
+    /// day is not H:MM:SS or HH:MM:SS.
     pub time: Option<WireTime>,
 }
 

@@ -3,7 +3,7 @@
 use Rattle.std.specs.Prelude.{ℕ, ◌≡◌, ◌≢◌, ◌⊎◌, ◌^◌, List, None, Some}
 use Rattle.std.specs.declared.option.Option.{Option}
 use Rattle.std.specs.Io.KnownBytes.{Appends, IsAtEnd}
-use Rattle.command_words.specs.Words.{asked_of}
+use Rattle.command_words.specs.Words.{Asked, asked_of}
 use Rattle.gtfs_tables.specs.declared.refusals.FeedRefusal.{FeedRefusal}
 use Rattle.information_service.specs.Causes.{TookAll}
 use Rattle.mt_io.specs.Causes.{Rose}
@@ -21,38 +21,59 @@ byte_budget = 2 ^ 40
 pub record FeedSeen : Type 0 where
   -- its files, where the feed tells them
   pub tables : Option Told
-  -- how many of its reads had failed before the run, and how many after it
+  -- how many of its reads had failed when the run began, and when it had ended
   pub faults : ℕ
   pub faults_after : ℕ
+
+abbrev pub feed_seen : Option Told → ℕ → ℕ → FeedSeen
+feed_seen tables faults faults_after =
+    record { tables = tables; faults = faults; faults_after = faults_after }
 
 -- an input, as a run finds it and leaves it
 pub record InputSeen : Type 0 where
   -- the bytes that were left to take before the run and after it, where the input tells them
   pub left : Option (List ℕ)
   pub left_after : Option (List ℕ)
-  -- how many of its reads had failed
+  -- how many of its reads had failed when the run began, and when it had ended
   pub faults : ℕ
   pub faults_after : ℕ
+
+abbrev pub input_seen : Option (List ℕ) → Option (List ℕ) → ℕ → ℕ → InputSeen
+input_seen left left_after faults faults_after = record {
+  left = left;
+  left_after = left_after;
+  faults = faults;
+  faults_after = faults_after;
+}
 
 -- an output or the error stream, as a run finds it and leaves it
 pub record OutputSeen : Type 0 where
   -- the bytes that were written to it before the run and after it, where it tells them
   pub written : Option (List ℕ)
   pub written_after : Option (List ℕ)
-  -- how many of its writes had failed
+  -- how many of its writes had failed when the run began, and when it had ended
   pub faults : ℕ
   pub faults_after : ℕ
+
+abbrev pub output_seen : Option (List ℕ) → Option (List ℕ) → ℕ → ℕ → OutputSeen
+output_seen written written_after faults faults_after = record {
+  written = written;
+  written_after = written_after;
+  faults = faults;
+  faults_after = faults_after;
+}
 
 -- what is written to the error stream is this, unless a write to it fails
 abbrev pub Tells : OutputSeen → List ℕ → Type 0
 Tells err line =
     ¬ (Rose err.faults err.faults_after) → Appends err.written err.written_after line
 
--- The contract of a command with this output. The run had these words, and it ended with this
--- status. `feed_kept`, `input_kept` and `out_kept` say of the feed, the input and the output that
--- they are as they were
-pub record MeetsContract (output : Output) (budget : ℕ) (words : List (List ℕ)) (feed : FeedSeen)
-    (input : InputSeen) (out err : OutputSeen) (feed_kept input_kept out_kept : Type 0)
+-- The contract of a command, whose output may be another for other words. The run had these words;
+-- it found the feed, the input and the output as the first of each pair and left them as the second;
+-- and it ended with this status
+pub record MeetsContract {F S K : Type 0} (output : Asked → Output) (budget : ℕ)
+    (words : List (List ℕ)) (feed : FeedSeen) (input : InputSeen) (out err : OutputSeen)
+    (feed_old feed_new : F) (input_old input_new : S) (out_old out_new : K)
     (status : Status) : Type 0 where
   -- ---- words
 
@@ -61,7 +82,8 @@ pub record MeetsContract (output : Output) (budget : ℕ) (words : List (List �
   -- and for all of them, unless there is no memory
   pub usage_exactly : asked_of words ≡ None → (status ≡ Usage) ⊎ (status ≡ Memory)
   -- such words touch nothing
-  pub usage_untouched : asked_of words ≡ None → feed_kept × input_kept × out_kept
+  pub usage_untouched : asked_of words ≡ None → (feed_new ≡ feed_old)
+      × (input_new ≡ input_old) × (out_new ≡ out_old)
   -- ---- the feed
 
   -- a feed is refused for a reason, which is the one by the definition where the feed tells its
@@ -73,11 +95,11 @@ pub record MeetsContract (output : Output) (budget : ℕ) (words : List (List �
   pub refused_exactly : (why : FeedRefusal) → IsRefused words feed.tables why
       → (status ≡ FeedRefused) ⊎ (status ≡ Memory)
       ⊎ ((status ≡ ReadFault) × Rose feed.faults feed.faults_after)
-  -- a feed is refused before anything is read or written
-  pub untouched : status ≡ FeedRefused → input_kept × out_kept
-  -- whatever the status, no input is read by a feed that is to be refused
+  -- where a feed is refused, nothing was read from the input or written to the output
+  pub untouched : status ≡ FeedRefused → (input_new ≡ input_old) × (out_new ≡ out_old)
+  -- whatever the status, where the feed is to be refused nothing is read from the input or written
   pub refused_untouched : (why : FeedRefusal) → IsRefused words feed.tables why
-      → input_kept × out_kept
+      → (input_new ≡ input_old) × (out_new ≡ out_old)
   -- ---- the output
 
   -- all went well: the whole output of all lines of the input is written
@@ -89,13 +111,14 @@ pub record MeetsContract (output : Output) (budget : ℕ) (words : List (List �
   -- among the bytes taken
   pub stopped : (status ≡ ReadFault) ⊎ (status ≡ TooLong) → WritesReplies output words feed.tables
       input.left input.left_after out.written out.written_after
-  -- however the run ended, what is written begins an output of all lines of the input
+  -- however the run ended, what is written is a front of replies to the first lines of the input, or
+  -- of a whole output of all of them
   pub front : WritesFront output words feed.tables input.left out.written out.written_after
   -- ---- faults
 
   -- a read fault comes where a read of the feed failed, before anything was read of the input, or
   -- a read of the input
-  pub read_fault : status ≡ ReadFault → (input_kept × out_kept
+  pub read_fault : status ≡ ReadFault → ((input_new ≡ input_old) × (out_new ≡ out_old)
       × Rose feed.faults feed.faults_after) ⊎ Rose input.faults input.faults_after
   -- a write fault comes where a write of the output failed
   pub write_fault : status ≡ WriteFault → Rose out.faults out.faults_after

@@ -41,38 +41,40 @@ pub record Output : Type 1 where
   -- these bytes are the replies to these lines, which begin an input
   pub AreReplies : Network → Names → State → List Line → List ℕ → Type 0
 
--- what `times` writes: a reply to each line, and then the table of all times
-abbrev pub times_output : Output
-times_output = record {
+-- what `times` writes, whatever its words: a reply to each line, and then the table of all times
+abbrev pub times_output : Asked → Output
+times_output asked = record {
   IsWhole = IsOutput;
   AreReplies = λ nw names st lines bytes. AreReplies nw names st [] lines bytes;
 }
 
 -- what was written is an output of all lines of the input
-abbrev pub WritesAll : Output → List (List ℕ) → Option Told → Option (List ℕ) → Option (List ℕ)
+abbrev pub WritesAll : (Asked → Output) → List (List ℕ) → Option Told → Option (List ℕ) → Option (List ℕ)
     → Option (List ℕ) → Type 0
 WritesAll output words tables left written written_now =
-    (nw : Network) (st : State) (names : Names) (bytes : List ℕ) → Loads words tables nw st names
-    → left ≡ Some bytes
-    → AppendsAll (output.IsWhole nw names st (lines_of true bytes)) written written_now
+    (nw : Network) (st : State) (names : Names) (bytes : List ℕ)
+    → (loads : Loads words tables nw st names) → left ≡ Some bytes
+    → AppendsAll ((output loads.asked).IsWhole nw names st (lines_of true bytes))
+    written written_now
 
 -- what was written are the replies to the lines that are whole among the bytes taken
-abbrev pub WritesReplies : Output → List (List ℕ) → Option Told → Option (List ℕ)
+abbrev pub WritesReplies : (Asked → Output) → List (List ℕ) → Option Told → Option (List ℕ)
     → Option (List ℕ) → Option (List ℕ) → Option (List ℕ) → Type 0
 WritesReplies output words tables left left_now written written_now =
-    (nw : Network) (st : State) (names : Names) → Loads words tables nw st names
+    (nw : Network) (st : State) (names : Names) → (loads : Loads words tables nw st names)
     → (bytes : List ℕ) × Consumes left left_now bytes
-    × AppendsAll (output.AreReplies nw names st (lines_of false bytes)) written written_now
+    × AppendsAll ((output loads.asked).AreReplies nw names st (lines_of false bytes))
+    written written_now
 
 -- what was written is a front of an output of all lines of the input, however the run ended: of the
 -- replies to the first of them, or of a whole output
-abbrev pub WritesFront : Output → List (List ℕ) → Option Told → Option (List ℕ)
+abbrev pub WritesFront : (Asked → Output) → List (List ℕ) → Option Told → Option (List ℕ)
     → Option (List ℕ) → Option (List ℕ) → Type 0
 WritesFront output words tables left written written_now =
-    (nw : Network) (st : State) (names : Names) (bytes : List ℕ) → Loads words tables nw st names
-    → left ≡ Some bytes
-    → AppendsWholeFront (output.IsWhole nw names st) (output.AreReplies nw names st)
-    (lines_of true bytes) written written_now
+    (nw : Network) (st : State) (names : Names) (bytes : List ℕ)
+    → (loads : Loads words tables nw st names) → left ≡ Some bytes
+    → AppendsWholeFront ((output loads.asked).IsWhole nw names st)
+    ((output loads.asked).AreReplies nw names st) (lines_of true bytes) written written_now
 
 -- the feed holds a timetable, and the input has fewer bytes than may be taken
 pub record CanEnd (words : List (List ℕ)) (tables : Option Told) (left : Option (List ℕ))

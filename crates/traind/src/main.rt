@@ -2,11 +2,11 @@
 #![tactic(auto)]
 
 mod feed;
+#[cfg(test)]
+mod memory_tests;
 mod refusal;
 pub mod run;
 pub mod status;
-#[cfg(test)]
-mod memory_tests;
 #[cfg(test)]
 mod tests;
 

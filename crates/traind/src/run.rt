@@ -10,7 +10,7 @@ ghost use Rattle.mt_io.specs.Causes.{Rose};
 ghost use Rattle.mt_io.specs.Lines.{lines_of};
 ghost use Rattle.traind.specs.Causes.{HasFaultCause, WhereLinesStop};
 ghost use Rattle.traind.specs.Feeds.{Told};
-ghost use Rattle.traind.specs.Contract.{MeetsContract, byte_budget};
+ghost use Rattle.traind.specs.Contract.{MeetsContract, byte_budget, feed_seen, input_seen, output_seen};
 ghost use Rattle.traind.specs.Runs.{IsRefused, WritesAll, WritesReplies, WritesFront, times_output};
 ghost use Rattle.traind.specs.Statuses.{error_line, refusal_line, status_of};
 ghost use Rattle.traind.specs.declared.status.Fault.TheVariants as faults;
@@ -66,8 +66,8 @@ fn run_words<F: Feed, S: Source, K: Sink>(
     out: &mut K,
     budget: u64,
 ) -> Result<(), Fault>
-    ensures ok { OnOk result (WritesAll times_output (map string_bytes words.now) (F.tables feed.old)
-        (S.left input.old) (K.written out.old) (K.written out.new)) }
+    ensures ok { OnOk result (WritesAll times_output (map string_bytes words.now)
+        (F.tables feed.old) (S.left input.old) (K.written out.old) (K.written out.new)) }
     ensures ended { OnOk result (IsAtEnd (S.left input.new)) }
     ensures no_words { asked_of (map string_bytes words.now) ≡ None
         → (result ≡ Err faults.Usage) ⊎ (result ≡ Err faults.Memory) }
@@ -94,8 +94,8 @@ fn run_words<F: Feed, S: Source, K: Sink>(
         (WhereLinesStop (WritesReplies times_output (map string_bytes words.now) (F.tables feed.old)
         (S.left input.old) (S.left input.new)
         (K.written out.old) (K.written out.new))) }
-    ensures front { WritesFront times_output (map string_bytes words.now) (F.tables feed.old) (S.left input.old)
-        (K.written out.old) (K.written out.new) }
+    ensures front { WritesFront times_output (map string_bytes words.now) (F.tables feed.old)
+        (S.left input.old) (K.written out.old) (K.written out.new) }
 {
     let asked = read_words(alloc, words)?;
     let mut service = load(alloc, &asked, feed)?;
@@ -157,31 +157,15 @@ pub fn run_times<F: Feed, S: Source, K: Sink, E: Sink>(
     budget: u64,
 ) -> Status
     requires budget { 1 ≤ budget }
-    ensures { MeetsContract times_output budget (map string_bytes words.now)
-        (record {
-          tables = F.tables feed.old;
-          faults = F.faults feed.old;
-          faults_after = F.faults feed.new;
-        })
-        (record {
-          left = S.left input.old;
-          left_after = S.left input.new;
-          faults = S.faults input.old;
-          faults_after = S.faults input.new;
-        })
-        (record {
-          written = K.written out.old;
-          written_after = K.written out.new;
-          faults = K.faults out.old;
-          faults_after = K.faults out.new;
-        })
-        (record {
-          written = E.written err.old;
-          written_after = E.written err.new;
-          faults = E.faults err.old;
-          faults_after = E.faults err.new;
-        })
-        (feed.new ≡ feed.old) (input.new ≡ input.old) (out.new ≡ out.old) result }
+    ensures contract { MeetsContract times_output budget (map string_bytes words.now)
+        (feed_seen (F.tables feed.old) (F.faults feed.old) (F.faults feed.new))
+        (input_seen (S.left input.old) (S.left input.new) (S.faults input.old)
+        (S.faults input.new))
+        (output_seen (K.written out.old) (K.written out.new) (K.faults out.old)
+        (K.faults out.new))
+        (output_seen (E.written err.old) (E.written err.new) (E.faults err.old)
+        (E.faults err.new))
+        feed.old feed.new input.old input.new out.old out.new result }
 {
     let run = run_words(alloc, words, feed, input, out, budget);
     tell(alloc, run, err)
@@ -208,31 +192,15 @@ pub fn traind_within<
     budget: u64,
 ) -> Status
     requires budget { 1 ≤ budget }
-    ensures { MeetsContract times_output budget (map string_bytes words.now)
-        (record {
-          tables = F.tables feed.old;
-          faults = F.faults feed.old;
-          faults_after = F.faults feed.new;
-        })
-        (record {
-          left = S.left input.old;
-          left_after = S.left input.new;
-          faults = S.faults input.old;
-          faults_after = S.faults input.new;
-        })
-        (record {
-          written = K.written out.old;
-          written_after = K.written out.new;
-          faults = K.faults out.old;
-          faults_after = K.faults out.new;
-        })
-        (record {
-          written = E.written err.old;
-          written_after = E.written err.new;
-          faults = E.faults err.old;
-          faults_after = E.faults err.new;
-        })
-        (feed.new ≡ feed.old) (input.new ≡ input.old) (out.new ≡ out.old) result }
+    ensures contract { MeetsContract times_output budget (map string_bytes words.now)
+        (feed_seen (F.tables feed.old) (F.faults feed.old) (F.faults feed.new))
+        (input_seen (S.left input.old) (S.left input.new) (S.faults input.old)
+        (S.faults input.new))
+        (output_seen (K.written out.old) (K.written out.new) (K.faults out.old)
+        (K.faults out.new))
+        (output_seen (E.written err.old) (E.written err.new) (E.faults err.old)
+        (E.faults err.new))
+        feed.old feed.new input.old input.new out.old out.new result }
 {
     run_times(alloc, words, feed, input, out, err, budget)
 }
@@ -251,31 +219,15 @@ pub fn traind<R: Threads + Wait + Sync, F: Feed, S: Source, K: Sink, E: Sink, G:
     err: &mut E,
     gate: &G,
 ) -> Status
-    ensures { MeetsContract times_output byte_budget (map string_bytes words.now)
-        (record {
-          tables = F.tables feed.old;
-          faults = F.faults feed.old;
-          faults_after = F.faults feed.new;
-        })
-        (record {
-          left = S.left input.old;
-          left_after = S.left input.new;
-          faults = S.faults input.old;
-          faults_after = S.faults input.new;
-        })
-        (record {
-          written = K.written out.old;
-          written_after = K.written out.new;
-          faults = K.faults out.old;
-          faults_after = K.faults out.new;
-        })
-        (record {
-          written = E.written err.old;
-          written_after = E.written err.new;
-          faults = E.faults err.old;
-          faults_after = E.faults err.new;
-        })
-        (feed.new ≡ feed.old) (input.new ≡ input.old) (out.new ≡ out.old) result }
+    ensures contract { MeetsContract times_output byte_budget (map string_bytes words.now)
+        (feed_seen (F.tables feed.old) (F.faults feed.old) (F.faults feed.new))
+        (input_seen (S.left input.old) (S.left input.new) (S.faults input.old)
+        (S.faults input.new))
+        (output_seen (K.written out.old) (K.written out.new) (K.faults out.old)
+        (K.faults out.new))
+        (output_seen (E.written err.old) (E.written err.new) (E.faults err.old)
+        (E.faults err.new))
+        feed.old feed.new input.old input.new out.old out.new result }
 {
     traind_within(rt, alloc, words, feed, input, out, err, gate, BYTE_BUDGET)
 }
