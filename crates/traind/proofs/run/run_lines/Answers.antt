@@ -1,4 +1,4 @@
-use Rattle.std.proofs.Common.{ℕ, List, [], ◌++◌, true, false, subst, sym, refl, inl, inr, arith}
+use Rattle.std.proofs.Common.{◌≡◌, ℕ, List, [], ◌++◌, true, false, ap, subst, sym, refl, inl, inr, arith}
 use Rattle.std.proofs.KnownBytes.{Appends-trans}
 use Rattle.std.specs.Io.KnownBytes.{Consumes}
 use Rattle.delay_report.specs.Table.{table}
@@ -7,6 +7,7 @@ use Rattle.information_service.specs.ServiceState.{ServiceState}
 use Rattle.information_service.proofs.Ends.{whole_output}
 use Rattle.information_service.proofs.Fronts.{front_none, front_after, output_front}
 use Rattle.mt_io.specs.Lines.{Line, lines_of}
+use Rattle.mt_io.specs.Reader.{Reader}
 use Rattle.traind.specs.Causes.{HasFaultCause, WhereLinesStop}
 use Rattle.traind.specs.Statuses.{lines_fault}
 use Rattle.traind.proofs.Ends.{cause_of_lines, cause_of_table, handed_on, table_stops, where_also, where_lines, each_fault}
@@ -44,8 +45,9 @@ returns-in_err-answer_lines-clause-stopped g c =
 pub returns-in_err-answer_lines-clause-fault : goal.returns-in_err-answer_lines-clause-fault
 returns-in_err-answer_lines-clause-fault g c =
     let f = c.in_err-answer_lines.field-0.0 in
+    let budget : c.in_ok-reader.reader.budget ≡ c.args.budget = ap (λ (r : Reader). r.budget) c.in_ok-reader.ensures in
     handed_on c.from_residual-in_err-answer_lines.result (lines_fault f) (HasFaultCause ⊥ (λ why. ⊥) _ _ _) c.from_residual-in_err-answer_lines.ensures.1
-    (cause_of_lines _ _ _ f c.in_err-answer_lines.ensures.fault)
+    (cause_of_lines _ _ _ f (rw budget at c.in_err-answer_lines.ensures.fault))
 
 pub returns-in_err-write_table-clause-stopped : goal.returns-in_err-write_table-clause-stopped
 returns-in_err-write_table-clause-stopped g c =
