@@ -46,7 +46,7 @@ fn added_name(
 /// Adds the name of an extra train, if there is one.
 fn add_name(directory: &mut Directory, name: Option<ExtraName>)
     requires ready { IfSome name (λ n. CanBeAdded directory.old n) }
-    ensures names { directory.new ≡ with_added name directory.old }
+    ensures { directory.new ≡ with_added name directory.old }
 {
     if let Some(name) = name {
         let _ = directory.add_extra(name);

@@ -44,7 +44,7 @@ impl InformationService {
         trains: u32,
     ) -> Result<InformationService, OutOfMemory>
         requires in_step { AreInStep directory timetable.state }
-        ensures made { IfOk result (λ s. s ≡ record {
+        ensures { IfOk result (λ s. s ≡ record {
           network = timetable.network;
           state = timetable.state;
           count = timetable.count;
