@@ -74,13 +74,9 @@ fn count_reached<L: Ledger>(timetable: &Timetable, scratch: &mut Scratch, blank:
 #[test]
 fn queries_ask_for_no_memory(rt: HostRuntime) -> Result<(), Fail> {
     let alloc = rt.alloc();
-    let Ok(timetable) = timetable(alloc) else {
-        return Err(Fail::new(format_args!("the load wants memory")));
-    };
+    let timetable = timetable(alloc)?;
     let stops = timetable.graph().changes().stops();
-    let Ok(mut scratch) = Scratch::build(alloc, stops, 2) else {
-        return Err(Fail::new(format_args!("the load wants memory")));
-    };
+    let mut scratch = Scratch::build(alloc, stops, 2)?;
     let reached = count_reached::<Brand>(&timetable, &mut scratch, Blank::new(1));
     if Vec::<u8>::with_capacity(alloc, 1).is_err() {
         return Err(Fail::new(format_args!("the request behind the queries")));
