@@ -2,8 +2,6 @@
 #![tactic(auto)]
 
 mod feed;
-#[cfg(test)]
-mod memory_tests;
 mod refusal;
 pub mod run;
 pub mod status;

@@ -29,7 +29,7 @@ W,1,1,1,1,1,0,0,20260101,20261231
 ";
 
 /// T1 runs A, B1, C and T2 runs B2, D.
-pub(crate) const STOP_TIMES: &str = "trip_id,arrival_time,departure_time,stop_id,stop_sequence
+const STOP_TIMES: &str = "trip_id,arrival_time,departure_time,stop_id,stop_sequence
 T1,08:00:00,08:00:00,A,1
 T1,08:30:00,08:32:00,B1,2
 T1,09:00:00,09:00:00,C,3
@@ -194,7 +194,7 @@ fn is_end(ended: &Ended, status: Status, out: &str, err: &str) -> bool {
 }
 
 /// The words `times feed --from 20260105`.
-pub(crate) fn words(alloc: Global) -> Result<Vec<String>, Fail> {
+fn words(alloc: Global) -> Result<Vec<String>, Fail> {
     let mut words = Vec::new(alloc);
     for word in ["times", "feed", "--from", "20260105"] {
         words.push(String::from_str(alloc, word)?)?;
@@ -203,7 +203,7 @@ pub(crate) fn words(alloc: Global) -> Result<Vec<String>, Fail> {
 }
 
 /// A feed with this table of calls, which never fails.
-pub(crate) fn feed(alloc: Global, stop_times: &[u8]) -> Result<MemFeed, Fail> {
+fn feed(alloc: Global, stop_times: &[u8]) -> Result<MemFeed, Fail> {
     let mut feed = MemFeed::build(alloc, Vec::new(alloc));
     for (name, table) in [
         ("stops.txt", STOPS.as_bytes()),
