@@ -25,7 +25,7 @@ pub use Rattle.event_numbers.proofs.NumberingLemmas.{last-there, loaded-read}
 pub use Rattle.event_numbers.specs.Numbering.{NumberedTrain, Numbering, slot_of}
 unfoldable pub use Rattle.mt_base.specs.Order.{is_same_node}
 pub use Rattle.mt_base.specs.declared.keys.Node.{Node}
-pub use Rattle.mt_base.specs.declared.plans.NewCall.{NewCall}
+pub use Rattle.mt_base.specs.declared.new_calls.NewCall.{NewCall}
 pub use Rattle.std.proofs.Common.{All, Bool, List, None, Option, Some, [], ap, arith, cond, drop, false, find, get_or, inl, inr, is_some, length, map}
 pub use Rattle.std.proofs.Common.{nat_eq, nat_le, nat_lt, not, refl, rules, slice_get, subst, suc, sym, take, true, vec_capacity, zero, ℕ, ◌&&◌, ◌++◌}
 pub use Rattle.std.proofs.Common.{◌+◌, ◌-◌, ◌<◌, ◌^◌, ◌∙◌, ◌∷◌, ◌≡◌, ◌≢◌, ◌≤◌, ◌⊎◌}

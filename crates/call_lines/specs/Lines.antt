@@ -1,6 +1,6 @@
 -- The line of a train: the slots of its calls, by their places.
 use Rattle.std.specs.Prelude.{◌≡◌, ℕ, ◌+◌, ◌-◌, ◌<◌, ◌≤◌, ◌&&◌, not, nat_eq, nat_lt, nat_le, if◌then◌else◌, List, Some, true, false, Bool, length, slice_get}
-use Rattle.mt_base.specs.declared.plans.NewCall.{NewCall}
+use Rattle.mt_base.specs.declared.new_calls.NewCall.{NewCall}
 use Rattle.delay_model.specs.declared.state.Call.{Call}
 use Rattle.delay_model.specs.Effect.{killed, new_call}
 use Rattle.call_lines.specs.declared.parts.Part.{Part}

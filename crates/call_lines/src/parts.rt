@@ -9,7 +9,7 @@ use crate::line::current_slot;
 use crate::stored_call::StoredCall;
 use event_numbers::Slots;
 use mt_base::numbers::{Label, TrainNo};
-use mt_base::plans::NewCall;
+use mt_base::new_calls::NewCall;
 
 /// A part of a train: from the call in the slot `from`, at the place `first`, to the call in the
 /// slot `to`, at the place `last`.

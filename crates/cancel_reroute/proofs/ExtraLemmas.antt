@@ -5,7 +5,7 @@ use Rattle.std.specs.Option.{option_map_or, option_or}
 use Rattle.std.proofs.lemmas.List.{drop_all, drop_more, get_or_default, length-drop, length-take-le}
 use Rattle.std.proofs.lemmas.List.Folds.{drop_split}
 use Rattle.mt_base.specs.declared.options.Opts.{Opts}
-use Rattle.mt_base.specs.declared.plans.NewCall.{NewCall}
+use Rattle.mt_base.specs.declared.new_calls.NewCall.{NewCall}
 use Rattle.delay_model.specs.declared.messages.Message.TheVariants.{Extra}
 use Rattle.delay_model.specs.declared.messages.Refusal.TheVariants.{Known, Unknown}
 use Rattle.delay_model.specs.declared.network.Network.{Network}

@@ -16,7 +16,7 @@ use crate::rank::RankCheck;
 use delay_model::messages::{Refusal, Short};
 use edge_rules::Graph;
 use mt_base::numbers::{Label, RouteNo, TrainNo};
-use mt_base::plans::NewCall;
+use mt_base::new_calls::NewCall;
 use train_nodes::calls::new_call;
 
 /// Whether an extra train is accepted, or why it is refused.

@@ -3,7 +3,7 @@ use Rattle.std.proofs.Common.{◌≡◌, ℕ, zero, suc, ◌+◌, true, List, []
 use Rattle.std.specs.List.{Contains}
 use Rattle.std.proofs.lemmas.List.Elements.{Contains-append_left, Contains-append_right}
 use Rattle.std.proofs.lemmas.Option.{same_Some, none-some}
-use Rattle.mt_base.specs.declared.plans.PlanRide.{PlanRide}
+use Rattle.mt_base.specs.declared.journeys.PlanRide.{PlanRide}
 use Rattle.mt_base.specs.Order.{node_of}
 use Rattle.delay_model.specs.declared.network.Network.{Network}
 use Rattle.delay_model.specs.declared.state.Call.{Call}

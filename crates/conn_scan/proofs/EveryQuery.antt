@@ -1,8 +1,8 @@
 -- Every query has an answer.
 use Rattle.std.proofs.Common.{◌≡◌, ◌⊎◌, inl, inr, ℕ, ◌+◌, List, [], ◌∷◌, reverse, Option, Some, None, false, length, arith}
 use Rattle.std.proofs.lemmas.Bool.{cases_Bool}
-use Rattle.mt_base.specs.declared.plans.PlanRide.{PlanRide}
-use Rattle.mt_base.specs.declared.plans.Query.{Query}
+use Rattle.mt_base.specs.declared.journeys.PlanRide.{PlanRide}
+use Rattle.mt_base.specs.declared.journeys.Query.{Query}
 use Rattle.delay_model.specs.declared.network.Network.{Network}
 use Rattle.delay_model.specs.declared.state.State.{State}
 use Rattle.delay_model.specs.Journeys.{is_one_station, IsEarliest, HasNoJourney}

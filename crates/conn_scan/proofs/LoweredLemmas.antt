@@ -4,8 +4,8 @@ use Rattle.std.specs.List.{All}
 use Rattle.std.proofs.lemmas.Bool.{cases_Bool, cond_both}
 use Rattle.std.proofs.lemmas.List.{length-set}
 use Rattle.std.proofs.lemmas.List.Elements.{All-cons, All-head, All-nil, All-tail}
-use Rattle.mt_base.specs.declared.plans.PlanRide.{PlanRide}
-use Rattle.mt_base.specs.declared.plans.Query.{Query}
+use Rattle.mt_base.specs.declared.journeys.PlanRide.{PlanRide}
+use Rattle.mt_base.specs.declared.journeys.Query.{Query}
 use Rattle.change_times.specs.Reach.{reached}
 use Rattle.change_times.specs.declared.change.Change.{Change}
 use Rattle.delay_model.specs.declared.network.Network.{Network}

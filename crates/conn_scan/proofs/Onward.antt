@@ -6,7 +6,7 @@ use Rattle.std.proofs.lemmas.Bool.{cases_Bool}
 use Rattle.std.proofs.lemmas.Option.{none-some, same_Some}
 use Rattle.std.proofs.lemmas.List.Elements.{All-cons, All-contains, All-nil}
 use Rattle.std.proofs.lemmas.List.FromFn.{get_or-range_with_len, length-range_with_len}
-use Rattle.mt_base.specs.declared.plans.Query.{Query}
+use Rattle.mt_base.specs.declared.journeys.Query.{Query}
 use Rattle.mt_base.specs.declared.tables.StopRow.{StopRow}
 use Rattle.delay_model.specs.declared.network.Network.{Network}
 use Rattle.delay_model.specs.Changes.{is_stop, change}

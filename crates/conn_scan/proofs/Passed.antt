@@ -5,8 +5,8 @@ use Rattle.std.specs.Option.{option_map_or}
 use Rattle.std.proofs.lemmas.Bool.{and_left, and_right, cases_Bool, cond-false, cond_both, eqb-true, le-ltb}
 use Rattle.std.proofs.lemmas.List.Elements.{All-cons, All-head, All-nil, All-tail, All-weaker}
 use Rattle.std.proofs.lemmas.Option.{same_Some}
-use Rattle.mt_base.specs.declared.plans.PlanRide.{PlanRide}
-use Rattle.mt_base.specs.declared.plans.Query.{Query}
+use Rattle.mt_base.specs.declared.journeys.PlanRide.{PlanRide}
+use Rattle.mt_base.specs.declared.journeys.Query.{Query}
 use Rattle.mt_base.specs.Order.{node_of}
 use Rattle.change_times.specs.Reach.{reached}
 use Rattle.change_times.specs.declared.change.Change.{Change}

@@ -1,6 +1,6 @@
 -- The stations of a query that were looked up are those of its origin and its destination.
 use Rattle.std.proofs.Common.{◌≡◌, Bool, nat_eq, subst}
-use Rattle.mt_base.specs.declared.plans.Query.{Query}
+use Rattle.mt_base.specs.declared.journeys.Query.{Query}
 use Rattle.delay_model.specs.declared.network.Network.{Network}
 use Rattle.delay_model.specs.Journeys.{is_one_station}
 use Rattle.conn_scan.specs.Stations.{HasStations}

@@ -3,8 +3,8 @@ use Rattle.std.proofs.Common.{◌≡◌, ℕ, suc, Bool, true, false, cond, ◌&
 use Rattle.std.specs.Option.{option_map_or}
 use Rattle.std.proofs.lemmas.Bool.{cases_Bool, cond-true}
 use Rattle.std.proofs.lemmas.Option.{same_Some, none-some}
-use Rattle.mt_base.specs.declared.plans.PlanRide.{PlanRide}
-use Rattle.mt_base.specs.declared.plans.Query.{Query}
+use Rattle.mt_base.specs.declared.journeys.PlanRide.{PlanRide}
+use Rattle.mt_base.specs.declared.journeys.Query.{Query}
 use Rattle.delay_model.specs.declared.network.Network.{Network}
 use Rattle.delay_model.specs.declared.state.Call.{Call}
 use Rattle.delay_model.specs.declared.state.State.{State}

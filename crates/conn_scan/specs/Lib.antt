@@ -5,6 +5,6 @@ pub mod Lowered
 pub mod Stamped
 pub mod Calls
 pub mod Scanned
-pub mod Answered
+pub mod ScratchState
 pub mod Passed
 pub mod Stations

@@ -1,7 +1,7 @@
 -- What a list of changes makes of the ways to the stops.
 use Rattle.std.specs.Prelude.{ℕ, ◌+◌, List, [], ◌∷◌, Option, Some, None, if◌then◌else◌}
-use Rattle.mt_base.specs.declared.plans.PlanRide.{PlanRide}
-use Rattle.mt_base.specs.declared.plans.Query.{Query}
+use Rattle.mt_base.specs.declared.journeys.PlanRide.{PlanRide}
+use Rattle.mt_base.specs.declared.journeys.Query.{Query}
 use Rattle.change_times.specs.declared.change.Change.{Change}
 use Rattle.delay_model.specs.declared.network.Network.{Network}
 use Rattle.delay_model.specs.Journeys.{is_one_station}

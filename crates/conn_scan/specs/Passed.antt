@@ -1,7 +1,7 @@
 -- Which rides were taken before, so that taking them again changes nothing.
 use Rattle.std.specs.Prelude.{◌≡◌, ℕ, ◌+◌, List, [], ◌∷◌, ◌++◌, Bool, true, false, Option, Some, None, nat_eq, if◌then◌else◌, get_or, set, All}
 use Rattle.std.specs.Option.{option_map_or}
-use Rattle.mt_base.specs.declared.plans.Query.{Query}
+use Rattle.mt_base.specs.declared.journeys.Query.{Query}
 use Rattle.change_times.specs.Reach.{reached}
 use Rattle.change_times.specs.declared.change.Change.{Change}
 use Rattle.delay_model.specs.declared.network.Network.{Network}

@@ -2,8 +2,8 @@
 -- knows.
 use Rattle.std.specs.Prelude.{◌≡◌, ℕ, ◌≤◌, nat_lt, List, true, if◌then◌else◌, Option, Some, None, get_or, set, MatchBool}
 use Rattle.std.specs.Option.{MatchOption, option_and_then, option_map_or}
-use Rattle.mt_base.specs.declared.plans.Query.{Query}
-use Rattle.mt_base.specs.declared.plans.PlanRide.{PlanRide}
+use Rattle.mt_base.specs.declared.journeys.Query.{Query}
+use Rattle.mt_base.specs.declared.journeys.PlanRide.{PlanRide}
 use Rattle.delay_model.specs.declared.network.Network.{Network}
 use Rattle.delay_model.specs.declared.state.State.{State}
 pub use Rattle.conn_scan.specs.declared.accesses.Access.{Access}

@@ -1,8 +1,8 @@
 -- What a scan of the departures knows, and what taking one more ride makes of it.
 use Rattle.std.specs.Prelude.{◌≡◌, ℕ, ◌≤◌, ◌⊎◌, List, [], ◌∷◌, reverse, Bool, true, ◌&&◌, nat_lt, if◌then◌else◌, Option, Some, None, IfSome}
 use Rattle.std.specs.Option.{option_map_or}
-use Rattle.mt_base.specs.declared.plans.Query.{Query}
-use Rattle.mt_base.specs.declared.plans.PlanRide.{PlanRide}
+use Rattle.mt_base.specs.declared.journeys.Query.{Query}
+use Rattle.mt_base.specs.declared.journeys.PlanRide.{PlanRide}
 use Rattle.delay_model.specs.declared.network.Network.{Network}
 use Rattle.delay_model.specs.declared.state.State.{State}
 use Rattle.delay_model.specs.Changes.{is_stop}

@@ -2,8 +2,8 @@
 -- departures from a time on are taken.
 use Rattle.std.specs.Prelude.{◌≡◌, ℕ, ◌<◌, length, List, [], ◌∷◌, ◌++◌, Bool, true, false, nat_le, if◌then◌else◌, Option, Some}
 use Rattle.std.specs.Option.{option_map_or}
-use Rattle.mt_base.specs.declared.plans.PlanRide.{PlanRide}
-use Rattle.mt_base.specs.declared.plans.Query.{Query}
+use Rattle.mt_base.specs.declared.journeys.PlanRide.{PlanRide}
+use Rattle.mt_base.specs.declared.journeys.Query.{Query}
 use Rattle.mt_base.specs.Order.{node_of}
 use Rattle.change_times.specs.ChangeTables.{ChangeTables}
 use Rattle.change_times.specs.Reach.{reached}

@@ -15,7 +15,7 @@ use crate::accesses::{Access, lower};
 use crate::query_table::QueryTable;
 use change_times::Change;
 use mt_base::numbers::{StopNo, Time};
-use mt_base::plans::{PlanRide, Query};
+use mt_base::journeys::{PlanRide, Query};
 use timetable::Timetable;
 
 /// A query, with the stations of its origin and its destination.

@@ -2,8 +2,8 @@
 
 ghost use Rattle.std.specs.Prelude.{◌≡◌, ◌≤◌, ◌<◌, ◌⊎◌, ℕ, List, [], ◌∷◌, Option, Some, None, true, false, reverse, All, Contains};
 ghost use Rattle.mt_base.specs.declared.keys.Node.{Node as ANode};
-ghost use Rattle.mt_base.specs.declared.plans.PlanRide.{PlanRide as APlanRide};
-ghost use Rattle.mt_base.specs.declared.plans.Query.{Query as AQuery};
+ghost use Rattle.mt_base.specs.declared.journeys.PlanRide.{PlanRide as APlanRide};
+ghost use Rattle.mt_base.specs.declared.journeys.Query.{Query as AQuery};
 ghost use Rattle.delay_model.specs.Journeys.{is_one_station, IsRide, IsEarliest, HasNoJourney};
 ghost use Rattle.delay_model.specs.Valid.{IsValid};
 ghost use Rattle.conn_scan.specs.Reached.{Access, AreExplained, CanBoard, ride_before};

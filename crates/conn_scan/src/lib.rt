@@ -6,8 +6,8 @@ mod known;
 pub mod laws;
 mod query_table;
 mod scan;
-pub mod scratch;
+pub mod earliest_arrival;
 mod search;
 mod walk;
 
-pub use scratch::{Found, Scratch, earliest};
+pub use earliest_arrival::{Found, Scratch, earliest};

@@ -13,7 +13,7 @@ use crate::known::{Asked, Known, access, onward};
 use crate::query_table::QueryTable;
 use crate::scan::scan;
 use mt_base::numbers::Label;
-use mt_base::plans::PlanRide;
+use mt_base::journeys::PlanRide;
 use std::sync::ledger::Ledger;
 use timetable::Timetable;
 use train_nodes::Steps;

@@ -14,7 +14,7 @@ ghost use Rattle.conn_scan.specs.Stations.{HasStations};
 use crate::known::{Asked, Known, take_ride};
 use mt_base::keys::Node;
 use mt_base::numbers::{Label, StopNo, Time, TrainNo};
-use mt_base::plans::PlanRide;
+use mt_base::journeys::PlanRide;
 use std::sync::ledger::Ledger;
 use timetable::{Departure, Timetable};
 use train_nodes::Steps;

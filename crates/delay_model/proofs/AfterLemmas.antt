@@ -8,7 +8,7 @@ use Rattle.delay_model.specs.declared.messages.Message.{Message}
 use Rattle.delay_model.specs.declared.messages.Refusal.{Refusal}
 use Rattle.delay_model.specs.Effect.{effect}
 use Rattle.delay_model.specs.Refusals.{refusal}
-use Rattle.delay_model.specs.After.{after, AreAccepted, Reading, accepted_message, accepted, known_after}
+use Rattle.delay_model.specs.After.{after_messages, AreAccepted, Reading, accepted_message, accepted, known_after}
 
 none-is : (o : Option Refusal) → is_none o ≡ true → o ≡ None
 none-is None h = refl
@@ -42,12 +42,12 @@ accepted-are nw reading st names (x ∷ xs) =
     (λ m. accepted-are nw reading (effect st m) (reading.known names x) xs)
     (accepted-are nw reading st names xs)
 
-more-by : {X N : Type 0} (nw : Network) (reading : Reading X N) (st : State) (o : Option Message) (accepts : Message → List Message) (knows : Message → N) (rest both : List Message) (left : N) (more : Message → List Message) (others : List X) → ((m : Message) → more m ≡ accepts m ++ accepted nw reading (after (effect st m) (accepts m)) (knows m) others) → both ≡ rest ++ accepted nw reading (after st rest) left others → option_map_or (λ m. m ∷ more m) o both ≡ option_map_or (λ m. m ∷ accepts m) o rest ++ accepted nw reading (after st (option_map_or (λ m. m ∷ accepts m) o rest)) (option_map_or knows o left) others
+more-by : {X N : Type 0} (nw : Network) (reading : Reading X N) (st : State) (o : Option Message) (accepts : Message → List Message) (knows : Message → N) (rest both : List Message) (left : N) (more : Message → List Message) (others : List X) → ((m : Message) → more m ≡ accepts m ++ accepted nw reading (after_messages (effect st m) (accepts m)) (knows m) others) → both ≡ rest ++ accepted nw reading (after_messages st rest) left others → option_map_or (λ m. m ∷ more m) o both ≡ option_map_or (λ m. m ∷ accepts m) o rest ++ accepted nw reading (after_messages st (option_map_or (λ m. m ∷ accepts m) o rest)) (option_map_or knows o left) others
 more-by nw reading st None accepts knows rest both left more others h k = k
 more-by nw reading st (Some m) accepts knows rest both left more others h k = ap (λ ms. m ∷ ms) (h m)
 
 -- the accepted messages of more lines begin with those of the first lines
-pub accepted-append : {X N : Type 0} (nw : Network) (reading : Reading X N) (st : State) (names : N) (lines others : List X) → accepted nw reading st names (lines ++ others) ≡ accepted nw reading st names lines ++ accepted nw reading (after st (accepted nw reading st names lines)) (known_after nw reading st names lines) others
+pub accepted-append : {X N : Type 0} (nw : Network) (reading : Reading X N) (st : State) (names : N) (lines others : List X) → accepted nw reading st names (lines ++ others) ≡ accepted nw reading st names lines ++ accepted nw reading (after_messages st (accepted nw reading st names lines)) (known_after nw reading st names lines) others
 accepted-append nw reading st names [] others = refl
 accepted-append nw reading st names (x ∷ xs) others =
     more-by nw reading st (accepted_message nw st (reading.message names x)) (λ m. accepted nw reading (effect st m) (reading.known names x) xs) (λ m. known_after nw reading (effect st m) (reading.known names x) xs) (accepted nw reading st names xs) (accepted nw reading st names (xs ++ others)) (known_after nw reading st names xs) (λ m. accepted nw reading (effect st m) (reading.known names x) (xs ++ others)) others

@@ -12,7 +12,7 @@ use Rattle.delay_model.specs.declared.network.Network.{Network}
 use Rattle.delay_model.specs.declared.state.State.{State}
 use Rattle.delay_model.specs.declared.messages.Message.{Message}
 use Rattle.delay_model.specs.Effect.{effect}
-use Rattle.delay_model.specs.After.{after, Reading, accepted_message, accepted, known_after, Progress, after_accepted, after_line}
+use Rattle.delay_model.specs.After.{after_messages, Reading, accepted_message, accepted, known_after, Progress, after_accepted, after_line}
 use Rattle.delay_model.specs.Windows.{windows, windows_from, ends_window, lines_of, HasFlushLast, is_closed, AreWindows, between, bounds_of, accepted_bounds}
 use Rattle.delay_model.proofs.Lists.{AllPairs-cons, AllPairs-nil, AllPairs-tail}
 
@@ -162,7 +162,7 @@ bounds-at next count s (v ∷ before) later w i l =
 
 -- what messages that are accepted leave
 abbrev left-by : {N : Type 0} → Progress N → List Message → N → Progress N
-left-by p ms names = record { state = after p.state ms; names = names; count = p.count + length ms }
+left-by p ms names = record { state = after_messages p.state ms; names = names; count = p.count + length ms }
 
 -- what lines leave
 abbrev pub left : {X N : Type 0} → Network → Reading X N → Progress N → List X → Progress N
@@ -170,7 +170,7 @@ left nw reading p lines = left-by p (accepted nw reading p.state p.names lines) 
 
 progress-more : {X N : Type 0} (nw : Network) (reading : Reading X N) (p : Progress N) (names : N) (o : Option Message) (xs : List X) → ((q : Progress N) → fold (after_line nw reading) q xs ≡ left nw reading q xs) → fold (after_line nw reading) (after_accepted p names o) xs ≡ left-by p (option_map_or (λ m. m ∷ accepted nw reading (effect p.state m) names xs) o (accepted nw reading p.state p.names xs)) (option_map_or (λ m. known_after nw reading (effect p.state m) names xs) o (known_after nw reading p.state p.names xs))
 progress-more nw reading p names None xs h = h p
-progress-more nw reading p names (Some m) xs h = h _ ∙ ap (λ n. record { state = after (effect p.state m) (accepted nw reading (effect p.state m) names xs); names = known_after nw reading (effect p.state m) names xs; count = n }) (omega arith)
+progress-more nw reading p names (Some m) xs h = h _ ∙ ap (λ n. record { state = after_messages (effect p.state m) (accepted nw reading (effect p.state m) names xs); names = known_after nw reading (effect p.state m) names xs; count = n }) (omega arith)
 
 progress-after : {X N : Type 0} (nw : Network) (reading : Reading X N) (p : Progress N) (lines : List X) → fold (after_line nw reading) p lines ≡ left nw reading p lines
 progress-after nw reading p [] = ap (λ n. record p { count = n }) (omega arith)
@@ -181,7 +181,7 @@ abbrev pub beginning : {N : Type 0} → State → N → Progress N
 beginning st names = record { state = st; names = names; count = 0 }
 
 -- from the beginning lines leave the number of accepted messages
-pub progress-all : {X N : Type 0} (nw : Network) (reading : Reading X N) (st : State) (names : N) (lines : List X) → fold (after_line nw reading) (beginning st names) lines ≡ record { state = after st (accepted nw reading st names lines); names = known_after nw reading st names lines; count = length (accepted nw reading st names lines) }
+pub progress-all : {X N : Type 0} (nw : Network) (reading : Reading X N) (st : State) (names : N) (lines : List X) → fold (after_line nw reading) (beginning st names) lines ≡ record { state = after_messages st (accepted nw reading st names lines); names = known_after nw reading st names lines; count = length (accepted nw reading st names lines) }
 progress-all nw reading st names lines =
     let none : 0 + length (accepted nw reading st names lines) ≡ length (accepted nw reading st names lines) = omega arith in
     rw none at (progress-after nw reading (beginning st names) lines)

@@ -10,9 +10,9 @@ use Rattle.delay_model.specs.Effect.{effect}
 use Rattle.delay_model.specs.Refusals.{refusal}
 
 -- the state after these messages, each of which has its effect
-abbrev pub after : State → List Message → State
-after st [] = st
-after st (m ∷ ms) = after (effect st m) ms
+abbrev pub after_messages : State → List Message → State
+after_messages st [] = st
+after_messages st (m ∷ ms) = after_messages (effect st m) ms
 
 -- each of these messages is accepted in the state after those before it
 abbrev pub AreAccepted : Network → State → List Message → Type 0

@@ -3,7 +3,7 @@ use Rattle.std.specs.Prelude.{ℕ, zero, suc, ◌+◌, ◌-◌, List, [], ◌∷
 use Rattle.std.specs.List.{list_any}
 use Rattle.std.specs.FinMap.{get, insert, remove, retain_keys, len}
 use Rattle.mt_base.specs.declared.keys.Node.{Node}
-use Rattle.mt_base.specs.declared.plans.NewCall.{NewCall}
+use Rattle.mt_base.specs.declared.new_calls.NewCall.{NewCall}
 use Rattle.delay_model.specs.declared.overrides.Connection.{Connection}
 use Rattle.delay_model.specs.declared.overrides.Override.{Override}
 use Rattle.delay_model.specs.declared.overrides.Override.TheVariants.{Keep as Kept, Drop as Dropped}

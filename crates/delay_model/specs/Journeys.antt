@@ -1,7 +1,7 @@
 -- What a passenger can do at the event times, and the earliest of it.
 use Rattle.std.specs.Prelude.{◌≡◌, ℕ, ◌+◌, ◌≤◌, List, [], ◌∷◌, ◌++◌, Bool, true, Some, slice_get, All, nat_eq, MatchBool}
-use Rattle.mt_base.specs.declared.plans.Query.{Query}
-use Rattle.mt_base.specs.declared.plans.PlanRide.{PlanRide}
+use Rattle.mt_base.specs.declared.journeys.Query.{Query}
+use Rattle.mt_base.specs.declared.journeys.PlanRide.{PlanRide}
 use Rattle.delay_model.specs.declared.network.Network.{Network}
 use Rattle.delay_model.specs.declared.state.Call.{Call}
 use Rattle.delay_model.specs.declared.state.Train.{Train}

@@ -1,6 +1,6 @@
 -- What the type of the messages that are read keeps, whether they are accepted or not.
 use Rattle.std.specs.Prelude.{◌≡◌, ◌<◌, ◌≤◌, ◌^◌, true, false, All, length}
-use Rattle.mt_base.specs.declared.plans.NewCall.{NewCall}
+use Rattle.mt_base.specs.declared.new_calls.NewCall.{NewCall}
 use Rattle.delay_model.specs.declared.messages.Message.{Message}
 use Rattle.delay_model.specs.declared.messages.Message.TheVariants.{Report, Forecast, Cancel, Reroute, Extra, Keep, Drop, Rule}
 

@@ -3,7 +3,7 @@ use Rattle.std.specs.Prelude.{ℕ, List, [], ◌∷◌, ◌++◌, Bool, false, �
 use Rattle.std.specs.List.{list_any}
 use Rattle.mt_base.specs.declared.keys.Key.{Key}
 use Rattle.mt_base.specs.declared.keys.Node.{Node}
-use Rattle.mt_base.specs.declared.plans.NewCall.{NewCall}
+use Rattle.mt_base.specs.declared.new_calls.NewCall.{NewCall}
 use Rattle.mt_base.specs.Order.{is_same, node_of, is_same_node}
 use Rattle.delay_model.specs.declared.network.Network.{Network}
 use Rattle.delay_model.specs.declared.messages.Message.{Message}

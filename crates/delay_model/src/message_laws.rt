@@ -1,11 +1,11 @@
 //! Laws of messages: the state is a function of the list of accepted messages alone.
 
 ghost use Rattle.std.specs.Prelude.{◌≡◌, ◌↔◌, ◌++◌, ℕ, List, true, length, Contains, Err, Ok};
-ghost use Rattle.mt_base.specs.declared.plans.NewCall.{NewCall as ANewCall};
+ghost use Rattle.mt_base.specs.declared.new_calls.NewCall.{NewCall as ANewCall};
 ghost use Rattle.delay_model.specs.declared.state.State.{State as AState};
 ghost use Rattle.delay_model.specs.declared.messages.Message.{Message as AMessage};
 ghost use Rattle.delay_model.specs.Refusals.{is_known};
-ghost use Rattle.delay_model.specs.After.{after, accepted, known_after, AreAccepted, Reading};
+ghost use Rattle.delay_model.specs.After.{after_messages, accepted, known_after, AreAccepted, Reading};
 ghost use Rattle.delay_model.specs.Names.{TrainName, IsExtraNumber};
 
 use crate::messages::Message;
@@ -22,7 +22,7 @@ pub fn accepted_messages_decide<X, N>(nw: &Network, st: &State)
     ensures more { (reading : Reading X N) (names : N) (lines others : List X) →
         accepted nw.now reading st.now names (lines ++ others)
         ≡ accepted nw.now reading st.now names lines
-        ++ accepted nw.now reading (after st.now (accepted nw.now reading st.now names lines))
+        ++ accepted nw.now reading (after_messages st.now (accepted nw.now reading st.now names lines))
         (known_after nw.now reading st.now names lines) others }
 {}
 

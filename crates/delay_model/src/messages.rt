@@ -2,7 +2,7 @@
 
 use mt_base::keys::Node;
 use mt_base::numbers::{Day, Label, RouteNo, Time, TrainNo};
-use mt_base::plans::NewCall;
+use mt_base::new_calls::NewCall;
 use mt_base::rows::Rows;
 
 /// What a message says about trains, which it names by number.
@@ -56,7 +56,7 @@ pub enum Message {
     },
 }
 
-/// Of what too little is spare.
+/// What a timetable has too little room for.
 #[derive(Clone, Copy, Debug, PartialEq, Eq)]
 pub enum Short {
     Trains,

@@ -2,7 +2,7 @@
 //! their queries may be answered.
 
 ghost use Rattle.std.specs.Prelude.{◌≡◌, ◌↔◌, ◌++◌, ◌∷◌, ◌+◌, ◌<◌, ℕ, List, Bool, Some, length, fold, slice_get};
-ghost use Rattle.delay_model.specs.After.{after, accepted, known_after, after_line, Progress, Reading};
+ghost use Rattle.delay_model.specs.After.{after_messages, accepted, known_after, after_line, Progress, Reading};
 ghost use Rattle.delay_model.specs.Windows.{windows, lines_of, AreWindows, bounds_of, accepted_bounds, between};
 
 use crate::network::Network;
@@ -36,7 +36,7 @@ pub fn queries_are_bounded_by_accepted_messages<X, N>(nw: &Network, st: &State)
     ensures progress { (reading : Reading X N) (names : N) (lines : List X) →
         fold (after_line nw.now reading) (record { state = st.now; names = names; count = 0 }) lines
         ≡ record {
-          state = after st.now (accepted nw.now reading st.now names lines);
+          state = after_messages st.now (accepted nw.now reading st.now names lines);
           names = known_after nw.now reading st.now names lines;
           count = length (accepted nw.now reading st.now names lines);
         } }

@@ -18,7 +18,7 @@ use Rattle.delay_model.specs.Events.{event_named, is_event, events_of, train_eve
 use Rattle.delay_model.specs.Timing.{event_time}
 use Rattle.delay_model.proofs.Apart.{AreApart, events_at-train, events_at-apart}
 use Rattle.delay_model.proofs.Lists.{AllPairs-tail, AllPairs-after}
-use Rattle.edge_rules.specs.Held.{HasOwnLabels}
+use Rattle.edge_rules.specs.Inside.{HasOwnLabels}
 use Rattle.edge_rules.proofs.InLine.{not-then}
 use Rattle.edge_rules.proofs.Neighbours.{own-labels}
 use Rattle.schedule_build.specs.Directory.{Names}

@@ -5,7 +5,7 @@ use Rattle.serde_json.specs.Data.{item}
 use Rattle.serde_json.specs.View.{items_of}
 use Rattle.serde_json.specs.Written.{items_have_float}
 use Rattle.serde_json.proofs.OnLiterals.{serde_json_on_literals}
-use Rattle.mt_base.specs.declared.plans.PlanRide.{PlanRide}
+use Rattle.mt_base.specs.declared.journeys.PlanRide.{PlanRide}
 use Rattle.schedule_build.specs.Directory.{Names}
 use Rattle.delay_report.specs.Journeys.{ride_object, ride_objects}
 use Rattle.delay_report.specs.Replies.{accepted_object, line_of}

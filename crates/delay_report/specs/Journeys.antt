@@ -1,7 +1,7 @@
 -- The replies to queries: the rides of a journey, or that there is none.
 use Rattle.std.specs.Prelude.{ℕ, List, [], ◌∷◌, codes}
 use Rattle.serde_json.specs.Data.{unsigned, Data, null, number, string, array, object, Items, no_items, item, no_members, member}
-use Rattle.mt_base.specs.declared.plans.PlanRide.{PlanRide}
+use Rattle.mt_base.specs.declared.journeys.PlanRide.{PlanRide}
 use Rattle.schedule_build.specs.Directory.{Names, trip_of_train, id_of_place}
 use Rattle.delay_report.specs.Trains.{date_of_train, clock_of_train, clock_of_day}
 

@@ -29,7 +29,7 @@ bad_word lines.Shape = codes "shape"
 bad_word lines.Stop = codes "stop"
 bad_word lines.Time = codes "time"
 
--- of what too little is spare
+-- what a timetable has too little room for
 abbrev pub short_word : Short → List ℕ
 short_word shorts.Trains = codes "trains"
 short_word shorts.Calls = codes "calls"

@@ -14,7 +14,7 @@ use mt_base::keys::Node;
 use mt_base::memory::OutOfMemory;
 use mt_base::names::Name;
 use mt_base::numbers::{Day, Time};
-use mt_base::plans::PlanRide;
+use mt_base::journeys::PlanRide;
 use mt_base::rows::Rows;
 use schedule_build::Directory;
 use serde_json::Value;

@@ -5,7 +5,7 @@ ghost use Rattle.mt_base.specs.Order.{node_of};
 ghost use Rattle.delay_model.specs.Events.{event_named};
 ghost use Rattle.delay_model.specs.Timing.{event_time};
 ghost use Rattle.csv.specs.Writing.{default_writer, writer_setup, fields_written, next_sep, field_text, end_text};
-ghost use Rattle.edge_rules.specs.Held.{HasOwnLabels};
+ghost use Rattle.edge_rules.specs.Inside.{HasOwnLabels};
 ghost use Rattle.delay_report.specs.Clocks.{clock};
 ghost use Rattle.delay_report.specs.Table.{row, header, fields, rows_of_events, rows_of_train};
 ghost use Rattle.delay_report.specs.Written.{bytes_of, IsBetweenRows};

@@ -46,6 +46,7 @@ impl Model for DepartureOrder {
 
 impl DepartureOrder {
     /// These departures, which are given in the order of their keys, with room for so many more.
+    /// `OutOfMemory` where there is no memory for them.
     pub fn build(
         alloc: Global,
         departures: &[Departure],
@@ -64,7 +65,7 @@ impl DepartureOrder {
         })
     }
 
-    /// The same departures once more, with the same room.
+    /// The same departures once more, with the same room. `OutOfMemory` where there is no memory.
     pub fn copy(&self, alloc: Global) -> Result<DepartureOrder, OutOfMemory>
         ensures { IfOk result (λ copy. copy ≡ self.now) }
     {
@@ -74,7 +75,7 @@ impl DepartureOrder {
         })
     }
 
-    /// Puts a departure in whose key is not there. It takes no memory.
+    /// Puts in a departure whose key is not there. It takes no memory.
     pub fn put(&mut self, departure: &Departure)
         requires new_key { All (λ d. d.key ≢ departure.now.key) self.old.departures }
         requires room { 0 < self.old.spare }
@@ -172,7 +173,7 @@ fn numbered(
     Ok(all)
 }
 
-/// Some hours after the scheduled time of the last departure, in seconds from the base of day 0.
+/// Four hours after the scheduled time of the last departure, in seconds from the base of day 0.
 fn latest(departures: &[Departure]) -> u32 {
     match departures.last() {
         Some(departure) => departure.key.time.seconds().saturating_add(14_400),

@@ -15,7 +15,7 @@ use Rattle.delay_model.proofs.AlongTrains.{cap-at}
 use Rattle.delay_model.proofs.Apart.{events_at-train, labels-apart}
 use Rattle.train_nodes.specs.Reports.{report_after}
 use Rattle.std.proofs.lemmas.Bool.{eqb-true}
-use Rattle.edge_rules.specs.Held.{HasOwnLabels}
+use Rattle.edge_rules.specs.Inside.{HasOwnLabels}
 use Rattle.edge_rules.proofs.Beside.{cut-at}
 use Rattle.edge_rules.proofs.Neighbours.{named-at, named-is}
 

@@ -18,12 +18,12 @@ use Rattle.station_index.specs.Indexed.{Indexed}
 use Rattle.edge_rules.specs.AtEvent.{outgoing, edges_to, edges_from, along_to, along_from}
 use Rattle.edge_rules.specs.AtStops.{AreAtStops, IsAtStop}
 use Rattle.train_nodes.specs.Calls.{has_event}
-use Rattle.mt_base.specs.declared.plans.Entry.{Entry}
+use Rattle.mt_base.specs.declared.index_entries.Entry.{Entry}
 use Rattle.edge_rules.specs.Found.{planned_at, kept_at, AreNames, HaveEvents}
-use Rattle.edge_rules.specs.Held.{HasOwnLabels, IsHeld, seen}
+use Rattle.edge_rules.specs.Inside.{HasOwnLabels, IsConsistent, seen}
 use Rattle.edge_rules.specs.declared.graph.Graph.TheInside.{Inside}
 use Rattle.edge_rules.specs.Indexing.{IsIndexOf, entry_of}
-use Rattle.edge_rules.specs.Timetabled.{Timetabled}
+use Rattle.edge_rules.specs.GraphState.{GraphState}
 use Rattle.edge_rules.proofs.Caps.{there}
 use Rattle.edge_rules.proofs.FoundLemmas.{found-into, found-out, found-changing}
 use Rattle.edge_rules.proofs.ShortWaits.{AreWithin}
@@ -55,7 +55,7 @@ all-at_stops nw st h =
     events-at_stops nw at t.route t.calls (subst (λ (t : Train). All (IsAtStop nw.stops) t.calls) (get_or_from_slice_get st.trains k t t got) (h k t (slice_get_within st.trains k t got))))
 
 -- edges along trains may always change a time
-along-changes : (g : Timetabled) (n : Node) (shift : Shift) → All (λ e. may_change shift.was shift.is e ≡ true) (along_from g.network.opts g.state n)
+along-changes : (g : GraphState) (n : Node) (shift : Shift) → All (λ e. may_change shift.was shift.is e ≡ true) (along_from g.network.opts g.state n)
 unfolding outgoing
 along-changes g n shift = each (event_named g.state n) where
   P : Edge → Type 0
@@ -65,7 +65,7 @@ along-changes g n shift = each (event_named g.state n) where
   each None = All-nil P
   each (Some v) = All-filter (λ e. is_same e.from v.key) P (train_edges g.network.opts 0 g.state.trains) (train_edges-each g.network.opts g.state P (λ u w h. refl))
 
-module _ (g : Timetabled) (index : Indexed) (n : Node) (v : Event) (labels : All HasOwnLabels g.state.trains) (stops : AreAtStops g.network g.state) (is : IsIndexOf g.state index) (named : event_named g.state n ≡ Some v) where
+module _ (g : GraphState) (index : Indexed) (n : Node) (v : Event) (labels : All HasOwnLabels g.state.trains) (stops : AreAtStops g.network g.state) (is : IsIndexOf g.state index) (named : event_named g.state n ≡ Some v) where
   at-stop : is_stop g.network.stops v.stop ≡ true
   at-stop =
       let r = there g.state n v named in
@@ -109,12 +109,12 @@ index-events st index labels is =
     All-permutation P (map entry_of live) index.entries (IsPermutation-sym index.entries (map entry_of live) is.entries) (All-map P entry_of live (All-filter (λ (v : Event). v.live) (λ v. P (entry_of v)) (events st) all))
 
 -- what holds of a graph as it is seen
-pub record Holds (a : Inside) (g : Timetabled) : Type 0 where
+pub record Holds (a : Inside) (g : GraphState) : Type 0 where
   pub labels : All HasOwnLabels g.state.trains
   pub stops : AreAtStops g.network g.state
   pub index : IsIndexOf g.state a.index
   pub entries : HaveEvents g.state a.index.entries
 
-pub holds : (a : Inside) (g : Timetabled) → IsHeld a → seen a ≡ g → Holds a g
+pub holds : (a : Inside) (g : GraphState) → IsConsistent a → seen a ≡ g → Holds a g
 holds a g h is =
     subst (Holds a) is (record { labels = h.labels; stops = h.at_stops; index = h.index; entries = index-events a.trains a.index h.labels h.index })

@@ -21,9 +21,9 @@ use Rattle.state_laws.proofs.Extras.{events-push, get-push}
 use Rattle.state_laws.proofs.Placed.{placed}
 use Rattle.state_laws.proofs.Splits.{pairs-across}
 use Rattle.state_laws.proofs.Reroutes.{IsCut, cut, old-events, new-events, head, tail, fresh}
-use Rattle.mt_base.specs.declared.plans.Entry.{Entry}
+use Rattle.mt_base.specs.declared.index_entries.Entry.{Entry}
 use Rattle.station_index.specs.Indexed.{Indexed}
-use Rattle.edge_rules.specs.Held.{HasOwnLabels}
+use Rattle.edge_rules.specs.Inside.{HasOwnLabels}
 use Rattle.edge_rules.specs.Indexing.{IsIndexOf, entries_of, entry_of, new_entries}
 use Rattle.edge_rules.proofs.EntryCounts.{count_of, count-append, count-once}
 use Rattle.edge_rules.proofs.IndexChanges.{AreOf, IsChange}

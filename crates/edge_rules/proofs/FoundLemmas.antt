@@ -5,7 +5,7 @@ use Rattle.std.specs.List.Sorted.{IsPermutation}
 use Rattle.std.specs.Option.{option_map, option_map_or}
 use Rattle.std.proofs.lemmas.Bool.{and_parts, cases_Bool}
 use Rattle.std.proofs.lemmas.Bool.Decides.{nat_tests}
-use Rattle.mt_base.specs.declared.plans.Entry.{Entry}
+use Rattle.mt_base.specs.declared.index_entries.Entry.{Entry}
 use Rattle.mt_base.specs.declared.tables.StopRow.{StopRow}
 use Rattle.mt_base.specs.declared.keys.Node.{Node}
 use Rattle.mt_base.specs.Order.{node_of, node_cmp, is_same_node}
@@ -34,9 +34,9 @@ use Rattle.edge_rules.specs.Deciding.{may_change}
 use Rattle.edge_rules.specs.Found.{first_near, last_near, tables_in, planned_between, planned_by, planned_with, planned_at, kept_at, of_name}
 use Rattle.edge_rules.specs.declared.wanted.Shift.{Shift}
 use Rattle.edge_rules.specs.declared.wanted.Wanted.TheVariants.{Into, From, Changing}
-use Rattle.edge_rules.specs.Held.{HasOwnLabels}
+use Rattle.edge_rules.specs.Inside.{HasOwnLabels}
 use Rattle.edge_rules.specs.Indexing.{entry_of}
-use Rattle.edge_rules.specs.Timetabled.{Timetabled}
+use Rattle.edge_rules.specs.GraphState.{GraphState}
 use Rattle.edge_rules.specs.Transfers.{transfer_between, transfers_to}
 use Rattle.edge_rules.proofs.InLine.{append-none, not-then}
 use Rattle.edge_rules.proofs.Neighbours.{named-is}
@@ -47,7 +47,7 @@ use Rattle.edge_rules.proofs.PlannedLemmas.{found-planned}
 use Rattle.edge_rules.proofs.KeptLemmas.{by_name, never-named, once-named, found-kept}
 
 -- the edge between two trains from u to v where nothing was chosen for the connection
-abbrev pub unchosen : Timetabled → Event → Event → List Edge
+abbrev pub unchosen : GraphState → Event → Event → List Edge
 unchosen g u v = cond (is_none (override_of g.state u v)) (transfer_between g u v) []
 
 -- an event is planned to be reached only in the range that is searched
@@ -66,17 +66,17 @@ near-changing : (nw : Network) (u v : Event) (w wait : ℕ) (shift : Shift) → 
 near-changing nw u v w wait shift short far joined planned = grind (arith, nat_tests)
 
 -- the edge to v by the change that is found is the planned one
-into-piece : (g : Timetabled) (u v : Event) (o : Option ℕ) → change_between g.network u v ≡ o → cond u.live (option_map_or (λ (c : Change). cond (is_in_range c.stop false (v.key.time - c.seconds - g.network.opts.window) (v.key.time - c.seconds) (entry_of u)) (planned_between g c.seconds u v) []) (option_map (λ s. record { stop = u.stop; seconds = s }) o) []) [] ≡ unchosen g u v
+into-piece : (g : GraphState) (u v : Event) (o : Option ℕ) → change_between g.network u v ≡ o → cond u.live (option_map_or (λ (c : Change). cond (is_in_range c.stop false (v.key.time - c.seconds - g.network.opts.window) (v.key.time - c.seconds) (entry_of u)) (planned_between g c.seconds u v) []) (option_map (λ s. record { stop = u.stop; seconds = s }) o) []) [] ≡ unchosen g u v
 unfolding transfer
 into-piece g u v None e = grind (arith, nat_tests)
 into-piece g u v (Some w) e = grind (arith, nat_tests, near-into g.network u v w (wait_between g.network u v))
 
-out-piece : (g : Timetabled) (u v : Event) (o : Option ℕ) → change_between g.network u v ≡ o → cond v.live (option_map_or (λ (c : Change). cond (is_in_range c.stop true (u.key.time + c.seconds) (u.key.time + c.seconds + g.network.opts.window) (entry_of v)) (planned_between g c.seconds u v) []) (option_map (λ s. record { stop = v.stop; seconds = s }) o) []) [] ≡ unchosen g u v
+out-piece : (g : GraphState) (u v : Event) (o : Option ℕ) → change_between g.network u v ≡ o → cond v.live (option_map_or (λ (c : Change). cond (is_in_range c.stop true (u.key.time + c.seconds) (u.key.time + c.seconds + g.network.opts.window) (entry_of v)) (planned_between g c.seconds u v) []) (option_map (λ s. record { stop = v.stop; seconds = s }) o) []) [] ≡ unchosen g u v
 unfolding transfer
 out-piece g u v None e = grind (arith, nat_tests)
 out-piece g u v (Some w) e = grind (arith, nat_tests, near-out g.network u v w (wait_between g.network u v))
 
-narrowed : (g : Timetabled) (u v : Event) (w : ℕ) (shift : Shift) → wait_between g.network u v ≤ shift.longest_wait → cond (is_in_range v.stop true (first_near g.network.opts.window (Changing shift) u.key.time w) (last_near g.network.opts.window (Changing shift) u.key.time w) (entry_of v)) (filter (may_change shift.was shift.is) (planned_between g w u v)) [] ≡ filter (may_change shift.was shift.is) (cond (is_in_range v.stop true (u.key.time + w) (u.key.time + w + g.network.opts.window) (entry_of v)) (planned_between g w u v) [])
+narrowed : (g : GraphState) (u v : Event) (w : ℕ) (shift : Shift) → wait_between g.network u v ≤ shift.longest_wait → cond (is_in_range v.stop true (first_near g.network.opts.window (Changing shift) u.key.time w) (last_near g.network.opts.window (Changing shift) u.key.time w) (entry_of v)) (filter (may_change shift.was shift.is) (planned_between g w u v)) [] ≡ filter (may_change shift.was shift.is) (cond (is_in_range v.stop true (u.key.time + w) (u.key.time + w + g.network.opts.window) (entry_of v)) (planned_between g w u v) [])
 narrowed g u v w shift short =
     let wait = wait_between g.network u v in
     let p = may_change shift.was shift.is in
@@ -99,7 +99,7 @@ filter-cond : (p : Edge → Bool) (b : Bool) (es : List Edge) → cond b (filter
 filter-cond p true es = refl
 filter-cond p false es = refl
 
-changing-piece : (g : Timetabled) (u v : Event) (shift : Shift) (o : Option ℕ) → wait_between g.network u v ≤ shift.longest_wait → change_between g.network u v ≡ o → cond v.live (option_map_or (λ (c : Change). cond (is_in_range c.stop true (first_near g.network.opts.window (Changing shift) u.key.time c.seconds) (last_near g.network.opts.window (Changing shift) u.key.time c.seconds) (entry_of v)) (filter (may_change shift.was shift.is) (planned_between g c.seconds u v)) []) (option_map (λ s. record { stop = v.stop; seconds = s }) o) []) [] ≡ filter (may_change shift.was shift.is) (unchosen g u v)
+changing-piece : (g : GraphState) (u v : Event) (shift : Shift) (o : Option ℕ) → wait_between g.network u v ≤ shift.longest_wait → change_between g.network u v ≡ o → cond v.live (option_map_or (λ (c : Change). cond (is_in_range c.stop true (first_near g.network.opts.window (Changing shift) u.key.time c.seconds) (last_near g.network.opts.window (Changing shift) u.key.time c.seconds) (entry_of v)) (filter (may_change shift.was shift.is) (planned_between g c.seconds u v)) []) (option_map (λ s. record { stop = v.stop; seconds = s }) o) []) [] ≡ filter (may_change shift.was shift.is) (unchosen g u v)
 changing-piece g u v shift None short e =
     filter-cond (may_change shift.was shift.is) v.live [] ∙ ap (filter (may_change shift.was shift.is)) (out-piece g u v None e)
 changing-piece g u v shift (Some w) short e =
@@ -108,7 +108,7 @@ changing-piece g u v shift (Some w) short e =
     ∙ ap (filter (may_change shift.was shift.is)) (out-piece g u v (Some w) e)
 
 -- what was chosen decides
-chosen : (g : Timetabled) (u v : Event) → transfer_between g u v ≡ unchosen g u v ++ option_map_or (λ (o : Override). transfer g.network (Some o) u v) (override_of g.state u v) []
+chosen : (g : GraphState) (u v : Event) → transfer_between g u v ≡ unchosen g u v ++ option_map_or (λ (o : Override). transfer g.network (Some o) u v) (override_of g.state u v) []
 chosen g u v = chosen-by (override_of g.state u v) where
   chosen-by : (o : Option Override) → transfer g.network o u v ≡ cond (is_none o) (transfer g.network o u v) [] ++ option_map_or (λ (o : Override). transfer g.network (Some o) u v) o []
   chosen-by None = sym (append-none _)
@@ -140,7 +140,7 @@ stop-within stops s h = within (slice_get stops s) refl h where
   within None e h = absurd (cc)
   within (Some row) e h = slice_get_within stops s row e
 
-module _ (g : Timetabled) (es : List Entry) (index : IsPermutation es (map entry_of (live_events (events g.state)))) (named : All (λ u. event_named g.state (node_of u.key) ≡ Some u) (events g.state)) (stops : All (λ u. is_stop g.network.stops u.stop ≡ true) (events g.state)) where
+module _ (g : GraphState) (es : List Entry) (index : IsPermutation es (map entry_of (live_events (events g.state)))) (named : All (λ u. event_named g.state (node_of u.key) ≡ Some u) (events g.state)) (stops : All (λ u. is_stop g.network.stops u.stop ≡ true) (events g.state)) where
   abbrev all : List Event
   all = events g.state
 

@@ -1,7 +1,7 @@
 -- An index from which entries are taken out, and into which others are put.
 use Rattle.state_laws.proofs.Words.{◌≡◌, ◌+◌, ◌≤◌, List, [], ◌∷◌, length, refl, arith, cond, events, State}
 use Rattle.std.proofs.Common.{◌*◌}
-use Rattle.mt_base.specs.declared.plans.Entry.{Entry}
+use Rattle.mt_base.specs.declared.index_entries.Entry.{Entry}
 use Rattle.station_index.proofs.EntryLemmas.{same_entry-itself}
 use Rattle.station_index.specs.Indexed.{Indexed, is_same_entry, with_entry, without_entry}
 use Rattle.edge_rules.specs.Indexing.{AreNew, AreThere, IsIndexOf, entries_of, put_in, taken_out, with_entries, without_entries}

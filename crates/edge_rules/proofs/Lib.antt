@@ -23,4 +23,4 @@ pub mod EventChanges
 pub mod StopsKept
 pub mod Walks
 pub mod Listing
-pub mod HeldLemmas
+pub mod InsideLemmas

@@ -23,12 +23,12 @@ use Rattle.state_laws.proofs.Parts.{All-left, All-right}
 use Rattle.mt_base.specs.Order.{node_of}
 use Rattle.train_nodes.specs.Times.{has_time}
 use Rattle.edge_rules.specs.AtEvent.{along_to, edges_to, stored_time, local_at}
-use Rattle.edge_rules.specs.Held.{HasOwnLabels}
-use Rattle.edge_rules.specs.Timetabled.{Timetabled}
+use Rattle.edge_rules.specs.Inside.{HasOwnLabels}
+use Rattle.edge_rules.specs.GraphState.{GraphState}
 use Rattle.edge_rules.proofs.Caps.{cap-is}
 
 -- the rule at an event: its report, or else what the edges to it ask for from its floor on, up to the next report of its train
-pub rule-at : (g : Timetabled) (k : StoredTimes) (n : Node) (v : Event) (x t : ℕ) → All HasOwnLabels g.state.trains → event_named g.state n ≡ Some v → x ≡ fold (later (stored_time k)) (floor_of v) (edges_to g n) → t ≡ unwrap_or v.report (capped (report_after g.state n) x) → local_at g k n ≡ Some t
+pub rule-at : (g : GraphState) (k : StoredTimes) (n : Node) (v : Event) (x t : ℕ) → All HasOwnLabels g.state.trains → event_named g.state n ≡ Some v → x ≡ fold (later (stored_time k)) (floor_of v) (edges_to g n) → t ≡ unwrap_or v.report (capped (report_after g.state n) x) → local_at g k n ≡ Some t
 unfolding local
 rule-at g k n v x t labels named asked is =
     ap (option_map (local (events g.state) (edges g.network g.state) (stored_time k))) named
@@ -86,7 +86,7 @@ module _ (k : StoredTimes) where
       }
 
   -- the edges to an event: along its train, and those between trains
-  module _ (g : Timetabled) (n : Node) (v : Event) (labels : All HasOwnLabels g.state.trains) (is : node_of v.key ≡ n) (named : event_named g.state (node_of v.key) ≡ Some v) where
+  module _ (g : GraphState) (n : Node) (v : Event) (labels : All HasOwnLabels g.state.trains) (is : node_of v.key ≡ n) (named : event_named g.state (node_of v.key) ≡ Some v) where
     abbrev along : List ModelEdge
     along = along_to g.network.opts g.state (node_of v.key)
 

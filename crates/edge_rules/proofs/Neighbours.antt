@@ -25,7 +25,7 @@ use Rattle.state_laws.proofs.Parts.{events-from_each}
 use Rattle.train_nodes.specs.Calls.{has_event, first_label, last_label}
 use Rattle.train_nodes.proofs.EventLemmas.{event_of_call, found_event}
 use Rattle.edge_rules.specs.AtEvent.{outgoing, along_to, along_from}
-use Rattle.edge_rules.specs.Held.{HasOwnLabels}
+use Rattle.edge_rules.specs.Inside.{HasOwnLabels}
 use Rattle.edge_rules.specs.Neighbours.{previous_of, previous_by, next_of, next_by}
 use Rattle.edge_rules.proofs.InLine.{find-own, self-found, along-into, along-out, edge_before, edge_before-last}
 use Rattle.edge_rules.proofs.Own.{own-train}

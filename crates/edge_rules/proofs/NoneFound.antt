@@ -6,7 +6,7 @@ use Rattle.std.specs.FinMap.{FinMap, get-empty, empty_of_len}
 use Rattle.std.specs.Option.{option_map, option_map_or}
 use Rattle.std.proofs.lemmas.Bool.Decides.{nat_tests}
 use Rattle.mt_base.specs.declared.keys.Node.{Node}
-use Rattle.mt_base.specs.declared.plans.Entry.{Entry}
+use Rattle.mt_base.specs.declared.index_entries.Entry.{Entry}
 use Rattle.mt_base.specs.declared.tables.RuleRow.{RuleRow}
 use Rattle.mt_base.specs.Order.{node_of}
 use Rattle.delay_model.specs.declared.network.Network.{Network}
@@ -22,7 +22,7 @@ use Rattle.train_nodes.specs.Calls.{has_call}
 use Rattle.train_nodes.proofs.KeepLemmas.{into-each, from-each}
 use Rattle.std.proofs.lemmas.Bool.{eqb-true}
 use Rattle.edge_rules.specs.Found.{are_into, can_be_at, first_near, last_near, HaveEvents, planned_with, planned_by, planned_at, kept_with, kept_names, kept_at, of_name, joined_stops, names_near, tables_in}
-use Rattle.edge_rules.specs.Timetabled.{Timetabled}
+use Rattle.edge_rules.specs.GraphState.{GraphState}
 use Rattle.edge_rules.specs.declared.wanted.Wanted.{Wanted}
 use Rattle.edge_rules.specs.declared.wanted.Wanted.TheVariants.{Into, From, Changing}
 use Rattle.waiting_rules.specs.WaitTable.{WaitsAt}
@@ -41,33 +41,33 @@ of-none f none (Some u) = none u
 names-none : (st : State) (f : Event → List Edge) → ((u : Event) → f u ≡ []) → (ns : List Node) → flat_map (of_name st f) ns ≡ []
 names-none st f none ns = pieces-none (of_name st f) ns (λ i d l. of-none f none (event_named st (get_or ns i d)))
 
-planned-none : (g : Timetabled) (es : List Entry) (wanted : Wanted) (v : Event) → ((w : ℕ) (u : Event) → planned_with g wanted v w u ≡ []) → planned_at g es wanted v ≡ []
+planned-none : (g : GraphState) (es : List Entry) (wanted : Wanted) (v : Event) → ((w : ℕ) (u : Event) → planned_with g wanted v w u ≡ []) → planned_at g es wanted v ≡ []
 planned-none g es wanted v none =
     let cs = joined_stops (tables_in g.network) (are_into wanted) v.stop in
     pieces-none (planned_by g es wanted v) cs (λ i d l.
     let c = get_or cs i d in names-none g.state (planned_with g wanted v c.seconds) (none c.seconds) (names_near g.network.opts.window es wanted v.key.time c))
 
 -- edges between trains lead to departures and leave arrivals, and change nothing by a time that is not after the schedule
-pub planned-cannot : (g : Timetabled) (es : List Entry) (wanted : Wanted) (v : Event) → can_be_at wanted v ≡ false → planned_at g es wanted v ≡ []
+pub planned-cannot : (g : GraphState) (es : List Entry) (wanted : Wanted) (v : Event) → can_be_at wanted v ≡ false → planned_at g es wanted v ≡ []
 planned-cannot g es wanted v h = planned-none g es wanted v (λ w u. none wanted h w u) where
   none : (wanted : Wanted) → can_be_at wanted v ≡ false → (w : ℕ) (u : Event) → planned_with g wanted v w u ≡ []
   none (Into waits) h w u = grind arith
   none From h w u = grind arith
   none (Changing shift) h w u = grind (arith, nat_tests)
 
-pub kept-other : (g : Timetabled) (into : Bool) (v : Event) → not (beq v.key.dep into) ≡ true → kept_at g into v ≡ []
+pub kept-other : (g : GraphState) (into : Bool) (v : Event) → not (beq v.key.dep into) ≡ true → kept_at g into v ≡ []
 unfolding transfer
 kept-other g true v other = names-none g.state (kept_with g true v) (λ u. grind arith) (kept_names g.state true (node_of v.key))
 kept-other g false v other = names-none g.state (kept_with g false v) (λ u. grind arith) (kept_names g.state false (node_of v.key))
 
 -- where the one train does not wait for the other
-no-wait-piece : (g : Timetabled) (wanted : Wanted) (v : Event) (w : ℕ) (u : Event) → (are_into wanted ≡ true → wait_between g.network u v ≡ 0) → (are_into wanted ≡ false → wait_between g.network v u ≡ 0) → planned_with g wanted v w u ≡ []
+no-wait-piece : (g : GraphState) (wanted : Wanted) (v : Event) (w : ℕ) (u : Event) → (are_into wanted ≡ true → wait_between g.network u v ≡ 0) → (are_into wanted ≡ false → wait_between g.network v u ≡ 0) → planned_with g wanted v w u ≡ []
 no-wait-piece g (Into waits) v w u into from = let zero = into refl in grind (arith, nat_tests)
 no-wait-piece g From v w u into from = let zero = from refl in grind (arith, nat_tests)
 no-wait-piece g (Changing shift) v w u into from = let zero = from refl in grind (arith, nat_tests)
 
 -- where no train waits at the stop of a change
-pub planned-unwaited : (g : Timetabled) (es : List Entry) (wanted : Wanted) (v : Event) (c : Change) → HaveEvents g.state es → are_into wanted ≡ false → ((feeder connecting : ℕ) → wait g.network.stops g.network.rules feeder connecting c.stop ≡ 0) → planned_by g es wanted v c ≡ []
+pub planned-unwaited : (g : GraphState) (es : List Entry) (wanted : Wanted) (v : Event) (c : Change) → HaveEvents g.state es → are_into wanted ≡ false → ((feeder connecting : ℕ) → wait g.network.stops g.network.rules feeder connecting c.stop ≡ 0) → planned_by g es wanted v c ≡ []
 planned-unwaited g es wanted v c h from none =
     let window = g.network.opts.window in
     let f = planned_with g wanted v c.seconds in
@@ -94,7 +94,7 @@ names-none_near window es wanted time c empty =
       past e first last empty = grind (arith, nat_tests)
 
 -- a departure whose train waits for none
-pub planned-no_wait : (g : Timetabled) (es : List Entry) (waits : WaitsAt) (v : Event) → ((u : Event) → wait_between g.network u v ≡ 0) → planned_at g es (Into waits) v ≡ []
+pub planned-no_wait : (g : GraphState) (es : List Entry) (waits : WaitsAt) (v : Event) → ((u : Event) → wait_between g.network u v ≡ 0) → planned_at g es (Into waits) v ≡ []
 planned-no_wait g es waits v h = planned-none g es (Into waits) v (λ w u. let zero = h u in grind (arith, nat_tests))
 
 -- no train waits where there is no rule
@@ -103,7 +103,7 @@ unfolding wait
 no-wait nw u v [] h = refl
 no-wait nw u v (row ∷ rows) h = absurd (let e = eqb-true _ _ h in omega arith)
 
-pub planned-no_rules : (g : Timetabled) (es : List Entry) (wanted : Wanted) (v : Event) → nat_eq (length g.network.rules) 0 ≡ true → planned_at g es wanted v ≡ []
+pub planned-no_rules : (g : GraphState) (es : List Entry) (wanted : Wanted) (v : Event) → nat_eq (length g.network.rules) 0 ≡ true → planned_at g es wanted v ≡ []
 planned-no_rules g es wanted v h = planned-none g es wanted v (λ w u. no-wait-piece g wanted v w u (λ _. no-wait g.network u v g.network.rules h) (λ _. no-wait g.network v u g.network.rules h))
 
 -- nothing is kept or dropped where there is no override
@@ -114,7 +114,7 @@ no-members : {X : Type 0} (xs : List X) → ((x : X) → Contains xs x → ⊥) 
 no-members [] none = refl
 no-members (x ∷ xs) none = absurd (none x (0, omega arith, refl))
 
-pub kept-no_overrides : (g : Timetabled) (into : Bool) (v : Event) → nat_eq (finmap.len g.state.overrides) 0 ≡ true → kept_at g into v ≡ []
+pub kept-no_overrides : (g : GraphState) (into : Bool) (v : Event) → nat_eq (finmap.len g.state.overrides) 0 ≡ true → kept_at g into v ≡ []
 kept-no_overrides g into v h =
     let m = g.state.overrides in
     let n = node_of v.key in

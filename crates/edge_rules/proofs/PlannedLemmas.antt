@@ -4,7 +4,7 @@ use Rattle.std.specs.List.{range_with_len}
 use Rattle.std.specs.List.Sorted.{IsPermutation}
 use Rattle.std.specs.Option.{option_map_or}
 use Rattle.std.proofs.lemmas.List.Sorted.{IsPermutation-trans}
-use Rattle.mt_base.specs.declared.plans.Entry.{Entry}
+use Rattle.mt_base.specs.declared.index_entries.Entry.{Entry}
 use Rattle.mt_base.specs.Order.{node_of}
 use Rattle.delay_model.specs.declared.state.State.{State}
 use Rattle.delay_model.specs.declared.state.Event.{Event}

@@ -19,7 +19,7 @@ use Rattle.delay_model.specs.Waits.{wait, is_rule_for}
 use Rattle.delay_model.proofs.Lists.{All-flat_map}
 use Rattle.edge_rules.specs.AtEvent.{outgoing, edges_to, edges_from}
 use Rattle.edge_rules.specs.Found.{wait_of}
-use Rattle.edge_rules.specs.Timetabled.{Timetabled}
+use Rattle.edge_rules.specs.GraphState.{GraphState}
 
 abbrev pub IsShort : Edge → Type 0
 IsShort e = wait_of e.kind ≤ 86400
@@ -56,7 +56,7 @@ trains-short o first [] = All-nil IsShort
 trains-short o first (t ∷ ts) =
     All-append IsShort (edges_along o (events_of first t)) (train_edges o (first + 1) ts) (along-short o (events_of first t)) (trains-short o (first + 1) ts)
 
-all-short : (g : Timetabled) → AreShort g.network.rules → All IsShort (edges g.network g.state)
+all-short : (g : GraphState) → AreShort g.network.rules → All IsShort (edges g.network g.state)
 unfolding edges
 all-short g h =
     let es = events g.state in
@@ -70,10 +70,10 @@ if-there : (o : Option Event) (f : Event → List Edge) → ((v : Event) → All
 if-there None f h = All-nil IsShort
 if-there (Some v) f h = h v
 
-pub to-short : (g : Timetabled) (n : Node) → AreShort g.network.rules → All IsShort (edges_to g n)
+pub to-short : (g : GraphState) (n : Node) → AreShort g.network.rules → All IsShort (edges_to g n)
 unfolding incoming
 to-short g n h = if-there (event_named g.state n) _ (λ v. All-filter (λ e. is_same e.to v.key) IsShort (edges g.network g.state) (all-short g h))
 
-pub from-short : (g : Timetabled) (n : Node) → AreShort g.network.rules → All IsShort (edges_from g n)
+pub from-short : (g : GraphState) (n : Node) → AreShort g.network.rules → All IsShort (edges_from g n)
 unfolding outgoing
 from-short g n h = if-there (event_named g.state n) _ (λ v. All-filter (λ e. is_same e.from v.key) IsShort (edges g.network g.state) (all-short g h))

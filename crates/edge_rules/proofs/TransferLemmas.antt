@@ -16,8 +16,8 @@ use Rattle.delay_model.specs.Timing.{incoming}
 use Rattle.delay_model.proofs.Lists.{AllPairs-after, All-flat_map}
 use Rattle.delay_model.proofs.Apart.{AreApart, labels-apart}
 use Rattle.edge_rules.specs.AtEvent.{outgoing, edges_to, edges_from, along_to, along_from}
-use Rattle.edge_rules.specs.Held.{HasOwnLabels}
-use Rattle.edge_rules.specs.Timetabled.{Timetabled}
+use Rattle.edge_rules.specs.Inside.{HasOwnLabels}
+use Rattle.edge_rules.specs.GraphState.{GraphState}
 use Rattle.edge_rules.specs.Transfers.{transfer_between}
 use Rattle.edge_rules.proofs.InLine.{filter-none, append-none, AllPairs-before, apart-left}
 use Rattle.edge_rules.proofs.Caps.{IsThere, there}
@@ -40,11 +40,11 @@ record Joins (u v : Event) (e : Edge) : Type 0 where
   from_end : e.from ≡ u.key
   to_end : e.to ≡ v.key
 
-joins : (g : Timetabled) (u v : Event) → All (Joins u v) (transfer_between g u v)
+joins : (g : GraphState) (u v : Event) → All (Joins u v) (transfer_between g u v)
 unfolding transfer
 joins g u v = grind (arith, All-cons (Joins u v), All-nil (Joins u v))
 
-module _ (g : Timetabled) (n : Node) (v : Event) (labels : All HasOwnLabels g.state.trains) (named : event_named g.state n ≡ Some v) where
+module _ (g : GraphState) (n : Node) (v : Event) (labels : All HasOwnLabels g.state.trains) (named : event_named g.state n ≡ Some v) where
   abbrev es : List Event
   es = events g.state
 

@@ -12,19 +12,19 @@ use Rattle.delay_model.specs.Events.{events, event_named}
 use Rattle.delay_model.specs.Edges.{edges, train_edges}
 use Rattle.delay_model.specs.Timing.{incoming, local}
 use Rattle.train_nodes.specs.Times.{StoredTimes, time_of}
-use Rattle.edge_rules.specs.Timetabled.{Timetabled}
+use Rattle.edge_rules.specs.GraphState.{GraphState}
 
 -- the edges that leave an event
 unfoldable pub outgoing : List Edge → Key → List Edge
 outgoing gs k = filter (λ e. is_same e.from k) gs
 
 -- the edges that lead to the event of this name
-abbrev pub edges_to : Timetabled → Node → List Edge
+abbrev pub edges_to : GraphState → Node → List Edge
 edges_to g n = option_map_or (λ (v : Event). incoming (edges g.network g.state) v.key)
     (event_named g.state n) []
 
 -- the edges that leave the event of this name
-abbrev pub edges_from : Timetabled → Node → List Edge
+abbrev pub edges_from : GraphState → Node → List Edge
 edges_from g n = option_map_or (λ (v : Event). outgoing (edges g.network g.state) v.key)
     (event_named g.state n) []
 
@@ -33,7 +33,7 @@ abbrev pub stored_time : StoredTimes → Key → ℕ
 stored_time k key = unwrap_or (time_of k (node_of key)) 0
 
 -- the local rule at the event of this name, from stored times, if the event is there
-abbrev pub local_at : Timetabled → StoredTimes → Node → Option ℕ
+abbrev pub local_at : GraphState → StoredTimes → Node → Option ℕ
 local_at g k n = option_map (local (events g.state) (edges g.network g.state) (stored_time k))
     (event_named g.state n)
 

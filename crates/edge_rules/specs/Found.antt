@@ -4,7 +4,7 @@ use Rattle.std.specs.Prelude.{All, ℕ, ◌≡◌, ◌+◌, ◌-◌, min, max, L
 use Rattle.std.specs.Prelude.{◌&&◌, nat_lt, is_none, if◌then◌else◌, Some, None, filter, flat_map}
 use Rattle.std.specs.Option.{option_map, option_map_or}
 use Rattle.mt_base.specs.declared.keys.Node.{Node}
-use Rattle.mt_base.specs.declared.plans.Entry.{Entry}
+use Rattle.mt_base.specs.declared.index_entries.Entry.{Entry}
 use Rattle.mt_base.specs.Order.{node_of}
 use Rattle.delay_model.specs.declared.network.Network.{Network}
 use Rattle.delay_model.specs.declared.overrides.Override.TheVariants.{Keep}
@@ -24,7 +24,7 @@ use Rattle.train_nodes.specs.Keeps.{kept_into, kept_from}
 use Rattle.station_index.specs.Indexed.{nodes_in}
 use Rattle.waiting_rules.specs.WaitTable.{WaitsAt, wait_table}
 use Rattle.edge_rules.specs.Deciding.{may_change}
-use Rattle.edge_rules.specs.Timetabled.{Timetabled}
+use Rattle.edge_rules.specs.GraphState.{GraphState}
 use Rattle.edge_rules.specs.declared.wanted.Wanted.{Wanted}
 use Rattle.edge_rules.specs.declared.wanted.Wanted.TheVariants.{Into, From, Changing}
 
@@ -72,19 +72,19 @@ names_near window es wanted time c = nodes_in c.stop (not (are_into wanted))
     (first_near window wanted time c.seconds) (last_near window wanted time c.seconds) es
 
 -- the edge that is planned from u to v by a change of w seconds, where nothing was chosen for it
-abbrev pub planned_between : Timetabled → ℕ → Event → Event → List Edge
+abbrev pub planned_between : GraphState → ℕ → Event → Event → List Edge
 planned_between g w u v = if may_connect u v && is_none (override_of g.state u v)
     then edge_by_change g.network None u v (Some w) else []
 
 -- the planned edge from another event to v, or from v to the other, if it is wanted
-abbrev pub planned_with : Timetabled → Wanted → Event → ℕ → Event → List Edge
+abbrev pub planned_with : GraphState → Wanted → Event → ℕ → Event → List Edge
 planned_with g (Into waits) v w u = planned_between g w u v
 planned_with g From v w u = planned_between g w v u
 planned_with g (Changing shift) v w u =
     filter (may_change shift.was shift.is) (planned_between g w v u)
 
 -- the edge from another event to v (into), or from v to the other, where the connection is kept
-abbrev pub kept_with : Timetabled → Bool → Event → Event → List Edge
+abbrev pub kept_with : GraphState → Bool → Event → Event → List Edge
 kept_with g into v u = if into then transfer g.network (Some Keep) u v
     else transfer g.network (Some Keep) v u
 
@@ -93,12 +93,12 @@ abbrev pub of_name : State → (Event → List Edge) → Node → List Edge
 of_name st f n = option_map_or f (event_named st n) []
 
 -- the planned edges to v, or from v, by a change from or to one stop
-abbrev pub planned_by : Timetabled → List Entry → Wanted → Event → Change → List Edge
+abbrev pub planned_by : GraphState → List Entry → Wanted → Event → Change → List Edge
 planned_by g es wanted v c = flat_map (of_name g.state (planned_with g wanted v c.seconds))
     (names_near g.network.opts.window es wanted v.key.time c)
 
 -- the planned edges to v, or from v
-abbrev pub planned_at : Timetabled → List Entry → Wanted → Event → List Edge
+abbrev pub planned_at : GraphState → List Entry → Wanted → Event → List Edge
 planned_at g es wanted v = flat_map (planned_by g es wanted v)
     (joined_stops (tables_in g.network) (are_into wanted) v.stop)
 
@@ -107,7 +107,7 @@ abbrev pub kept_names : State → Bool → Node → List Node
 kept_names st into n = if into then kept_into st.overrides n else kept_from st.overrides n
 
 -- the kept edges to v (into), or from v
-abbrev pub kept_at : Timetabled → Bool → Event → List Edge
+abbrev pub kept_at : GraphState → Bool → Event → List Edge
 kept_at g into v = flat_map (of_name g.state (kept_with g into v))
     (kept_names g.state into (node_of v.key))
 
@@ -120,7 +120,7 @@ abbrev pub HaveEvents : State → List Entry → Type 0
 HaveEvents st es = All (λ e. option_map (λ v. v.stop) (event_named st e.node) ≡ Some e.stop) es
 
 -- how long the train of a departure waits, by the routes of late feeders
-abbrev pub waits_at : Timetabled → Event → WaitsAt
+abbrev pub waits_at : GraphState → Event → WaitsAt
 waits_at g v = record {
   table = wait_table g.network.stops g.network.rules;
   connecting = v.route;
@@ -128,7 +128,7 @@ waits_at g v = record {
 }
 
 -- the waits by which edges to an event are looked for are those of it
-abbrev pub AreWaitsAt : Timetabled → Event → Wanted → Type 0
+abbrev pub AreWaitsAt : GraphState → Event → Wanted → Type 0
 AreWaitsAt g v (Into waits) = waits ≡ waits_at g v
 AreWaitsAt g v From = Unit {0}
 AreWaitsAt g v (Changing shift) = Unit {0}

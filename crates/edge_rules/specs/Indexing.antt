@@ -1,8 +1,8 @@
 -- Which entries the index of events has, and how it is changed entry by entry.
 use Rattle.std.specs.Prelude.{ℕ, ◌+◌, ◌-◌, ◌*◌, ◌<◌, ◌≤◌, List, [], ◌∷◌, false, true, map, Contains}
 use Rattle.std.specs.List.Sorted.{IsPermutation}
-use Rattle.mt_base.specs.declared.plans.Entry.{Entry}
-use Rattle.mt_base.specs.declared.plans.NewCall.{NewCall}
+use Rattle.mt_base.specs.declared.index_entries.Entry.{Entry}
+use Rattle.mt_base.specs.declared.new_calls.NewCall.{NewCall}
 use Rattle.mt_base.specs.Order.{node_of}
 use Rattle.delay_model.specs.declared.state.Event.{Event}
 use Rattle.delay_model.specs.declared.state.State.{State}

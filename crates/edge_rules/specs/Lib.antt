@@ -1,11 +1,11 @@
 pub mod AtStops
 pub mod Indexing
-pub mod Timetabled
+pub mod GraphState
 pub mod AtEvent
 pub mod Asking
-pub mod Held
+pub mod Inside
 pub mod Neighbours
 pub mod Transfers
 pub mod Deciding
 pub mod Found
-pub mod HeldPlanned
+pub mod InsidePlanned

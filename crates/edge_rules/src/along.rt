@@ -7,7 +7,7 @@ ghost use Rattle.delay_model.specs.Edges.{edge_on, minimum_between};
 ghost use Rattle.delay_model.specs.Events.{event_named};
 ghost use Rattle.train_nodes.specs.Calls.{has_event};
 ghost use Rattle.edge_rules.specs.AtEvent.{along_to, along_from};
-ghost use Rattle.edge_rules.specs.Held.{HasOwnLabels};
+ghost use Rattle.edge_rules.specs.Inside.{HasOwnLabels};
 ghost use Rattle.edge_rules.specs.Neighbours.{previous_of, next_of};
 
 use delay_model::state::{Edge, EdgeKind, Event};

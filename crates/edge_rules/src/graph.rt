@@ -26,9 +26,9 @@ ghost use Rattle.edge_rules.specs.Asking.{IsLater, IsReady};
 ghost use Rattle.edge_rules.specs.AtEvent.{along_to, edges_to, edges_from, stored_time, local_at};
 ghost use Rattle.edge_rules.specs.AtStops.{AreAtStops};
 ghost use Rattle.edge_rules.specs.Deciding.{may_change};
-ghost use Rattle.edge_rules.specs.Held.{network_of, HasOwnLabels};
+ghost use Rattle.edge_rules.specs.Inside.{network_of, HasOwnLabels};
 ghost use Rattle.edge_rules.specs.Found.{AreWaitsAt, planned_between, wait_of, waits_at};
-ghost use Rattle.edge_rules.specs.Timetabled.{with_state};
+ghost use Rattle.edge_rules.specs.GraphState.{with_state};
 ghost use Rattle.edge_rules.specs.Transfers.{transfers_to};
 
 use crate::along::{edge_between, edge_into, edge_out};
@@ -45,7 +45,7 @@ use mt_base::keys::Node;
 use mt_base::memory::OutOfMemory;
 use mt_base::numbers::{Day, Label, RouteNo, StopNo, Time, TrainNo};
 use mt_base::options::Opts;
-use mt_base::plans::NewCall;
+use mt_base::new_calls::NewCall;
 use station_index::StationIndex;
 use std::alloc::Global;
 use std::marker::Model;
@@ -65,18 +65,18 @@ pub struct Graph {
 }
 
 impl Model for Graph {
-    ghost use Rattle.edge_rules.specs.Timetabled.{Timetabled, timetabled_code};
+    ghost use Rattle.edge_rules.specs.GraphState.{GraphState, graph_state_code};
 
-    ghost Value = { Timetabled };
+    ghost Value = { GraphState };
 
-    ghost coded = { timetabled_code };
+    ghost coded = { graph_state_code };
 
     ghost use Rattle.edge_rules.specs.AtStops.{AreAtStops};
-    ghost use Rattle.edge_rules.specs.Held.{seen, IsHeld};
+    ghost use Rattle.edge_rules.specs.Inside.{seen, IsConsistent};
 
     ghost view = { seen };
 
-    ghost invariant = { IsHeld };
+    ghost invariant = { IsConsistent };
 }
 
 impl Graph {

@@ -3,7 +3,7 @@
 ghost use Rattle.std.specs.Prelude.{◌≡◌, ◌+◌, ◌++◌, ◌<◌, ◌^◌, [], ◌∷◌, All, IfOk, length};
 ghost use Rattle.delay_model.specs.Effect.{events_between, stretch};
 ghost use Rattle.delay_model.specs.Events.{events, train_events};
-ghost use Rattle.edge_rules.specs.Held.{HasOwnLabels};
+ghost use Rattle.edge_rules.specs.Inside.{HasOwnLabels};
 ghost use Rattle.edge_rules.specs.Indexing.{AreNew, AreThere, IsIndexOf, entries_of, entry_of};
 ghost use Rattle.edge_rules.specs.Indexing.{new_entries, with_entries, without_entries};
 
@@ -11,7 +11,8 @@ use delay_model::state::Event;
 use mt_base::keys::Node;
 use mt_base::memory::OutOfMemory;
 use mt_base::numbers::{Label, TrainNo};
-use mt_base::plans::{Entry, NewCall};
+use mt_base::index_entries::Entry;
+use mt_base::new_calls::NewCall;
 use station_index::StationIndex;
 use std::alloc::{AllocError, Global};
 use train_nodes::Trains;

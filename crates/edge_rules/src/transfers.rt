@@ -47,9 +47,9 @@ impl<'a> Model for PlannedEdges<'a> {
         a.seconds)) (unwrap_or a.near [])
         ++ flat_map (planned_by a.graph.now a.index.now.entries a.wanted a.at) a.changes.now };
 
-    ghost use Rattle.edge_rules.specs.HeldPlanned.{IsHeldPlanned};
+    ghost use Rattle.edge_rules.specs.InsidePlanned.{IsConsistentPlanned};
 
-    ghost invariant = { IsHeldPlanned };
+    ghost invariant = { IsConsistentPlanned };
 }
 
 impl<'a> Iterator for PlannedEdges<'a> {

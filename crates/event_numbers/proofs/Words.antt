@@ -18,5 +18,5 @@ pub use Rattle.event_numbers.specs.StoredSlots.{AreLinked, IsEntry, IsJump, IsLi
 unfoldable pub use Rattle.event_numbers.specs.Times.{time_of}
 pub use Rattle.event_numbers.specs.Times.{StoredTimes, blank_times, has_time, no_time, place_of, with_labels, with_time, with_train_times}
 pub use Rattle.event_numbers.specs.declared.slots.AddedCall.{AddedCall}
-pub use Rattle.event_numbers.specs.declared.slots.SlotRow.{SlotRow}
+pub use Rattle.event_numbers.specs.declared.slots.TrainSlots.{TrainSlots}
 pub use mathlib.Core.Bool.{beq}

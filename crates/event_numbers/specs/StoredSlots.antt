@@ -1,6 +1,6 @@
 -- How stored slots are seen, and what holds of them.
 use Rattle.std.specs.Prelude.{◌≡◌, ℕ, suc, ◌+◌, ◌<◌, ◌≤◌, ◌^◌, List, [], ◌∷◌, ◌++◌, Some, nat_eq, map, filter, length, slice_get, vec_capacity}
-use Rattle.event_numbers.specs.declared.slots.SlotRow.{SlotRow}
+use Rattle.event_numbers.specs.declared.slots.TrainSlots.{TrainSlots}
 use Rattle.event_numbers.specs.declared.slots.AddedCall.{AddedCall}
 use Rattle.event_numbers.specs.declared.slots.Slots.TheInside.{Inside}
 use Rattle.event_numbers.specs.Numbering.{NumberedTrain, Numbering, slot_of, slots_from}
@@ -11,7 +11,7 @@ added_slots train added = map (λ (c : AddedCall). c.slot)
     (filter (λ (c : AddedCall). nat_eq c.train train) added)
 
 -- a train by its row
-abbrev pub numbered_train : List AddedCall → ℕ → SlotRow → NumberedTrain
+abbrev pub numbered_train : List AddedCall → ℕ → TrainSlots → NumberedTrain
 numbered_train added train r = record {
   loaded = r.loaded;
   slots = slots_from r.first r.loaded
@@ -19,14 +19,14 @@ numbered_train added train r = record {
 }
 
 -- trains by their rows, from this number on
-abbrev pub numbered_trains : List AddedCall → ℕ → List SlotRow → List NumberedTrain
+abbrev pub numbered_trains : List AddedCall → ℕ → List TrainSlots → List NumberedTrain
 numbered_trains added train [] = []
 numbered_trains added train (r ∷ rs) = numbered_train added train r ∷ numbered_trains added
     (suc train) rs
 
 abbrev pub seen : Inside → Numbering
 seen a = record {
-  trains = numbered_trains a.added.items 0 a.rows.items;
+  trains = numbered_trains a.added.items 0 a.records.items;
   used = a.used;
   spare_trains = a.spare_trains;
   spare_calls = a.spare_calls;
@@ -58,7 +58,7 @@ abbrev pub AreLinked : List AddedCall → Type 0
 AreLinked added = (place : ℕ) (e : AddedCall) → slice_get added place ≡ Some e → IsLink added e
 
 -- the row of a train: how many calls were added to it, and the last entry of it
-pub record IsSlotRow (added : List AddedCall) (used train : ℕ) (r : SlotRow) : Type 0 where
+pub record IsSlotRow (added : List AddedCall) (used train : ℕ) (r : TrainSlots) : Type 0 where
   pub count : length (added_slots train added) ≡ r.added
   pub last : (n : ℕ) → r.added ≡ suc n → IsEntry added r.last train n
   pub within : r.first + r.loaded ≤ used
@@ -77,12 +77,12 @@ pub record IsNumbering (n : Numbering) : Type 0 where
 -- calls, and slots are numbers of 31 bits
 pub record AreStored (a : Inside) : Type 0 where
   pub linked : AreLinked a.added.items
-  pub owned : (train : ℕ) → length a.rows.items ≤ train → added_slots train a.added.items ≡ []
-  pub rows : (train : ℕ) (r : SlotRow) → slice_get a.rows.items train ≡ Some r
+  pub owned : (train : ℕ) → length a.records.items ≤ train → added_slots train a.added.items ≡ []
+  pub records : (train : ℕ) (r : TrainSlots) → slice_get a.records.items train ≡ Some r
       → IsSlotRow a.added.items a.used train r
   pub numbering : IsNumbering (seen a)
-  pub rows_room : length a.rows.items + a.spare_trains ≤ vec_capacity a.rows
+  pub records_room : length a.records.items + a.spare_trains ≤ vec_capacity a.records
   pub added_room : length a.added.items + a.spare_calls ≤ vec_capacity a.added
-  pub rows_small : length a.rows.items + a.spare_trains < 2 ^ 32
+  pub records_small : length a.records.items + a.spare_trains < 2 ^ 32
   pub added_small : length a.added.items ≤ a.used
   pub calls_small : a.used + a.spare_calls < 2 ^ 31

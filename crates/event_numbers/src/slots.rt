@@ -11,10 +11,10 @@ use mt_base::numbers::{Label, TrainNo};
 use std::alloc::{AllocError, Global};
 use std::marker::Model;
 
-/// A train. The calls that it was loaded with have the labels 0, 1, .. and the slots from `first`
+/// The slots of a train. The calls that it was loaded with have the labels 0, 1, .. and the slots from `first`
 /// on.
 #[derive(Clone, Copy)]
-pub(crate) struct SlotRow {
+pub(crate) struct TrainSlots {
     first: u32,
     loaded: u32,
     /// How many calls reroutings have made.
@@ -39,7 +39,7 @@ pub(crate) struct AddedCall {
 /// Which slot the call of a train with a label has. All memory is taken when it is made.
 #[derive(Drop)]
 pub struct Slots {
-    rows: Vec<SlotRow>,
+    records: Vec<TrainSlots>,
     added: Vec<AddedCall>,
     used: u32,
     spare_trains: u32,
@@ -84,7 +84,7 @@ fn jump_from(added: &[AddedCall], place: u32) -> u32
 }
 
 /// The entry of one more call, after all others, of the train whose row this is.
-fn next_entry(added: &[AddedCall], t: TrainNo, row: &SlotRow, slot: u32) -> AddedCall
+fn next_entry(added: &[AddedCall], t: TrainNo, row: &TrainSlots, slot: u32) -> AddedCall
     requires linked { AreLinked added.now }
     requires last { (n : ℕ) → row.now.added ≡ suc n → IsEntry added.now row.now.last t n }
     requires count { length (added_slots t added.now) ≡ row.now.added }
@@ -156,7 +156,7 @@ impl Slots {
             return Err(AllocError);
         }
         Ok(Slots {
-            rows: Vec::with_capacity(alloc, trains as usize)?,
+            records: Vec::with_capacity(alloc, trains as usize)?,
             added: Vec::with_capacity(alloc, calls as usize)?,
             used: 0,
             spare_trains: trains,
@@ -169,7 +169,7 @@ impl Slots {
         ensures { IfOk result (λ copy. copy ≡ self.now) }
     {
         Ok(Slots {
-            rows: copy_with_room(alloc, self.rows.as_slice(), self.spare_trains)?,
+            records: copy_with_room(alloc, self.records.as_slice(), self.spare_trains)?,
             added: copy_with_room(alloc, self.added.as_slice(), self.spare_calls)?,
             used: self.used,
             spare_trains: self.spare_trains,
@@ -181,7 +181,7 @@ impl Slots {
     pub fn count(&self) -> u32
         ensures { result ≡ length self.now.trains }
     {
-        self.rows.len() as u32
+        self.records.len() as u32
     }
 
     /// How many slots are used. They are numbered from 0.
@@ -213,7 +213,7 @@ impl Slots {
             ≡ Some result }
         ensures small { result < 2 ^ 31 }
     {
-        let row = &self.rows[t.get() as usize];
+        let row = &self.records[t.get() as usize];
         Label::new(row.loaded + row.added)
     }
 
@@ -223,7 +223,7 @@ impl Slots {
         ensures { option_map (λ (n : NumberedTrain). n.loaded) (slice_get self.now.trains t)
             ≡ Some result }
     {
-        self.rows[t.get() as usize].loaded
+        self.records[t.get() as usize].loaded
     }
 
     /// The slot of a train's first call.
@@ -231,7 +231,7 @@ impl Slots {
         requires { t < length self.now.trains }
         ensures { slot_of self.now t 0 ≡ Some result }
     {
-        self.rows[t.get() as usize].first
+        self.records[t.get() as usize].first
     }
 
     /// The slot of the call of a train with a label. None exactly where no such call was ever made.
@@ -239,10 +239,10 @@ impl Slots {
     pub fn slot(&self, t: TrainNo, l: Label) -> Option<u32>
         ensures { result ≡ slot_of self.now t l }
     {
-        if t.get() as usize >= self.rows.len() {
+        if t.get() as usize >= self.records.len() {
             return None;
         }
-        let row = &self.rows[t.get() as usize];
+        let row = &self.records[t.get() as usize];
         let label = l.get();
         if label < row.loaded {
             return Some(row.first + label);
@@ -264,7 +264,7 @@ impl Slots {
         ensures slots { self.new ≡ with_numbered calls self.old }
     {
         let first = self.used;
-        self.rows.push_reserved(SlotRow {
+        self.records.push_reserved(TrainSlots {
             first,
             loaded: calls,
             added: 0,
@@ -295,7 +295,7 @@ impl Slots {
         requires spare { 0 < self.old.spare_calls }
         ensures { self.new ≡ with_more t 1 self.old }
     {
-        let row = &mut self.rows[t.get() as usize];
+        let row = &mut self.records[t.get() as usize];
         let entry = next_entry(&self.added, t, row, self.used);
         row.last = self.added.len() as u32;
         row.added += 1;
@@ -316,9 +316,9 @@ impl Slots {
         ensures small { self.now.used + self.now.spare_calls < 2 ^ 31 }
         ensures loaded { (t : ℕ) (n : NumberedTrain) → slice_get self.now.trains t ≡ Some n
             → (1 ≤ n.loaded) × (n.loaded ≤ length n.slots) }
-        ensures rows { length self.now.trains + self.now.spare_trains < 2 ^ 32 }
+        ensures records { length self.now.trains + self.now.spare_trains < 2 ^ 32 }
     {
         // A field is named, so that the check knows what holds of it.
-        let _ = &self.rows;
+        let _ = &self.records;
     }
 }

@@ -11,10 +11,10 @@ ghost use Rattle.delay_model.specs.Events.{events};
 ghost use Rattle.delay_model.specs.Valid.{IsValid};
 ghost use Rattle.change_times.specs.ChangeTables.{HaveSameChanges, tables_of};
 ghost use Rattle.waiting_rules.specs.WaitTable.{parent_station, wait_table};
-ghost use Rattle.edge_rules.specs.Held.{network_of};
+ghost use Rattle.edge_rules.specs.Inside.{network_of};
 ghost use Rattle.mt_base.specs.declared.tables.Tables.{Tables as ATables};
 ghost use Rattle.gtfs_tables.specs.Feeds.{at_most, contents_of, tables_of as tables_in};
-ghost use Rattle.gtfs_tables.specs.Refusals.{Yields};
+ghost use Rattle.gtfs_tables.specs.Refusals.{Gives};
 ghost use Rattle.schedule_build.specs.InStep.{AreInStep};
 ghost use Rattle.schedule_build.specs.Schedule.{schedule};
 ghost use Rattle.feed_load.specs.Loaded.{days_loaded, loaded, schedule_error, tables_loaded, AreAtStops};
@@ -57,7 +57,7 @@ pub struct Loaded {
 fn load_changes(alloc: Global, t: &FeedTables, default: u32) -> Result<Changes, FeedError>
     requires default_least { 1 ≤ default }
     requires default_most { default ≤ 3600 }
-    ensures few { Yields (λ _. tt) result
+    ensures few { Gives (λ _. tt) result
         (at_most 4000000 Pairs (pairs (tables_of t.now default))) }
     ensures same { IfOk result (HaveSameChanges (tables_of t.now default)) }
     ensures failed { IsErrOf result FeedError.ReadFault → ⊥ }
@@ -91,7 +91,7 @@ fn load_days(
     requires year { first < 21010000 }
     requires days { (1 ≤ days) × (days ≤ 31) }
     requires options { IsInRange opts.now }
-    ensures found { Yields (λ r. r) result (days_loaded t.now first days opts.now) }
+    ensures found { Gives (λ r. r) result (days_loaded t.now first days opts.now) }
     ensures failed { IsErrOf result FeedError.ReadFault → ⊥ }
     ensures valid { IfOk result (λ r. (nw : ANetwork) → nw.opts ≡ opts.now → IsValid nw r.0) }
     ensures in_step { IfOk result (λ r. AreInStep r.1 r.0) }
@@ -118,7 +118,7 @@ fn load_tables(
     requires year { first < 21010000 }
     requires days { (1 ≤ days) × (days ≤ 31) }
     requires options { IsInRange opts.now }
-    ensures found { Yields (λ r. (r.trains, r.directory)) result
+    ensures found { Gives (λ r. (r.trains, r.directory)) result
         (tables_loaded t.now first days opts.now) }
     ensures network { IfOk result (λ r. HaveSameChanges (tables_of t.now opts.now.change) r.changes
         × (r.waits ≡ wait_table t.now.stops t.now.rules)) }
@@ -160,7 +160,7 @@ pub fn load_feed<F: Feed>(
     requires days { (1 ≤ days) × (days ≤ 31) }
     requires options { IsInRange opts.now }
     ensures exact { (files : List ℕ → List ℕ → Option (List ℕ)) → F.tables feed.old ≡ Some files
-        → Yields (λ r. (r.trains, r.directory)) result
+        → Gives (λ r. (r.trains, r.directory)) result
         (loaded (contents_of files folder.now) first days opts.now) }
     ensures network { IfOk result (λ r. (files : List ℕ → List ℕ → Option (List ℕ)) (t : ATables)
         → F.tables feed.old ≡ Some files

@@ -21,7 +21,7 @@ use Rattle.delay_model.specs.Refusals.{refused_if, is_no_connection, kept_edge}
 use Rattle.delay_model.proofs.Apart.{AreApart, events_at-apart}
 use Rattle.delay_model.proofs.Lists.{AllPairs-after, AllPairs-tail}
 use Rattle.change_times.specs.ChangeTables.{ChangeTables}
-use Rattle.edge_rules.specs.Held.{HasOwnLabels}
+use Rattle.edge_rules.specs.Inside.{HasOwnLabels}
 use Rattle.edge_rules.proofs.Neighbours.{named-is, own-labels}
 
 module _ (n : Node) (v : Event) where

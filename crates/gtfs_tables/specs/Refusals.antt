@@ -16,9 +16,9 @@ IsErrorOf OutOfMemory held = ⊤
 
 -- what was made, as it is seen, is what the feed holds, or an error is the refusal that the feed
 -- holds
-abbrev pub Yields : {X Y : Type 0} → (X → Y) → Result X FeedError → Result Y FeedRefusal → Type 0
-Yields view (Ok x) held = held ≡ Ok (view x)
-Yields view (Err e) held = IsErrorOf e held
+abbrev pub Gives : {X Y : Type 0} → (X → Y) → Result X FeedError → Result Y FeedRefusal → Type 0
+Gives view (Ok x) held = held ≡ Ok (view x)
+Gives view (Err e) held = IsErrorOf e held
 
 -- why a feed is not read, where one of its tables is not read
 abbrev pub refusal_of : Table → TableError → FeedError

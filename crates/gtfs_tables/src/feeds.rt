@@ -6,7 +6,7 @@ ghost use Rattle.gtfs_tables.specs.Feeds.{Contents, at_most, is_absent, contents
 ghost use Rattle.gtfs_tables.specs.Numberings.{IsNumbered, names_of};
 ghost use Rattle.gtfs_tables.specs.Records.{records_of};
 ghost use Rattle.feed_tables.specs.Lawful.{HasFewRows};
-ghost use Rattle.gtfs_tables.specs.Refusals.{Yields, refusal_of, with_table};
+ghost use Rattle.gtfs_tables.specs.Refusals.{Gives, refusal_of, with_table};
 ghost use Rattle.gtfs_tables.specs.declared.faults.Table.TheVariants as tables;
 ghost use Rattle.gtfs_tables.specs.declared.refusals.FeedError.TheVariants.{Refused};
 ghost use Rattle.gtfs_tables.specs.declared.refusals.FeedRefusal.TheVariants.{Missing};
@@ -31,7 +31,7 @@ use std::alloc::Global;
 /// The text of a table, where there is one.
 fn fetch<F: Feed>(feed: &mut F, folder: &str, table: Table) -> Result<Option<Vec<u8>>, FeedError>
     ensures text { (files : List ℕ → List ℕ → Option (List ℕ)) → F.tables feed.old ≡ Some files
-        → Yields (λ text. option_map (λ bytes. records_of bytes.items) text) result
+        → Gives (λ text. option_map (λ bytes. records_of bytes.items) text) result
         (fetched table (contents_of files folder.now table)) }
     ensures failed { IsErrOf result FeedError.ReadFault
         → Rose (F.faults feed.old) (F.faults feed.new) }
@@ -63,7 +63,7 @@ fn with_table<T: Drop>(table: Table, read: Result<T, TableError>) -> Result<T, F
 
 /// Refuses a feed that has more rows than so many.
 fn at_most(most: u64, what: What, count: u64) -> Result<(), FeedError>
-    ensures limit { Yields (λ u. u) result (at_most most what count) }
+    ensures limit { Gives (λ u. u) result (at_most most what count) }
     ensures failed { IsErrOf result FeedError.ReadFault → ⊥ }
 {
     if count > most {
@@ -87,7 +87,7 @@ fn missing(table: Table) -> FeedError
 #[tactic(auto, unfolding(crate::specs::Feeds::stops_in))]
 fn read_stops_in<F: Feed>(alloc: Global, feed: &mut F, folder: &str) -> Result<Stops, FeedError>
     ensures made { (files : List ℕ → List ℕ → Option (List ℕ)) → F.tables feed.old ≡ Some files
-        → Yields (λ stops. stops) result (stops_in (contents_of files folder.now)) }
+        → Gives (λ stops. stops) result (stops_in (contents_of files folder.now)) }
     ensures some { IfOk result (λ stops. (contents : Contents) × (stops_in contents ≡ Ok stops)) }
     ensures failed { IsErrOf result FeedError.ReadFault
         → Rose (F.faults feed.old) (F.faults feed.new) }
@@ -105,7 +105,7 @@ fn read_stops_in<F: Feed>(alloc: Global, feed: &mut F, folder: &str) -> Result<S
 #[tactic(auto, unfolding(crate::specs::Feeds::trips_in))]
 fn read_trips_in<F: Feed>(alloc: Global, feed: &mut F, folder: &str) -> Result<Trips, FeedError>
     ensures made { (files : List ℕ → List ℕ → Option (List ℕ)) → F.tables feed.old ≡ Some files
-        → Yields (λ trips. trips) result (trips_in (contents_of files folder.now)) }
+        → Gives (λ trips. trips) result (trips_in (contents_of files folder.now)) }
     ensures some { IfOk result (λ trips. (contents : Contents) × (trips_in contents ≡ Ok trips)) }
     ensures failed { IsErrOf result FeedError.ReadFault
         → Rose (F.faults feed.old) (F.faults feed.new) }
@@ -127,7 +127,7 @@ fn read_calls_in<F: Feed>(
     trips: &Trips,
 ) -> Result<Rows<CallRow>, FeedError>
     ensures made { (files : List ℕ → List ℕ → Option (List ℕ)) → F.tables feed.old ≡ Some files
-        → Yields (λ calls. calls) result
+        → Gives (λ calls. calls) result
         (calls_in (contents_of files folder.now) stops.now trips.now.rows) }
     ensures some { IfOk result (λ calls. (contents : Contents)
         × (calls_in contents stops.now trips.now.rows ≡ Ok calls)) }
@@ -154,7 +154,7 @@ fn read_calendar_in<F: Feed>(
 ) -> Result<(Rows<CalendarRow>, bool), FeedError>
     requires { IsNumbered services.old }
     ensures made { (files : List ℕ → List ℕ → Option (List ℕ)) → F.tables feed.old ≡ Some files
-        → Yields (λ r. record { services = names_of services.new; rows = r.0 }) result
+        → Gives (λ r. record { services = names_of services.new; rows = r.0 }) result
         (calendar_in (contents_of files folder.now) (names_of services.old)) }
     ensures absent { (files : List ℕ → List ℕ → Option (List ℕ)) → F.tables feed.old ≡ Some files
         → IfOk result (λ r. r.1 ≡ is_absent (contents_of files folder.now tables.Calendar)) }
@@ -186,7 +186,7 @@ fn read_dates_in<F: Feed>(
     requires { IsNumbered services.old }
     ensures made { (files : List ℕ → List ℕ → Option (List ℕ)) → F.tables feed.old ≡ Some files
         → no_calendar ≡ is_absent (contents_of files folder.now tables.Calendar)
-        → Yields (λ rows. record { services = names_of services.new; rows = rows }) result
+        → Gives (λ rows. record { services = names_of services.new; rows = rows }) result
         (dates_in (contents_of files folder.now) (names_of services.old)) }
     ensures some { IfOk result (λ rows. (contents : Contents)
         × (dates_in contents (names_of services.old)
@@ -217,7 +217,7 @@ fn read_transfers_in<F: Feed>(
     stops: &Stops,
 ) -> Result<Rows<TransferRow>, FeedError>
     ensures made { (files : List ℕ → List ℕ → Option (List ℕ)) → F.tables feed.old ≡ Some files
-        → Yields (λ rows. rows) result (transfers_in (contents_of files folder.now) stops.now) }
+        → Gives (λ rows. rows) result (transfers_in (contents_of files folder.now) stops.now) }
     ensures some { IfOk result (λ rows. (contents : Contents)
         × (transfers_in contents stops.now ≡ Ok rows)) }
     ensures failed { IsErrOf result FeedError.ReadFault
@@ -243,7 +243,7 @@ fn read_rules_in<F: Feed>(
 ) -> Result<Rows<RuleRow>, FeedError>
     requires { IsNumbered routes.old }
     ensures made { (files : List ℕ → List ℕ → Option (List ℕ)) → F.tables feed.old ≡ Some files
-        → Yields (λ rows. record { routes = names_of routes.new; rows = rows }) result
+        → Gives (λ rows. record { routes = names_of routes.new; rows = rows }) result
         (rules_in (contents_of files folder.now) stops.now (names_of routes.old)) }
     ensures some { IfOk result (λ rows. (contents : Contents)
         × (rules_in contents stops.now (names_of routes.old)
@@ -267,7 +267,7 @@ fn read_rules_in<F: Feed>(
 #[tactic(auto, unfolding(crate::specs::Feeds::frequencies_in))]
 fn check_frequencies_in<F: Feed>(alloc: Global, feed: &mut F, folder: &str) -> Result<(), FeedError>
     ensures made { (files : List ℕ → List ℕ → Option (List ℕ)) → F.tables feed.old ≡ Some files
-        → Yields (λ u. u) result (frequencies_in (contents_of files folder.now)) }
+        → Gives (λ u. u) result (frequencies_in (contents_of files folder.now)) }
     ensures some { IfOk result (λ u. (contents : Contents) × (frequencies_in contents ≡ Ok u)) }
     ensures failed { IsErrOf result FeedError.ReadFault
         → Rose (F.faults feed.old) (F.faults feed.new) }
@@ -309,7 +309,7 @@ pub fn read_tables<F: Feed>(
     folder: &str,
 ) -> Result<FeedTables, FeedError>
     ensures exact { (files : List ℕ → List ℕ → Option (List ℕ)) → F.tables feed.old ≡ Some files
-        → Yields (λ tables. tables) result (tables_of (contents_of files folder.now)) }
+        → Gives (λ tables. tables) result (tables_of (contents_of files folder.now)) }
     ensures failed { IsErrOf result FeedError.ReadFault
         → Rose (F.faults feed.old) (F.faults feed.new) }
     ensures later { F.faults feed.old ≤ F.faults feed.new }

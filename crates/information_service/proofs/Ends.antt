@@ -14,7 +14,7 @@ use Rattle.mt_io.proofs.Gives.{consumes_none}
 use Rattle.mt_io.proofs.Runs.{ends}
 use Rattle.schedule_build.specs.Directory.{Names}
 use Rattle.information_service.specs.declared.fault.LinesFault.{LinesFault}
-use Rattle.information_service.specs.Fronts.{Answered, AppendsReplies}
+use Rattle.information_service.specs.Fronts.{AreAnswered, AppendsReplies}
 use Rattle.information_service.specs.Output.{IsOutput}
 use Rattle.information_service.specs.ServiceState.{ServiceState}
 
@@ -30,7 +30,7 @@ all_taken (Some xs) (Some ys) bytes all source end is =
 
 -- at the end of the input the replies and the table are a whole output
 pub whole_output : {first now : ServiceState} {r : Reader} {left left_now written between : Option (List ℕ)} {all : List ℕ} {lines : List Line} (bytes : List ℕ)
-    → IsDone r → (a : Answered first now r left left_now written between all lines) → left ≡ Some bytes
+    → IsDone r → (a : AreAnswered first now r left left_now written between all lines) → left ≡ Some bytes
     → IsOutput first.network first.names first.state (lines_of true bytes) (a.output.shown ++ table now.network now.names now.state)
 whole_output {first = first} {r = r} {left = left} {left_now = left_now} {all = all} {lines = lines} bytes done a told =
     rw (ap (lines_of true) (sym (all_taken left left_now bytes all a.source (a.end done.ended) told)) ∙ ends all lines r a.lines_so_far done)

@@ -11,7 +11,7 @@ use Rattle.mt_io.specs.Causes.{AppendsPart}
 use Rattle.mt_io.specs.Lines.{Line, lines_of}
 use Rattle.mt_io.specs.Reader.{Reader, ahead}
 use Rattle.schedule_build.specs.Directory.{Names}
-use Rattle.information_service.specs.Fronts.{Answered, AppendsFirstReplies, AppendsFront, AppendsOutput, AppendsOutputFront, Begun}
+use Rattle.information_service.specs.Fronts.{AreAnswered, AppendsFirstReplies, AppendsFront, AppendsOutput, AppendsOutputFront, Begun}
 use Rattle.information_service.specs.ServiceState.{ServiceState}
 use Rattle.information_service.proofs.Ends.{some-same}
 
@@ -91,13 +91,13 @@ output_front {r = r} {left = left} {left_now = left_now} {taken = taken} {lines 
 
 -- the replies to the lines that were answered, and to none of those behind them
 pub first_replies : {first now : ServiceState} {r : Reader} {left left_now written written_now : Option (List ℕ)} {bytes : List ℕ} {lines : List Line} (later : List Line)
-    → Answered first now r left left_now written written_now bytes lines → AppendsFirstReplies first.network first.names first.state (lines ++ later) written written_now
+    → AreAnswered first now r left left_now written written_now bytes lines → AppendsFirstReplies first.network first.names first.state (lines ++ later) written written_now
 first_replies {written = written} {written_now = written_now} {lines = lines} later a =
     record { first = lines; later = later; shown = a.output.shown; split = refl; is = a.output.is; front = front_all written written_now a.output.shown a.output.written }
 
 -- lines that were answered have begun
 pub begun_by : {first now : ServiceState} {r : Reader} {left left_now written written_now : Option (List ℕ)} {bytes : List ℕ} {lines : List Line}
-    → Answered first now r left left_now written written_now bytes lines → Begun first r left left_now written written_now bytes lines
+    → AreAnswered first now r left left_now written written_now bytes lines → Begun first r left left_now written written_now bytes lines
 begun_by {first = first} {written = written} {written_now = written_now} {lines = lines} a =
     record {
       source = a.source;

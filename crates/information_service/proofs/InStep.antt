@@ -3,14 +3,14 @@ use Rattle.std.proofs.Common.{◌≡◌, ℕ, List, [], ◌∷◌, true, false, 
 use Rattle.std.proofs.lemmas.Bool.{cases_Bool}
 use Rattle.std.specs.Prelude.{IfSome}
 use Rattle.mt_base.specs.declared.keys.Node.{Node}
-use Rattle.mt_base.specs.declared.plans.NewCall.{NewCall}
+use Rattle.mt_base.specs.declared.new_calls.NewCall.{NewCall}
 use Rattle.delay_model.specs.declared.messages.Message.{Message}
 use Rattle.delay_model.specs.declared.messages.Message.TheVariants as messages
 use Rattle.delay_model.specs.declared.messages.Refusal.{Refusal}
 use Rattle.delay_model.specs.declared.messages.Refusal.TheVariants.{Known, Unknown}
 use Rattle.delay_model.specs.declared.network.Network.{Network}
 use Rattle.delay_model.specs.declared.state.State.{State}
-use Rattle.delay_model.specs.After.{after, accepted, known_after}
+use Rattle.delay_model.specs.After.{after_messages, accepted, known_after}
 use Rattle.delay_model.specs.Effect.{effect}
 use Rattle.delay_model.specs.Refusals.{refusal}
 use Rattle.message_reader.specs.Chain.{◌>>=◌, need, unless}
@@ -120,8 +120,8 @@ can-be-added nw names st (Connect kind feeder train) m h is accepted = tt
 
 -- so they are in step after any messages
 by-answer : (nw : Network) (names : Names) (st : State) (w : Wire) (ws : List Wire) (read : Result Message Refusal) → resolved names w ≡ read → AreInStep names st
-    → ((other : Names) (now : State) → AreInStep other now → AreInStep (known_after nw by_names now other ws) (after now (accepted nw by_names now other ws)))
-    → AreInStep (known_after nw by_names st names (w ∷ ws)) (after st (accepted nw by_names st names (w ∷ ws)))
+    → ((other : Names) (now : State) → AreInStep other now → AreInStep (known_after nw by_names now other ws) (after_messages now (accepted nw by_names now other ws)))
+    → AreInStep (known_after nw by_names st names (w ∷ ws)) (after_messages st (accepted nw by_names st names (w ∷ ws)))
 by-answer nw names st w ws (Err r) is h rest = rw is (rest names st h)
 by-answer nw names st w ws (Ok m) is h rest =
     elim (cases_Bool (is_none (refusal nw st m))) [
@@ -129,6 +129,6 @@ by-answer nw names st w ws (Ok m) is h rest =
       | inr refused ↦ rw (is, refused) (rest names st h)
     ]
 
-pub messages-in_step : (nw : Network) (names : Names) (st : State) (ws : List Wire) → AreInStep names st → AreInStep (known_after nw by_names st names ws) (after st (accepted nw by_names st names ws))
+pub messages-in_step : (nw : Network) (names : Names) (st : State) (ws : List Wire) → AreInStep names st → AreInStep (known_after nw by_names st names ws) (after_messages st (accepted nw by_names st names ws))
 messages-in_step nw names st [] h = h
 messages-in_step nw names st (w ∷ ws) h = by-answer nw names st w ws (resolved names w) refl h (λ other now k. messages-in_step nw other now ws k)

@@ -1,8 +1,8 @@
 -- Networks with the same change times, waits and stations have the same outputs.
 use Rattle.std.proofs.Common.{◌≡◌, ◌++◌, ◌+◌, ℕ, zero, suc, List, [], ◌∷◌, Option, Result, Ok, Err, arith, refl}
 use Rattle.mt_base.specs.declared.keys.Key.{Key}
-use Rattle.mt_base.specs.declared.plans.PlanRide.{PlanRide}
-use Rattle.mt_base.specs.declared.plans.Query.{Query}
+use Rattle.mt_base.specs.declared.journeys.PlanRide.{PlanRide}
+use Rattle.mt_base.specs.declared.journeys.Query.{Query}
 use Rattle.delay_model.specs.declared.messages.Message.{Message}
 use Rattle.delay_model.specs.declared.overrides.Override.{Override}
 use Rattle.delay_model.specs.declared.messages.Refusal.{Refusal}

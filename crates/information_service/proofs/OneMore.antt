@@ -10,7 +10,7 @@ use Rattle.delay_model.specs.declared.messages.Message.{Message}
 use Rattle.delay_model.specs.declared.messages.Refusal.{Refusal}
 use Rattle.delay_model.specs.declared.network.Network.{Network}
 use Rattle.delay_model.specs.declared.state.State.{State}
-use Rattle.delay_model.specs.After.{after, accepted, accepted_message, known_after}
+use Rattle.delay_model.specs.After.{after_messages, accepted, accepted_message, known_after}
 use Rattle.delay_model.specs.Effect.{effect}
 use Rattle.delay_model.specs.Refusals.{refusal}
 use Rattle.delay_report.specs.declared.replies.Reply.{Reply}
@@ -29,7 +29,7 @@ use Rattle.mt_io.specs.Runs.{fresh, HasAnswered}
 use Rattle.mt_io.proofs.Gives.{consumes_none, consumes_more, open_ended}
 use Rattle.mt_io.proofs.Runs.{begins, goes_on}
 use Rattle.schedule_build.specs.Directory.{Names}
-use Rattle.information_service.specs.Fronts.{Answered, AppendsFirstReplies, AppendsFront, Begun}
+use Rattle.information_service.specs.Fronts.{AreAnswered, AppendsFirstReplies, AppendsFront, Begun}
 use Rattle.information_service.proofs.Fronts.{front_after}
 use Rattle.information_service.specs.Lines.{said_by, messages_of, names_with, by_names}
 use Rattle.information_service.specs.Output.{reply_by_refusal, reply_to_message, IsReply, IsReplyTo, IsTextAfter, AreReplies}
@@ -44,7 +44,7 @@ after_each t (w ∷ ws) = after_each (after_message t w (resolved t.names w)) ws
 abbrev after_all : ServiceState → List Wire → ServiceState
 after_all t ws =
     let ms = accepted t.network by_names t.state t.names ws in
-    record { network = t.network; state = after t.state ms; count = t.count + length ms; names = known_after t.network by_names t.state t.names ws }
+    record { network = t.network; state = after_messages t.state ms; count = t.count + length ms; names = known_after t.network by_names t.state t.names ws }
 
 -- the service after a message which is accepted as this or not at all, and after those behind it
 abbrev after_this : ServiceState → Wire → List Wire → Option Message → ServiceState
@@ -52,7 +52,7 @@ after_this t w ws o =
     let ms = option_map_or (λ m. m ∷ accepted t.network by_names (effect t.state m) (names_with t.names w) ws) o (accepted t.network by_names t.state t.names ws) in
     record {
       network = t.network;
-      state = after t.state ms;
+      state = after_messages t.state ms;
       count = t.count + length ms;
       names = option_map_or (λ m. known_after t.network by_names (effect t.state m) (names_with t.names w) ws) o (known_after t.network by_names t.state t.names ws);
     }
@@ -163,7 +163,7 @@ record IsTaken (r : Reader) (left left_now : Option (List ℕ)) (bytes : List �
 
 -- a call takes more of them. The source is at its end where the end was read
 taken-more : {first now : ServiceState} {old new : Reader} {left left_old left_new written written_old : Option (List ℕ)} {bytes : List ℕ} {lines more : List Line}
-    → Answered first now old left left_old written written_old bytes lines → (old.ended ≡ true → left_new ≡ left_old) → GivesNext old new left_old left_new more
+    → AreAnswered first now old left left_old written written_old bytes lines → (old.ended ≡ true → left_new ≡ left_old) → GivesNext old new left_old left_new more
     → (all : List ℕ) × IsTaken new left left_new all (lines ++ more)
 taken-more {old = old} {new = new} {left = left} {left_old = left_old} {left_new = left_new} {bytes = bytes} {lines = lines} {more = more} a same gives = (
   bytes ++ gives.0,
@@ -175,7 +175,7 @@ taken-more {old = old} {new = new} {left = left} {left_old = left_old} {left_new
 )
 
 -- before the first line
-pub nothing_answered : (t : ServiceState) (budget : ℕ) (r : Reader) (left written : Option (List ℕ)) → r ≡ fresh budget → t.count ≡ 0 → Answered t t r left left written written [] []
+pub nothing_answered : (t : ServiceState) (budget : ℕ) (r : Reader) (left written : Option (List ℕ)) → r ≡ fresh budget → t.count ≡ 0 → AreAnswered t t r left left written written [] []
 nothing_answered t budget r left written new none =
     rw new (record {
       source = consumes_none left;
@@ -187,8 +187,8 @@ nothing_answered t budget r left written new none =
 
 -- a call that answers no line, and how it leaves the reader
 pub none_more : {first now : ServiceState} {old new : Reader} {left left_old left_new written written_now : Option (List ℕ)} {bytes : List ℕ} {lines : List Line} (n m : Next) → n ≡ m → next_lines m ≡ []
-    → Answered first now old left left_old written written_now bytes lines → (old.ended ≡ true → left_new ≡ left_old) → GivesNext old new left_old left_new (next_lines n) × LeavesNext n old new
-    → (all : List ℕ) × Answered first now new left left_new written written_now all lines × LeavesNext m old new
+    → AreAnswered first now old left left_old written written_now bytes lines → (old.ended ≡ true → left_new ≡ left_old) → GivesNext old new left_old left_new (next_lines n) × LeavesNext n old new
+    → (all : List ℕ) × AreAnswered first now new left left_new written written_now all lines × LeavesNext m old new
 none_more {old = old} {new = new} {left = left} {left_old = left_old} {left_new = left_new} {lines = lines} n m is none a same gives =
     let next = taken-more a same (subst (λ (ls : List Line). GivesNext old new left_old left_new ls) (ap next_lines is ∙ none) gives.0) in
     let taken = subst (IsTaken new left left_new next.0) (append-nil lines) next.1 in (
@@ -199,9 +199,9 @@ none_more {old = old} {new = new} {left = left} {left_old = left_old} {left_new 
 
 -- a call that answers one line, and its reply
 pub one_line_more : {first now : ServiceState} {old new : Reader} {left left_old left_new written written_old written_new : Option (List ℕ)} {bytes : List ℕ} {lines : List Line} (next : ServiceState) (x : Line) (number : ℕ) (reply : Reply)
-    → Answered first now old left left_old written written_old bytes lines → (old.ended ≡ true → left_new ≡ left_old) → GivesNext old new left_old left_new (x ∷ [])
+    → AreAnswered first now old left left_old written written_old bytes lines → (old.ended ≡ true → left_new ≡ left_old) → GivesNext old new left_old left_new (x ∷ [])
     → number ≡ length lines + 1 → IsReplyTo now number x reply → next ≡ after_line now x → Appends written_old written_new (text_of_reply next.names reply)
-    → (all : List ℕ) × Answered first next new left left_new written written_new all (lines ++ x ∷ [])
+    → (all : List ℕ) × AreAnswered first next new left left_new written written_new all (lines ++ x ∷ [])
 one_line_more {first = first} {now = now} {written = written} {written_old = written_old} {written_new = written_new} {lines = lines} next x number reply a same gives is_number is is_next wrote =
     let more = taken-more a same gives in
     let text = text_of_reply next.names reply in (
@@ -239,7 +239,7 @@ counts-one t next x is = omega (arith, ap (λ (r : ServiceState). r.count) is, f
 
 -- a front of the reply to one line more
 pub front_more : {first now : ServiceState} {r : Reader} {left left_now written written_old written_new : Option (List ℕ)} {bytes : List ℕ} {lines : List Line} (next : ServiceState) (x : Line) (number : ℕ) (reply : Reply)
-    → Answered first now r left left_now written written_old bytes lines → number ≡ length lines + 1 → IsReplyTo now number x reply → next ≡ after_line now x → AppendsFront written_old written_new (text_of_reply next.names reply)
+    → AreAnswered first now r left left_now written written_old bytes lines → number ≡ length lines + 1 → IsReplyTo now number x reply → next ≡ after_line now x → AppendsFront written_old written_new (text_of_reply next.names reply)
     → AppendsFirstReplies first.network first.names first.state (lines ++ x ∷ []) written written_new
 front_more {first = first} {now = now} {written = written} {written_old = written_old} {written_new = written_new} {lines = lines} next x number reply a is_number is is_next f =
     let text = text_of_reply next.names reply in
@@ -254,7 +254,7 @@ front_more {first = first} {now = now} {written = written} {written_old = writte
 
 -- a call that answers one line, of whose reply a front is written
 pub one_line_begun : {first now : ServiceState} {old new : Reader} {left left_old left_new written written_old written_new : Option (List ℕ)} {bytes : List ℕ} {lines : List Line} (x : Line)
-    → Answered first now old left left_old written written_old bytes lines → (old.ended ≡ true → left_new ≡ left_old) → GivesNext old new left_old left_new (x ∷ [])
+    → AreAnswered first now old left left_old written written_old bytes lines → (old.ended ≡ true → left_new ≡ left_old) → GivesNext old new left_old left_new (x ∷ [])
     → AppendsFirstReplies first.network first.names first.state (lines ++ x ∷ []) written written_new
     → (all : List ℕ) × (ls : List Line) × Begun first new left left_new written written_new all ls
 one_line_begun {lines = lines} x a same gives f =

@@ -1,9 +1,9 @@
 -- How far two outputs of the same lines are alike.
 use Rattle.std.specs.Prelude.{◌≡◌, ◌⊎◌, ℕ, List, [], ◌∷◌, ◌++◌, Ok}
-use Rattle.mt_base.specs.declared.plans.PlanRide.{PlanRide}
+use Rattle.mt_base.specs.declared.journeys.PlanRide.{PlanRide}
 use Rattle.delay_model.specs.declared.network.Network.{Network}
 use Rattle.delay_model.specs.declared.state.State.{State}
-use Rattle.delay_model.specs.After.{after}
+use Rattle.delay_model.specs.After.{after_messages}
 use Rattle.delay_report.specs.declared.replies.Reply.TheVariants.{Journey}
 use Rattle.delay_report.specs.Replies.{text_of_reply}
 use Rattle.delay_report.specs.Table.{table}
@@ -47,6 +47,6 @@ pub record DifferInJourneysAlone (nw : Network) (names : Names) (st : State) (li
   pub other : List ℕ
   pub replies : AreAlike nw names st [] lines shown other
   pub first : a ≡ shown ++ table nw (names_after nw names st lines)
-      (after st (accepted_of nw names st lines))
+      (after_messages st (accepted_of nw names st lines))
   pub second : b ≡ other ++ table nw (names_after nw names st lines)
-      (after st (accepted_of nw names st lines))
+      (after_messages st (accepted_of nw names st lines))

@@ -67,7 +67,7 @@ AppendsOutputFront nw names st =
 
 -- these lines were taken from the input and answered: their replies are written, and the service is
 -- as they leave it
-pub record Answered (first now : ServiceState) (r : Reader)
+pub record AreAnswered (first now : ServiceState) (r : Reader)
     (left left_now written written_now : Option (List ℕ)) (bytes : List ℕ)
     (lines : List Line) : Type 0 where
   pub source : Consumes left left_now bytes

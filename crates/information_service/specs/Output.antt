@@ -2,14 +2,14 @@
 use Rattle.std.specs.Prelude.{◌≡◌, ◌⊎◌, ℕ, ◌+◌, List, [], ◌∷◌, ◌++◌, length, Some, None, Result, Ok, Err}
 use Rattle.std.specs.Option.{option_map_or}
 use Rattle.std.specs.declared.option.Option.{Option}
-use Rattle.mt_base.specs.declared.plans.PlanRide.{PlanRide}
-use Rattle.mt_base.specs.declared.plans.Query.{Query}
+use Rattle.mt_base.specs.declared.journeys.PlanRide.{PlanRide}
+use Rattle.mt_base.specs.declared.journeys.Query.{Query}
 use Rattle.delay_model.specs.declared.network.Network.{Network}
 use Rattle.delay_model.specs.declared.messages.Message.{Message}
 use Rattle.delay_model.specs.declared.messages.Refusal.{Refusal}
 use Rattle.delay_model.specs.declared.messages.Refusal.TheVariants.{AgainstRank}
 use Rattle.delay_model.specs.declared.state.State.{State}
-use Rattle.delay_model.specs.After.{after}
+use Rattle.delay_model.specs.After.{after_messages}
 use Rattle.delay_model.specs.Journeys.{IsEarliest, HasNoJourney}
 use Rattle.delay_model.specs.Refusals.{refusal}
 use Rattle.delay_model.specs.Touched.{changed_count}
@@ -105,4 +105,4 @@ pub record IsOutput (nw : Network) (names : Names) (st : State) (lines : List Li
   pub shown : List ℕ
   pub replies : AreReplies nw names st [] lines shown
   pub all : bytes ≡ shown ++ table nw (names_after nw names st lines)
-      (after st (accepted_of nw names st lines))
+      (after_messages st (accepted_of nw names st lines))

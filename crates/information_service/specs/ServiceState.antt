@@ -8,7 +8,7 @@ use Rattle.delay_model.specs.declared.network.Network.{Network}
 use Rattle.delay_model.specs.declared.state.State.{State}
 use Rattle.delay_model.specs.contracts.network.Network.{the_row as network_row}
 use Rattle.delay_model.specs.contracts.state.State.{the_row as state_row}
-use Rattle.delay_model.specs.After.{after}
+use Rattle.delay_model.specs.After.{after_messages}
 use Rattle.delay_model.specs.Effect.{effect}
 use Rattle.delay_model.specs.Refusals.{refusal}
 use Rattle.message_reader.specs.declared.bad_line.BadLine.{BadLine}
@@ -65,7 +65,7 @@ service_after nw names st lines =
     let ms = accepted_of nw names st lines in
     record {
       network = nw;
-      state = after st ms;
+      state = after_messages st ms;
       count = length ms;
       names = names_after nw names st lines;
     }

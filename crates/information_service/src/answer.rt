@@ -19,7 +19,7 @@ use message_reader::{
 };
 use mt_base::memory::OutOfMemory;
 use mt_base::numbers::Day;
-use mt_base::plans::{PlanRide, Query};
+use mt_base::journeys::{PlanRide, Query};
 use mt_base::rows::Rows;
 use schedule_build::{Directory, ExtraName};
 use std::alloc::{AllocError, Global};

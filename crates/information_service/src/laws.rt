@@ -3,7 +3,7 @@
 ghost use Rattle.std.specs.Prelude.{ℕ, List};
 ghost use Rattle.delay_model.specs.declared.network.Network.{Network};
 ghost use Rattle.delay_model.specs.declared.state.State.{State};
-ghost use Rattle.delay_model.specs.After.{after};
+ghost use Rattle.delay_model.specs.After.{after_messages};
 ghost use Rattle.mt_io.specs.Lines.{Line};
 ghost use Rattle.schedule_build.specs.Directory.{Names};
 ghost use Rattle.schedule_build.specs.InStep.{AreInStep};
@@ -22,5 +22,5 @@ pub fn outputs_differ_in_journeys_alone()
 /// Names and trains that are in step are in step after any lines.
 pub fn lines_keep_names_in_step()
     ensures { (nw : Network) (names : Names) (st : State) (lines : List Line) → AreInStep names st
-        → AreInStep (names_after nw names st lines) (after st (accepted_of nw names st lines)) }
+        → AreInStep (names_after nw names st lines) (after_messages st (accepted_of nw names st lines)) }
 {}

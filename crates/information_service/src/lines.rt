@@ -8,7 +8,7 @@ ghost use Rattle.mt_io.specs.Lines.{Line, lines_of};
 ghost use Rattle.mt_io.specs.Reader.{IsDone};
 ghost use Rattle.mt_io.specs.Runs.{fresh};
 ghost use Rattle.information_service.specs.Causes.{HasLinesFaultCause, WhereLinesStop, TookAll};
-ghost use Rattle.information_service.specs.Fronts.{Answered, AppendsFront, Begun};
+ghost use Rattle.information_service.specs.Fronts.{AreAnswered, AppendsFront, Begun};
 
 use crate::fault::LinesFault;
 use crate::service::InformationService;
@@ -53,11 +53,11 @@ pub fn answer_lines<S: Source, K: Sink>(
     requires reader { reader.old ≡ fresh reader.old.budget }
     requires count { service.old.count ≡ 0 }
     ensures all { OnOk result ((bytes : List ℕ) × (lines : List Line) × IsDone reader.new
-        × Answered service.old service.new reader.new (S.left input.old) (S.left input.new)
+        × AreAnswered service.old service.new reader.new (S.left input.old) (S.left input.new)
         (K.written out.old) (K.written out.new) bytes lines) }
     ensures stopped { IfErr result (WhereLinesStop ((bytes : List ℕ) × (lines : List Line)
         × (lines_of false bytes ≡ lines)
-        × Answered service.old service.new reader.new (S.left input.old) (S.left input.new)
+        × AreAnswered service.old service.new reader.new (S.left input.old) (S.left input.new)
         (K.written out.old) (K.written out.new) bytes lines)) }
     ensures begun { IfErr result (λ f. (bytes : List ℕ) × (lines : List Line)
         × Begun service.old reader.new (S.left input.old) (S.left input.new) (K.written out.old)

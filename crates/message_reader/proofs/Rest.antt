@@ -5,7 +5,7 @@ use Rattle.std.proofs.lemmas.List.{append-nil, drop_all}
 use Rattle.serde_json.specs.Data.{Items, item}
 use Rattle.serde_json.specs.View.{view, items_view}
 use Rattle.serde_json.specs.declared.value.Value.{Value}
-use Rattle.mt_base.specs.declared.plans.NewCall.{NewCall}
+use Rattle.mt_base.specs.declared.new_calls.NewCall.{NewCall}
 use Rattle.delay_model.specs.declared.messages.Refusal.{Refusal}
 use Rattle.schedule_build.specs.Directory.{Names}
 use Rattle.message_reader.specs.declared.bad_line.BadLine.{BadLine}

@@ -20,7 +20,7 @@ use Rattle.message_reader.specs.declared.wire.WireTime.{WireTime}
 use Rattle.schedule_build.specs.Directory.{Names, day_named, base_of}
 use Rattle.message_reader.specs.Fields.{digit, two, below, clock, seconds_of, eight_digits, date_of}
 use Rattle.message_reader.specs.Kinds.{kind_of}
-use Rattle.message_reader.specs.Lines.{head_of, message_of, said_by}
+use Rattle.message_reader.specs.Lines.{head_of, message_of, said_by_value}
 use Rattle.message_reader.specs.Messages.{event_of, cancel_of, ref_texts, ref_of, connect_of, call_texts, call_of, calls_shape, calls_of, count, reroute_of, extra_of}
 use Rattle.message_reader.specs.Queries.{wire_time_of, query_of}
 use Rattle.message_reader.specs.ResolvedQueries.{stop_or_station_named, query_resolved}
@@ -65,16 +65,16 @@ label_back n lt = grind (arith, nat_tests)
 -- ---- messages
 
 event_back : (kind : ValueKind) (trip : List ℕ) (date call : ℕ) (dep : Bool) (secs : ℕ) → IsCivil date → secs ≤ 359999 → call < 2 ^ 32
-    → said_by (object_of (Event kind trip date call dep secs)) ≡ Ok (Message (Event kind trip date call dep secs))
-unfolding said_by head_of kind_of message_of event_of
+    → said_by_value (object_of (Event kind trip date call dep secs)) ≡ Ok (Message (Event kind trip date call dep secs))
+unfolding said_by_value head_of kind_of message_of event_of
 event_back values.Report trip date call true secs civil le lt = rw (label_back call lt, dates_back date civil, times_back secs le) refl
 event_back values.Report trip date call false secs civil le lt = rw (label_back call lt, dates_back date civil, times_back secs le) refl
 event_back values.Forecast trip date call true secs civil le lt = rw (label_back call lt, dates_back date civil, times_back secs le) refl
 event_back values.Forecast trip date call false secs civil le lt = rw (label_back call lt, dates_back date civil, times_back secs le) refl
 
 cancel_back : (trip : List ℕ) (date from to : ℕ) → IsCivil date → from < 2 ^ 32 → to < 2 ^ 32
-    → said_by (object_of (Cancel trip date from to)) ≡ Ok (Message (Cancel trip date from to))
-unfolding said_by head_of kind_of message_of cancel_of
+    → said_by_value (object_of (Cancel trip date from to)) ≡ Ok (Message (Cancel trip date from to))
+unfolding said_by_value head_of kind_of message_of cancel_of
 cancel_back trip date from to civil lt lt' = rw (label_back from lt, label_back to lt', dates_back date civil) refl
 
 ref_texts_back : (r : WireRef) → r.call < 2 ^ 32 → ref_texts (ref_object r) ≡ Ok (record { trip = r.trip; date = date_text r.date; call = r.call })
@@ -86,8 +86,8 @@ unfolding ref_of
 ref_back r civil = rw (dates_back r.date civil) refl
 
 connect_back : (kind : AConnect) (feeder train : WireRef) → IsCivil feeder.date → IsCivil train.date → feeder.call < 2 ^ 32 → train.call < 2 ^ 32
-    → said_by (object_of (Connect kind feeder train)) ≡ Ok (Message (Connect kind feeder train))
-unfolding said_by head_of kind_of message_of connect_of
+    → said_by_value (object_of (Connect kind feeder train)) ≡ Ok (Message (Connect kind feeder train))
+unfolding said_by_value head_of kind_of message_of connect_of
 connect_back connects.Keep feeder train c c' lt lt' = rw (ref_texts_back feeder lt, ref_texts_back train lt', ref_back feeder c, ref_back train c') refl
 connect_back connects.Drop feeder train c c' lt lt' = rw (ref_texts_back feeder lt, ref_texts_back train lt', ref_back feeder c, ref_back train c') refl
 connect_back connects.Rule feeder train c c' lt lt' = rw (ref_texts_back feeder lt, ref_texts_back train lt', ref_back feeder c, ref_back train c') refl
@@ -114,18 +114,18 @@ counts_back [] = refl
 counts_back (c ∷ cs) = ap suc (counts_back cs)
 
 reroute_back : (trip : List ℕ) (date from to : ℕ) (via : List WireCall) → IsCivil date → All IsWireCall via → from < 2 ^ 32 → to < 2 ^ 32
-    → said_by (object_of (Reroute trip date from to via)) ≡ Ok (Message (Reroute trip date from to via))
-unfolding said_by head_of kind_of message_of reroute_of
+    → said_by_value (object_of (Reroute trip date from to via)) ≡ Ok (Message (Reroute trip date from to via))
+unfolding said_by_value head_of kind_of message_of reroute_of
 reroute_back trip date from to via civil each lt lt' =
     rw (label_back from lt, label_back to lt', shapes_back via, dates_back date civil, calls_back via (recursion_from_All IsWireCall via each)) refl
 
 extra_back : (trip : List ℕ) (date : ℕ) (route : List ℕ) (calls : List WireCall) → IsCivil date → All IsWireCall calls → 2 ≤ length calls
-    → said_by (object_of (Extra trip date route calls)) ≡ Ok (Message (Extra trip date route calls))
-unfolding said_by head_of kind_of message_of extra_of
+    → said_by_value (object_of (Extra trip date route calls)) ≡ Ok (Message (Extra trip date route calls))
+unfolding said_by_value head_of kind_of message_of extra_of
 extra_back trip date route calls civil each le =
     rw (shapes_back calls, counts_back calls, le-leb 2 (length calls) le, dates_back date civil, calls_back calls (recursion_from_All IsWireCall calls each)) refl
 
-pub messages_back : (w : Wire) → IsWire w → HasLabels w → said_by (object_of w) ≡ Ok (Message w)
+pub messages_back : (w : Wire) → IsWire w → HasLabels w → said_by_value (object_of w) ≡ Ok (Message w)
 messages_back (Event kind trip date call dep secs) is labels = event_back kind trip date call dep secs is.0 is.1 labels
 messages_back (Cancel trip date from to) is labels = cancel_back trip date from to is labels.0 labels.1
 messages_back (Reroute trip date from to via) is labels = reroute_back trip date from to via is.0 is.1 labels.0 labels.1
@@ -135,8 +135,8 @@ messages_back (Connect kind feeder train) is labels = connect_back kind feeder t
 -- ---- queries
 
 pub queries_back : (client from to : List ℕ) (date secs : ℕ) → IsCivil date → secs ≤ 359999
-    → said_by (query_object client from to date secs) ≡ Ok (Query (record { client = client; from = from; to = to; time = Some (record { date = date; secs = secs }) }))
-unfolding said_by head_of kind_of message_of query_of wire_time_of
+    → said_by_value (query_object client from to date secs) ≡ Ok (Query (record { client = client; from = from; to = to; time = Some (record { date = date; secs = secs }) }))
+unfolding said_by_value head_of kind_of message_of query_of wire_time_of
 queries_back client from to date secs civil le = rw (dates_back date civil, times_back secs le) refl
 
 pub queries_by_number : (names : Names) (q : WireQuery) (time : WireTime) (from_stop to_stop day : ℕ) → q.time ≡ Some time

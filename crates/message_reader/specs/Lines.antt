@@ -58,8 +58,8 @@ message_of kinds.Query d = query_of d >>= λ q. Ok (Query q)
 message_of kinds.Flush d = Ok Flush
 
 -- what the value of a line says
-unfoldable pub said_by : Data → Result Line BadLine
-said_by d = do
+unfoldable pub said_by_value : Data → Result Line BadLine
+said_by_value d = do
   kind ← head_of d
   message_of kind d
 
@@ -68,7 +68,7 @@ unfoldable pub line_of : List ℕ → Result Line BadLine
 line_of bytes = do
   text ← utf8_of bytes
   d ← json_of text
-  said_by d
+  said_by_value d
 
 -- the message, if one is said
 abbrev pub message_in : Result Line BadLine → Option Wire

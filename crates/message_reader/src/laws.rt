@@ -7,7 +7,7 @@ ghost use Rattle.message_reader.specs.declared.wire.WireQuery.{WireQuery as AQue
 ghost use Rattle.message_reader.specs.declared.wire.WireTime.{WireTime as ATime};
 ghost use Rattle.message_reader.specs.declared.wire.Line.TheVariants.{Message, Query};
 ghost use Rattle.message_reader.specs.Fields.{seconds_of, date_of};
-ghost use Rattle.message_reader.specs.Lines.{said_by};
+ghost use Rattle.message_reader.specs.Lines.{said_by_value};
 ghost use Rattle.message_reader.specs.ResolvedQueries.{stop_or_station_named, query_resolved};
 ghost use Rattle.message_reader.specs.Spelled.{time_text, date_text, object_of, query_object, HasLabels};
 ghost use Rattle.message_reader.specs.Wires.{IsWire};
@@ -26,13 +26,13 @@ pub fn dates_are_read_back()
 /// Every message with civil dates, times up to 99:59:59 and, for an extra train, two calls, is read
 /// from the object that says it.
 pub fn messages_are_read_back()
-    ensures { (w : AWire) → IsWire w → HasLabels w → said_by (object_of w) ≡ Ok (Message w) }
+    ensures { (w : AWire) → IsWire w → HasLabels w → said_by_value (object_of w) ≡ Ok (Message w) }
 {}
 
 /// Every query at a time up to 99:59:59 of a civil date is read from the object that asks it.
 pub fn queries_are_read_back()
     ensures { (client from to : List ℕ) (date secs : ℕ) → IsCivil date → secs ≤ 359999
-        → said_by (query_object client from to date secs) ≡ Ok (Query (record {
+        → said_by_value (query_object client from to date secs) ≡ Ok (Query (record {
           client = client;
           from = from;
           to = to;

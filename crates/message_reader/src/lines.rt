@@ -4,7 +4,7 @@ ghost use Rattle.std.specs.Prelude.{◌≡◌, IfOk};
 ghost use Rattle.std.specs.Result.{result_map_both};
 ghost use Rattle.serde_json.specs.View.{view};
 ghost use Rattle.message_reader.specs.Errors.{Gives, GivesAs, bad_in};
-ghost use Rattle.message_reader.specs.Lines.{utf8_of, json_of, head_of, message_of, said_by, line_of};
+ghost use Rattle.message_reader.specs.Lines.{utf8_of, json_of, head_of, message_of, said_by_value, line_of};
 ghost use Rattle.message_reader.specs.Wires.{IsLine};
 
 use crate::bad_line::{BadLine, LineError};
@@ -70,9 +70,9 @@ fn message(alloc: Global, kind: Kind, value: &Value) -> Result<Line, LineError>
     Ok(Line::Message(wire))
 }
 
-#[tactic(auto, unfolding(crate::specs::Lines::said_by))]
+#[tactic(auto, unfolding(crate::specs::Lines::said_by_value))]
 fn said(alloc: Global, value: &Value) -> Result<Line, LineError>
-    ensures exact { Gives bad_in result (said_by (view value.now)) }
+    ensures exact { Gives bad_in result (said_by_value (view value.now)) }
     ensures kept { IfOk result IsLine }
 {
     let kind = head(value)?;

@@ -13,7 +13,7 @@ use delay_model::messages::Refusal;
 use mt_base::keys::Node;
 use mt_base::names::Name;
 use mt_base::numbers::{Day, StopNo, Time, TrainNo};
-use mt_base::plans::NewCall;
+use mt_base::new_calls::NewCall;
 use mt_base::rows::Rows;
 use schedule_build::Directory;
 use std::alloc::Global;

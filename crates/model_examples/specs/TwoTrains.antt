@@ -5,9 +5,9 @@ use Rattle.std.specs.Prelude.{ℕ, ◌*◌, ◌+◌, List, [], ◌∷◌, Bool, 
 use Rattle.std.specs.FinMap.{empty}
 use Rattle.mt_base.specs.declared.keys.Node.{Node}
 use Rattle.mt_base.specs.declared.options.Opts.{Opts}
-use Rattle.mt_base.specs.declared.plans.NewCall.{NewCall}
-use Rattle.mt_base.specs.declared.plans.Query.{Query}
-use Rattle.mt_base.specs.declared.plans.PlanRide.{PlanRide}
+use Rattle.mt_base.specs.declared.new_calls.NewCall.{NewCall}
+use Rattle.mt_base.specs.declared.journeys.Query.{Query}
+use Rattle.mt_base.specs.declared.journeys.PlanRide.{PlanRide}
 use Rattle.mt_base.specs.declared.places.PlaceKind.{PlaceKind}
 use Rattle.mt_base.specs.declared.places.PlaceKind.TheVariants.{Platform, Station}
 use Rattle.mt_base.specs.declared.tables.StopRow.{StopRow}
@@ -30,7 +30,7 @@ use Rattle.delay_model.specs.Refusals.{refusal}
 use Rattle.delay_model.specs.Timing.{event_time}
 use Rattle.delay_model.specs.Touched.{changed_count}
 use Rattle.delay_model.specs.Effect.{effect}
-use Rattle.delay_model.specs.After.{after, AreAccepted, Reading}
+use Rattle.delay_model.specs.After.{after_messages, AreAccepted, Reading}
 use Rattle.delay_model.specs.Windows.{Answer}
 
 -- a time of day in seconds
@@ -169,7 +169,7 @@ changed_counts nw st (m ∷ ms) = changed_count nw st m ∷ changed_counts nw (e
 
 -- what becomes of the schedule's state after messages: the times,
 abbrev pub times_after : Opts → List Message → List ℕ
-times_after o ms = times (network o) (after (start o) ms)
+times_after o ms = times (network o) (after_messages (start o) ms)
 
 -- for each message the number of events that it changes,
 abbrev pub counts_of : Opts → List Message → List ℕ
@@ -181,7 +181,7 @@ Accepts o ms = AreAccepted (network o) (start o) ms
 
 -- and the answer to one more message
 abbrev pub answer : Opts → List Message → Message → Option Refusal
-answer o ms m = refusal (network o) (after (start o) ms) m
+answer o ms m = refusal (network o) (after_messages (start o) ms) m
 
 -- the labels of a train's calls
 abbrev pub labels : State → ℕ → List ℕ

@@ -5,7 +5,7 @@ ghost use Rattle.delay_model.specs.declared.state.EdgeKind.TheVariants.{Planned}
 ghost use Rattle.delay_model.specs.declared.messages.Message.TheVariants.{Forecast};
 ghost use Rattle.delay_model.specs.Edges.{transfer};
 ghost use Rattle.delay_model.specs.Events.{departure_of};
-ghost use Rattle.delay_model.specs.After.{after};
+ghost use Rattle.delay_model.specs.After.{after_messages};
 ghost use Rattle.model_examples.specs.TwoTrains.{clock, start, times, changed_counts, row, platform_b1, platform_b2, alone, regular, opts, with_slack, network, network_by, waits_for, stop_d, station_b, feeder, fed, edge_at_b, edge_between, for_any, later_at_b, times_after, counts_of, Accepts, at_b1, departure};
 
 /// Without messages every event takes place at its scheduled time.
@@ -122,7 +122,7 @@ pub fn change_rows_and_holds()
         (network_by opts (row station_b station_b 2 (Some 420) ∷ []) (waits_for 300 ∷ []))
         (start opts) (at_b1 (clock 8 36 0) ∷ []) ≡ 3 ∷ [] }
     ensures too_long { times (network_by opts (row station_b station_b 2 (Some 420) ∷ [])
-        (waits_for 300 ∷ [])) (after (start opts) (at_b1 (clock 8 36 0) ∷ []))
+        (waits_for 300 ∷ [])) (after_messages (start opts) (at_b1 (clock 8 36 0) ∷ []))
         ≡ clock 8 0 0 ∷ clock 8 36 0 ∷ clock 8 37 0 ∷ clock 9 5 0 ∷ clock 8 36 0 ∷ clock 9 10 0
         ∷ [] }
     ensures platforms_changed { changed_counts
@@ -130,13 +130,13 @@ pub fn change_rows_and_holds()
         ∷ []) (waits_for 300 ∷ [])) (start opts) (at_b1 (clock 8 36 0) ∷ []) ≡ 5 ∷ [] }
     ensures platforms { times (network_by opts (row station_b station_b 3 None
         ∷ row platform_b1 platform_b2 2 (Some 120) ∷ []) (waits_for 300 ∷ []))
-        (after (start opts) (at_b1 (clock 8 36 0) ∷ [])) ≡ clock 8 0 0 ∷ clock 8 36 0 ∷ clock 8 37 0
+        (after_messages (start opts) (at_b1 (clock 8 36 0) ∷ [])) ≡ clock 8 0 0 ∷ clock 8 36 0 ∷ clock 8 37 0
         ∷ clock 9 5 0 ∷ clock 8 38 0 ∷ clock 9 12 0 ∷ [] }
     ensures forbidden_changed { changed_counts
         (network_by opts (row platform_b1 platform_b2 3 None ∷ []) (waits_for 300 ∷ []))
         (start opts) (at_b1 (clock 8 36 0) ∷ []) ≡ 3 ∷ [] }
     ensures forbidden { times (network_by opts (row platform_b1 platform_b2 3 None ∷ [])
-        (waits_for 300 ∷ [])) (after (start opts) (at_b1 (clock 8 36 0) ∷ []))
+        (waits_for 300 ∷ [])) (after_messages (start opts) (at_b1 (clock 8 36 0) ∷ []))
         ≡ clock 8 0 0 ∷ clock 8 36 0 ∷ clock 8 37 0 ∷ clock 9 5 0 ∷ clock 8 36 0 ∷ clock 9 10 0
         ∷ [] }
 {}
@@ -147,13 +147,13 @@ pub fn delay_gets_shorter()
     ensures one_minute_changed { changed_counts (network with_slack) (alone (regular (clock 4 0 0)))
         (at_b1 (clock 4 12 0) ∷ []) ≡ 4 ∷ [] }
     ensures one_minute { times (network with_slack)
-        (after (alone (regular (clock 4 0 0))) (at_b1 (clock 4 12 0) ∷ []))
+        (after_messages (alone (regular (clock 4 0 0))) (at_b1 (clock 4 12 0) ∷ []))
         ≡ clock 4 1 0 ∷ clock 4 12 0 ∷ clock 4 13 0 ∷ clock 4 22 18 ∷ clock 4 23 18 ∷ clock 4 33 0
         ∷ [] }
     ensures two_minutes_changed { changed_counts (network with_slack)
         (alone (regular (clock 4 1 0))) (at_b1 (clock 4 14 0) ∷ []) ≡ 5 ∷ [] }
     ensures two_minutes { times (network with_slack)
-        (after (alone (regular (clock 4 1 0))) (at_b1 (clock 4 14 0) ∷ []))
+        (after_messages (alone (regular (clock 4 1 0))) (at_b1 (clock 4 14 0) ∷ []))
         ≡ clock 4 2 0 ∷ clock 4 14 0 ∷ clock 4 15 0 ∷ clock 4 24 18 ∷ clock 4 25 18 ∷ clock 4 34 36
         ∷ [] }
 {}

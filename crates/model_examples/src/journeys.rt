@@ -1,11 +1,11 @@
 //! The earliest journeys of passengers.
 
 ghost use Rattle.std.specs.Prelude.{◌≡◌, None, Some, true, false, List, [], ◌∷◌};
-ghost use Rattle.delay_model.specs.After.{after};
+ghost use Rattle.delay_model.specs.After.{after_messages};
 ghost use Rattle.delay_model.specs.Journeys.{IsEarliest, HasNoJourney, IsJourney, IsRide};
 ghost use Rattle.model_examples.specs.TwoTrains.{clock, opts, network, start, at_b1, at_eight, ride, stop_a, platform_b1, platform_b2, stop_d, station_b, stop_c, network_by, row, alone, t2_by, and_d, over_d, both_to_d, late_before_a_gap};
 ghost use Rattle.delay_model.specs.declared.messages.Message.TheVariants.{Cancel};
-ghost use Rattle.mt_base.specs.declared.plans.PlanRide.{PlanRide as Ride};
+ghost use Rattle.mt_base.specs.declared.journeys.PlanRide.{PlanRide as Ride};
 
 /// From A to D the earliest journey changes at B and arrives at 09:10.
 pub fn journey_over_a_connection()
@@ -26,14 +26,14 @@ pub fn two_earliest_journeys()
 
 /// Where the second train is held, the journey arrives as late as that train.
 pub fn journey_over_a_held_connection()
-    ensures { IsEarliest (network opts) (after (start opts) (at_b1 (clock 8 36 0) ∷ []))
+    ensures { IsEarliest (network opts) (after_messages (start opts) (at_b1 (clock 8 36 0) ∷ []))
         (at_eight stop_a stop_d) (ride 0 0 stop_a (clock 8 0 0) 1 platform_b1 (clock 8 36 0)
         ∷ ride 1 0 platform_b2 (clock 8 39 0) 1 stop_d (clock 9 13 0) ∷ []) (clock 9 13 0) }
 {}
 
 /// Where the second train is not held any more, there is no journey.
 pub fn journey_over_a_missed_connection()
-    ensures { HasNoJourney (network opts) (after (start opts) (at_b1 (clock 8 38 1) ∷ []))
+    ensures { HasNoJourney (network opts) (after_messages (start opts) (at_b1 (clock 8 38 1) ∷ []))
         (at_eight stop_a stop_d) }
 {}
 
@@ -56,18 +56,18 @@ pub fn boarding_and_alighting()
 /// A ride does not cross a cancelled stretch: who boards at A, where the train calls at D and then
 /// does not run to B, alights at D.
 pub fn no_ride_across_a_gap()
-    ensures { (r : Ride) → IsRide (network opts) (after (start opts) (and_d ∷ Cancel 0 3 1 ∷ [])) r
+    ensures { (r : Ride) → IsRide (network opts) (after_messages (start opts) (and_d ∷ Cancel 0 3 1 ∷ [])) r
         → r.train ≡ 0 → r.board ≡ 0 → r.alight_stop ≡ stop_d }
 {}
 
 /// Where a stretch in the middle of a train's run is cancelled and the part before it is late, the
 /// part after it departs first. Passengers ride within each part, and not across the stretch.
 pub fn second_part_departs_first()
-    ensures first_part { IsRide (network opts) (after (start opts) late_before_a_gap)
+    ensures first_part { IsRide (network opts) (after_messages (start opts) late_before_a_gap)
         (ride 0 0 stop_a (clock 8 33 0) 3 stop_d (clock 8 43 0)) }
-    ensures second_part { IsRide (network opts) (after (start opts) late_before_a_gap)
+    ensures second_part { IsRide (network opts) (after_messages (start opts) late_before_a_gap)
         (ride 0 1 platform_b1 (clock 8 32 0) 2 stop_c (clock 9 0 0)) }
-    ensures across { IsRide (network opts) (after (start opts) late_before_a_gap)
+    ensures across { IsRide (network opts) (after_messages (start opts) late_before_a_gap)
         (ride 0 0 stop_a (clock 8 33 0) 2 stop_c (clock 9 0 0)) → ⊥ }
 {}
 
@@ -99,10 +99,10 @@ pub fn change_to_the_first_departure()
 
 /// Passengers may alight and board at the calls that a rerouting makes.
 pub fn rides_to_and_from_a_new_call()
-    ensures to_it { IsJourney (network opts) (after (start opts) (over_d ∷ []))
+    ensures to_it { IsJourney (network opts) (after_messages (start opts) (over_d ∷ []))
         (at_eight stop_a stop_d) (ride 0 0 stop_a (clock 8 0 0) 3 stop_d (clock 8 40 0) ∷ [])
         (clock 8 40 0) }
-    ensures from_it { IsJourney (network opts) (after (start opts) (over_d ∷ []))
+    ensures from_it { IsJourney (network opts) (after_messages (start opts) (over_d ∷ []))
         (at_eight stop_d stop_c) (ride 0 3 stop_d (clock 8 41 0) 2 stop_c (clock 9 0 0) ∷ [])
         (clock 9 0 0) }
 {}

@@ -8,7 +8,7 @@ ghost use Rattle.delay_model.specs.declared.messages.Short.TheVariants.{Override
 ghost use Rattle.delay_model.specs.declared.messages.Message.TheVariants.{Report, Cancel};
 ghost use Rattle.delay_model.specs.declared.overrides.Override.TheVariants.{Keep as ToKeep, Drop as ToDrop};
 ghost use Rattle.delay_model.specs.Edges.{transfer};
-ghost use Rattle.delay_model.specs.After.{after};
+ghost use Rattle.delay_model.specs.After.{after_messages};
 ghost use Rattle.model_examples.specs.TwoTrains.{clock, opts, network, network_by, start, times, feeder, fed, edge_at_b, times_after, counts_of, Accepts, answer, at_b1, arrival, departure, keep_at_b, drop_at_b, rule_at_b, over_d, extra};
 
 /// Dispatchers keep a connection past the wait, drop it, and give it back to the rules.
@@ -58,7 +58,7 @@ pub fn kept_without_a_rule()
     ensures changed { counts_of (record opts { window = 0 }) (at_b1 (clock 8 50 0) ∷ keep_at_b ∷ [])
         ≡ 3 ∷ 2 ∷ [] }
     ensures kept { times (network_by opts [] [])
-        (after (start opts) (at_b1 (clock 8 50 0) ∷ keep_at_b ∷ [])) ≡ clock 8 0 0 ∷ clock 8 50 0
+        (after_messages (start opts) (at_b1 (clock 8 50 0) ∷ keep_at_b ∷ [])) ≡ clock 8 0 0 ∷ clock 8 50 0
         ∷ clock 8 51 0 ∷ clock 9 19 0 ∷ clock 8 53 0 ∷ clock 9 27 0 ∷ [] }
 {}
 
@@ -96,25 +96,25 @@ pub fn no_spare_override()
         (keep_at_b ∷ drop_at_b ∷ rule_at_b ∷ rule_at_b ∷ []) }
     ensures another { answer (record opts { overrides = 1 }) (extra 2 ∷ keep_at_b ∷ [])
         (KeepIt (arrival 1 1) (departure 2 0)) ≡ Some (Full OverridesShort) }
-    ensures left { (after (start (record opts { overrides = 1 })) (keep_at_b ∷ [])).spare_overrides
+    ensures left { (after_messages (start (record opts { overrides = 1 })) (keep_at_b ∷ [])).spare_overrides
         ≡ 0 }
-    ensures same { (after (start (record opts { overrides = 1 }))
+    ensures same { (after_messages (start (record opts { overrides = 1 }))
         (keep_at_b ∷ drop_at_b ∷ [])).spare_overrides ≡ 0 }
-    ensures back { (after (start (record opts { overrides = 1 }))
+    ensures back { (after_messages (start (record opts { overrides = 1 }))
         (keep_at_b ∷ drop_at_b ∷ rule_at_b ∷ rule_at_b ∷ [])).spare_overrides ≡ 1 }
 {}
 
 /// A cancellation or a rerouting that takes one of its events away ends an override, which is then
 /// spare again. Others leave it.
 pub fn override_of_what_is_gone()
-    ensures left { (after (start opts) (keep_at_b ∷ [])).spare_overrides ≡ 9999 }
-    ensures cancelled { (after (start opts) (keep_at_b ∷ Cancel 0 0 1 ∷ [])).overrides
+    ensures left { (after_messages (start opts) (keep_at_b ∷ [])).spare_overrides ≡ 9999 }
+    ensures cancelled { (after_messages (start opts) (keep_at_b ∷ Cancel 0 0 1 ∷ [])).overrides
         ≡ (start opts).overrides }
-    ensures cancelled_back { (after (start opts) (keep_at_b ∷ Cancel 0 0 1 ∷ [])).spare_overrides
+    ensures cancelled_back { (after_messages (start opts) (keep_at_b ∷ Cancel 0 0 1 ∷ [])).spare_overrides
         ≡ 10000 }
-    ensures rerouted { (after (start opts) (keep_at_b ∷ over_d ∷ [])).overrides
+    ensures rerouted { (after_messages (start opts) (keep_at_b ∷ over_d ∷ [])).overrides
         ≡ (start opts).overrides }
-    ensures rerouted_back { (after (start opts) (keep_at_b ∷ over_d ∷ [])).spare_overrides ≡ 10000 }
-    ensures elsewhere { (after (start opts) (keep_at_b ∷ Cancel 0 1 2 ∷ [])).overrides
-        ≡ (after (start opts) (keep_at_b ∷ [])).overrides }
+    ensures rerouted_back { (after_messages (start opts) (keep_at_b ∷ over_d ∷ [])).spare_overrides ≡ 10000 }
+    ensures elsewhere { (after_messages (start opts) (keep_at_b ∷ Cancel 0 1 2 ∷ [])).overrides
+        ≡ (after_messages (start opts) (keep_at_b ∷ [])).overrides }
 {}

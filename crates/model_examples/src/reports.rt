@@ -4,7 +4,7 @@ ghost use Rattle.std.specs.Prelude.{◌≡◌, List, [], ◌∷◌, None, Some, 
 ghost use Rattle.delay_model.specs.declared.messages.Message.TheVariants.{Forecast, Report, Cancel};
 ghost use Rattle.delay_model.specs.declared.messages.Refusal.TheVariants.{Unknown, Contradiction};
 ghost use Rattle.delay_model.specs.declared.state.Event.{Event as AnEvent};
-ghost use Rattle.delay_model.specs.After.{after, accepted};
+ghost use Rattle.delay_model.specs.After.{after_messages, accepted};
 ghost use Rattle.delay_model.specs.Touched.{touched};
 ghost use Rattle.mt_base.specs.Order.{node_of};
 ghost use Rattle.model_examples.specs.TwoTrains.{by_number, clock, opts, network, start, times_after, counts_of, Accepts, answer, at_b1, arrival, departure, and_d, over_d, extra};
@@ -142,7 +142,7 @@ pub fn touched_events()
         (touched (network opts) (start opts) (Report (arrival 0 2) (clock 8 50 0)))
         ≡ departure 0 0 ∷ arrival 0 1 ∷ departure 0 1 ∷ arrival 0 2 ∷ [] }
     ensures after_a_report { map (λ (v : AnEvent). node_of v.key)
-        (touched (network opts) (after (start opts) (Report (departure 0 0) (clock 8 5 0) ∷ []))
+        (touched (network opts) (after_messages (start opts) (Report (departure 0 0) (clock 8 5 0) ∷ []))
         (Report (arrival 0 2) (clock 9 10 0))) ≡ arrival 0 1 ∷ departure 0 1 ∷ arrival 0 2
         ∷ [] }
     ensures rerouted { map (λ (v : AnEvent). node_of v.key)

@@ -4,7 +4,7 @@ ghost use Rattle.std.specs.Prelude.{◌≡◌, ℕ, List, [], ◌∷◌, None, S
 ghost use Rattle.delay_model.specs.declared.messages.Message.TheVariants.{Report, Forecast, Cancel, Reroute, Extra};
 ghost use Rattle.delay_model.specs.declared.messages.Refusal.TheVariants.{Unknown, Known, Contradiction, AgainstRank, Full};
 ghost use Rattle.delay_model.specs.declared.messages.Short.TheVariants.{Trains, Calls};
-ghost use Rattle.delay_model.specs.After.{after, accepted};
+ghost use Rattle.delay_model.specs.After.{after_messages, accepted};
 ghost use Rattle.model_examples.specs.TwoTrains.{clock, opts, start, stop_a, station_b, stop_c, stop_d, times_after, counts_of, Accepts, answer, labels, at_b1, arrival, departure, new, by_d, over_d, extra, network, next_extra};
 
 /// A feeder that does not come is not waited for.
@@ -43,7 +43,7 @@ pub fn reroute_over_another_stop()
         ≡ 4 ∷ 3 ∷ [] }
     ensures old_call { answer opts (over_d ∷ []) (Report (arrival 0 1) (clock 8 30 0))
         ≡ Some Unknown }
-    ensures new_labels { labels (after (start opts) (over_d ∷ [])) 0 ≡ 0 ∷ 3 ∷ 2 ∷ [] }
+    ensures new_labels { labels (after_messages (start opts) (over_d ∷ [])) 0 ≡ 0 ∷ 3 ∷ 2 ∷ [] }
     ensures times { times_after opts (over_d ∷ Report (arrival 0 3) (clock 8 42 0) ∷ [])
         ≡ clock 8 0 0 ∷ clock 8 42 0 ∷ clock 8 43 0 ∷ clock 9 2 0 ∷ clock 8 36 0 ∷ clock 9 10 0
         ∷ [] }
@@ -55,8 +55,8 @@ pub fn labels_are_never_used_again()
     ensures accepted { Accepts opts (over_d ∷ over_d ∷ Reroute 0 0 2 [] ∷ over_d ∷ []) }
     ensures changed { counts_of opts (over_d ∷ over_d ∷ Reroute 0 0 2 [] ∷ over_d ∷ [])
         ≡ 4 ∷ 4 ∷ 2 ∷ 2 ∷ [] }
-    ensures second { labels (after (start opts) (over_d ∷ over_d ∷ [])) 0 ≡ 0 ∷ 4 ∷ 2 ∷ [] }
-    ensures third { labels (after (start opts) (over_d ∷ over_d ∷ Reroute 0 0 2 [] ∷ over_d ∷ [])) 0
+    ensures second { labels (after_messages (start opts) (over_d ∷ over_d ∷ [])) 0 ≡ 0 ∷ 4 ∷ 2 ∷ [] }
+    ensures third { labels (after_messages (start opts) (over_d ∷ over_d ∷ Reroute 0 0 2 [] ∷ over_d ∷ [])) 0
         ≡ 0 ∷ 5 ∷ 2 ∷ [] }
 {}
 
@@ -99,7 +99,7 @@ pub fn extra_trains()
     ensures changed { counts_of (record opts { spare_calls = 2 }) (extra 2 ∷ []) ≡ 2 ∷ [] }
     ensures times { times_after opts (extra 2 ∷ []) ≡ clock 8 0 0 ∷ clock 8 30 0 ∷ clock 8 32 0
         ∷ clock 9 0 0 ∷ clock 8 36 0 ∷ clock 9 10 0 ∷ clock 9 20 0 ∷ clock 10 0 0 ∷ [] }
-    ensures next_label { labels (after (start opts)
+    ensures next_label { labels (after_messages (start opts)
         (extra 2 ∷ Reroute 2 0 1 (new stop_c (clock 9 40 0) (clock 9 41 0) ∷ []) ∷ [])) 2
         ≡ 0 ∷ 2 ∷ 1 ∷ [] }
     ensures calls_short { answer (record opts { spare_calls = 2 }) (extra 2 ∷ []) (extra 3)

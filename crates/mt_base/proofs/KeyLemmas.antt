@@ -9,7 +9,7 @@ use Rattle.std.proofs.lemmas.Cmp.{then_total, on_total, nat_cmp_total, tied_itse
 use Rattle.std.proofs.lemmas.Map.Lookups.{exact_unsigned}
 use Rattle.mt_base.specs.declared.keys.Key.{Key}
 use Rattle.mt_base.specs.declared.keys.Node.{Node}
-use Rattle.mt_base.specs.declared.plans.Entry.{Entry}
+use Rattle.mt_base.specs.declared.index_entries.Entry.{Entry}
 use Rattle.mt_base.specs.Order.{key_cmp, is_before, is_same, node_of, key_of, node_cmp, is_same_node, entry_cmp, is_before_entry}
 
 -- the order of events is total

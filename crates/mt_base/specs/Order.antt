@@ -6,7 +6,7 @@ use Rattle.std.specs.declared.cmp.Ordering.{Ordering}
 use Rattle.std.specs.Ordering.{nat_cmp, bool_cmp, ordering_then, is_lt}
 use Rattle.mt_base.specs.declared.keys.Key.{Key}
 use Rattle.mt_base.specs.declared.keys.Node.{Node}
-use Rattle.mt_base.specs.declared.plans.Entry.{Entry}
+use Rattle.mt_base.specs.declared.index_entries.Entry.{Entry}
 
 -- the event that a key is of
 abbrev pub node_of : Key → Node

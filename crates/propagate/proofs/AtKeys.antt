@@ -5,14 +5,14 @@ use Rattle.propagate.proofs.Words.{and_from, or_parts, not-then, list_any}
 use Rattle.propagate.proofs.Words.{All-contains, All-contains_itself}
 use Rattle.propagate.proofs.Words.{Key, Node, is_before, is_same, node_of, is_same_node, before-itself, same_node-is, same-itself, Event, Edge, events, event_named, is_live, edges, incoming, outgoing}
 use Rattle.propagate.proofs.Words.{event_time, IsValid, Contains-filter, events-unique, IsLiveAt, valid-graph, incoming-leads, time-local, local, floor_of, StoredTimes, time_of, has_time, edges_to, edges_from}
-use Rattle.propagate.proofs.Words.{stored_time, local_at, Timetabled, FollowsRule, IsOrderOf, may_change}
+use Rattle.propagate.proofs.Words.{stored_time, local_at, GraphState, FollowsRule, IsOrderOf, may_change}
 use Rattle.delay_model.proofs.Solve.{local-agree, unique-below, timing-unique, LeadsTo}
 use Rattle.delay_model.proofs.Bounds.{incoming-fit}
 use Rattle.propagate.proofs.{Named.event-found, Named.event-live, Named.any-from, Ordered.key-live, Ordered.live-ordered, Ordered.filtered}
 use Rattle.propagate.proofs.Idle.{LeavesAt, LeadsToDeparture, local-leaves, edges-depart, floor-departs}
 
 -- what is known of a key of the order, in a valid state
-module _ (g : Timetabled) (valid : IsValid g.network g.state) {order : List Key} (is : IsOrderOf (events g.state) order) where
+module _ (g : GraphState) (valid : IsValid g.network g.state) {order : List Key} (is : IsOrderOf (events g.state) order) where
   abbrev es : List Event
   es = events g.state
 

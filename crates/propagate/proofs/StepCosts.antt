@@ -1,7 +1,7 @@
 -- To settle what is marked takes no more reads than the events that a message touches allow.
 use Rattle.propagate.proofs.StepWords.{◌≡◌, ◌+◌, ◌≤◌, true, List, length, filter, refl, arith, inl, inr, get_or, or_cases, sum_by, IsPermutation, All-contains_itself}
 use Rattle.propagate.proofs.StepWords.{Key, Event, State, Network, Message, events, edges, effect, incoming, live_events, touched, live_keys, key_order, is_before, IsLiveAt}
-use Rattle.propagate.proofs.StepWords.{StoredTimes, Timetabled, Marked, is_marked, is_due, has_changed_feeder, is_unsettled, reads_at, reads_of, AreStored}
+use Rattle.propagate.proofs.StepWords.{StoredTimes, GraphState, Marked, is_marked, is_due, has_changed_feeder, is_unsettled, reads_at, reads_of, AreStored}
 use Rattle.propagate.proofs.StepStored.{filtered}
 use Rattle.propagate.proofs.StepSums.{fewer}
 use Rattle.propagate.proofs.Sorted.{in_order-moves}
@@ -11,7 +11,7 @@ module _ (nw : Network) (st : State) (m : Message) (times : StoredTimes) (stored
   abbrev new : State
   new = effect st m
 
-  abbrev g : Timetabled
+  abbrev g : GraphState
   g = record { network = nw; state = new }
 
   due-reached : (k : Key) → IsLiveAt (events new) k → is_due g marks times k ≡ true → is_reached nw st m k ≡ true

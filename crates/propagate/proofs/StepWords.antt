@@ -18,7 +18,7 @@ unfoldable pub use Rattle.train_nodes.specs.Times.{time_of}
 pub use Rattle.train_nodes.specs.Times.{StoredTimes, no_time}
 pub use Rattle.edge_rules.specs.AtEvent.{stored_time}
 pub use Rattle.edge_rules.specs.Deciding.{may_change, may_decide}
-pub use Rattle.edge_rules.specs.Timetabled.{Timetabled}
+pub use Rattle.edge_rules.specs.GraphState.{GraphState}
 pub use Rattle.rank_order.specs.Marked.{Marked, is_marked}
 pub use Rattle.propagate.specs.LiveKeys.{HasItsTime, has_another, key_order, live_keys, time_change_at}
 pub use Rattle.propagate.specs.Reads.{reads_of}

@@ -5,7 +5,7 @@ use Rattle.propagate.proofs.Words.{false_from_ne_true, eqb-true, eq-eqb, and_fro
 use Rattle.propagate.proofs.Words.{take-append-drop, All-contains, All-contains_itself, Contains-append_left, Contains-append_right}
 use Rattle.propagate.proofs.Words.{Key, Node, is_before, is_same, node_of, is_same_node, before-itself, before-asymmetric, same-is, same-itself, Edge, events, is_live, edges, outgoing}
 use Rattle.propagate.proofs.Words.{event_time, IsValid, Contains-there, StoredTimes, time_of, has_time, edges_to, edges_from}
-use Rattle.propagate.proofs.Words.{stored_time, local_at, Timetabled, HasItsTime, FollowsRule, HasTimesFor, IsOrderOf, live_keys, time_change_at, TimeChange, State, has_another, is_due, has_changed_feeder, may_change, reads_at, Marked, is_marked, has_key, AllPairs-before, All-permutation, Contains-permutation, IsPermutation-sym, length_permutation}
+use Rattle.propagate.proofs.Words.{stored_time, local_at, GraphState, HasItsTime, FollowsRule, HasTimesFor, IsOrderOf, live_keys, time_change_at, TimeChange, State, has_another, is_due, has_changed_feeder, may_change, reads_at, Marked, is_marked, has_key, AllPairs-before, All-permutation, Contains-permutation, IsPermutation-sym, length_permutation}
 use Rattle.std.proofs.Math.Seq.{drop-cons}
 use Rattle.delay_model.proofs.Ends.{JoinsLive, edges-join}
 use Rattle.propagate.proofs.{Named.any-from, Named.find-any, Ordered.key-live, Ordered.live-ordered, Ordered.each-after, Ordered.stands-after, Ordered.filtered}
@@ -35,7 +35,7 @@ ahead-less order k rest (m ∷ ms) h after =
 -- part of a walk along the keys in their order. The keys before the rest are passed: nothing marked is among them, and the events
 -- whose time differs are listed. What is stored for each event that is not marked is what the rule gives it, and for the rest it is
 -- what was stored at first
-pub record IsPart (g : Timetabled) (order : List Key) (old : StoredTimes) (first : Marked) (before : Vec TimeChange Global) (start : ℕ) (times : StoredTimes) (marks : Marked) (changed : Vec TimeChange Global) (steps : ℕ) : Type 0 where
+pub record IsPart (g : GraphState) (order : List Key) (old : StoredTimes) (first : Marked) (before : Vec TimeChange Global) (start : ℕ) (times : StoredTimes) (marks : Marked) (changed : Vec TimeChange Global) (steps : ℕ) : Type 0 where
   pub passed : List Key
   pub rest : List Key
   pub whole : order ≡ passed ++ rest
@@ -61,7 +61,7 @@ cut-at : {X : Type 0} (xs : List X) (x : X) (h : Contains xs x) → xs ≡ take 
 cut-at xs x h = sym (take-append-drop h.0 xs) ∙ ap (λ ys. take h.0 xs ++ ys) (drop-cons xs h.0 x h.1 ∙ ap (λ y. y ∷ drop (suc h.0) xs) h.2)
 
 -- at first
-pub part-first : (g : Timetabled) (order : List Key) (old : StoredTimes) (first : Marked) (before : Vec TimeChange Global) (start : ℕ) → IsOrderOf (events g.state) order → All (λ k. has_time old (node_of k) ≡ true) (live_keys (events g.state)) → All (Contains (live_keys (events g.state))) first.keys
+pub part-first : (g : GraphState) (order : List Key) (old : StoredTimes) (first : Marked) (before : Vec TimeChange Global) (start : ℕ) → IsOrderOf (events g.state) order → All (λ k. has_time old (node_of k) ≡ true) (live_keys (events g.state)) → All (Contains (live_keys (events g.state))) first.keys
     → All (λ k. is_marked first k ≡ false → FollowsRule g old k) (live_keys (events g.state)) → vec_len before + length (live_keys (events g.state)) ≤ vec_capacity before → IsPart g order old first before start old first before start
 part-first g order old first before start is held known values room =
     let live = live_keys (events g.state) in
@@ -82,7 +82,7 @@ part-first g order old first before start is held known values room =
       cost = omega arith;
     }
 
-module _ {g : Timetabled} (valid : IsValid g.network g.state) {order : List Key} (is : IsOrderOf (events g.state) order) {old : StoredTimes} {first : Marked} {before : Vec TimeChange Global} {start : ℕ} {times : StoredTimes} {marks : Marked} {changed : Vec TimeChange Global} {steps : ℕ} (part : IsPart g order old first before start times marks changed steps) where
+module _ {g : GraphState} (valid : IsValid g.network g.state) {order : List Key} (is : IsOrderOf (events g.state) order) {old : StoredTimes} {first : Marked} {before : Vec TimeChange Global} {start : ℕ} {times : StoredTimes} {marks : Marked} {changed : Vec TimeChange Global} {steps : ℕ} (part : IsPart g order old first before start times marks changed steps) where
   abbrev live : List Key
   live = live_keys (events g.state)
 

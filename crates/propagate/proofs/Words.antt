@@ -26,7 +26,7 @@ pub use Rattle.edge_rules.proofs.InLine.{AllPairs-before, filter-none, not-then}
 unfoldable pub use Rattle.edge_rules.specs.AtEvent.{outgoing}
 pub use Rattle.edge_rules.specs.AtEvent.{edges_to, edges_from, stored_time, local_at}
 pub use Rattle.edge_rules.specs.Deciding.{may_change, may_decide}
-pub use Rattle.edge_rules.specs.Timetabled.{Timetabled}
+pub use Rattle.edge_rules.specs.GraphState.{GraphState}
 pub use Rattle.state_laws.proofs.Changed.{Contains-map, train_events-there}
 pub use Rattle.state_laws.proofs.Mappings.{contains-unmap}
 pub use Rattle.state_laws.proofs.Parts.{events-from_each, transfers-each}

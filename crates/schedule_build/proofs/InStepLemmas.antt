@@ -9,7 +9,7 @@ use Rattle.delay_model.specs.Refusals.{refusal}
 use Rattle.delay_model.specs.declared.messages.Message.{Message}
 use Rattle.delay_model.specs.declared.messages.Message.TheVariants.{Report, Forecast, Cancel, Reroute, Extra, Keep, Drop, Rule}
 use Rattle.delay_model.specs.declared.state.Train.{Train}
-use Rattle.mt_base.specs.declared.plans.NewCall.{NewCall}
+use Rattle.mt_base.specs.declared.new_calls.NewCall.{NewCall}
 use Rattle.feed_tables.specs.Lawful.{AreDistinct}
 use Rattle.schedule_build.specs.Dates.{date_after}
 use Rattle.schedule_build.specs.Directory.{Names, names_of, train_named, with_extra}

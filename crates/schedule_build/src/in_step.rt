@@ -1,7 +1,7 @@
 //! Names and trains stay in step.
 
 ghost use Rattle.std.specs.Prelude.{◌≡◌, ◌<◌, ℕ, List, None, length};
-ghost use Rattle.mt_base.specs.declared.plans.NewCall.{NewCall};
+ghost use Rattle.mt_base.specs.declared.new_calls.NewCall.{NewCall};
 ghost use Rattle.delay_model.specs.Effect.{effect};
 ghost use Rattle.delay_model.specs.Refusals.{refusal};
 ghost use Rattle.delay_model.specs.declared.messages.Message.{Message};

@@ -21,7 +21,7 @@ pub use Rattle.mt_base.specs.Order.{node_of}
 pub use Rattle.mt_base.specs.declared.keys.Key.{Key}
 pub use Rattle.mt_base.specs.declared.keys.Node.{Node}
 pub use Rattle.mt_base.specs.declared.options.Opts.{Opts}
-pub use Rattle.mt_base.specs.declared.plans.NewCall.{NewCall}
+pub use Rattle.mt_base.specs.declared.new_calls.NewCall.{NewCall}
 pub use Rattle.delay_model.specs.Cuts.{after, before, up_to}
 unfoldable pub use Rattle.delay_model.specs.Edges.{edges, transfer}
 pub use Rattle.delay_model.specs.Edges.{change_between, edge_by_change, edge_of_kind, edge_on, edges_along, is_planned, may_connect, minimum_dwell, minimum_running, override_of, train_edge}

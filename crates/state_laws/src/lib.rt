@@ -6,7 +6,7 @@ pub mod touched;
 
 ghost use Rattle.std.specs.Prelude.{◌≡◌, List, None, All};
 ghost use Rattle.delay_model.specs.declared.messages.Message.{Message as AMessage};
-ghost use Rattle.delay_model.specs.After.{after, AreAccepted};
+ghost use Rattle.delay_model.specs.After.{after_messages, AreAccepted};
 ghost use Rattle.delay_model.specs.Effect.{effect};
 ghost use Rattle.delay_model.specs.Messages.{IsWellFormed};
 ghost use Rattle.delay_model.specs.Refusals.{refusal};
@@ -22,7 +22,7 @@ pub fn accepted_messages_keep_states_valid(nw: &Network, st: &State)
     ensures one { (m : AMessage) → IsWellFormed m → refusal nw.now st.now m ≡ None
         → IsValid nw.now (effect st.now m) }
     ensures all { (ms : List AMessage) → All IsWellFormed ms → AreAccepted nw.now st.now ms
-        → IsValid nw.now (after st.now ms) }
+        → IsValid nw.now (after_messages st.now ms) }
 {}
 
 /// The numbers of trains, calls and overrides stay numbers of 32 bits, with those that are spare:

@@ -5,7 +5,7 @@ use Rattle.std.specs.Cmp.{IsTotalOrder, bool_cmp_total}
 use Rattle.std.specs.Ordering.{nat_cmp, bool_cmp, ordering_then, is_lt, is_le, is_gt}
 use Rattle.std.proofs.lemmas.Cmp.{then_total, on_total, nat_cmp_total}
 use mathlib.Core.Bool.{beq}
-use Rattle.mt_base.specs.declared.plans.Entry.{Entry}
+use Rattle.mt_base.specs.declared.index_entries.Entry.{Entry}
 use Rattle.mt_base.specs.Order.{is_before_entry, node_cmp}
 use Rattle.mt_base.proofs.KeyLemmas.{entries_total, exact_entries, before_entry-itself, same_node-is, same_node-itself}
 use Rattle.station_index.specs.Indexed.{is_same_entry, is_in_range}

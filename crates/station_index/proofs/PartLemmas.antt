@@ -5,7 +5,7 @@ use Rattle.std.proofs.lemmas.Bool.{cases_lt, eq-eqb}
 use Rattle.std.proofs.lemmas.Bool.Decides.{nat_tests}
 use Rattle.std.proofs.lemmas.List.{drop-drop, drop-map, drop-take, get_or-drop, get_or-map, get_or-take, get_or_default, length-drop, take-map, take-take}
 use mathlib.Core.Bool.{beq}
-use Rattle.mt_base.specs.declared.plans.Entry.{Entry}
+use Rattle.mt_base.specs.declared.index_entries.Entry.{Entry}
 use Rattle.station_index.specs.declared.loaded_event.LoadedEvent.{LoadedEvent}
 use Rattle.station_index.specs.Indexed.{AreInOrder, is_in_range}
 use Rattle.station_index.specs.Places.{IsRangeAt}

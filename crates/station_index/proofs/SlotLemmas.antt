@@ -7,7 +7,7 @@ use Rattle.std.proofs.lemmas.List.{get_or_append_left, get_or_default, get_or_pa
 use Rattle.std.proofs.lemmas.List.Elements.{All-push}
 use Rattle.std.proofs.Math.Seq.{get_or-append_seam}
 use Rattle.std.proofs.lemmas.List.Sums.{count_by-le-length, sum_by-append}
-use Rattle.mt_base.specs.declared.plans.Entry.{Entry}
+use Rattle.mt_base.specs.declared.index_entries.Entry.{Entry}
 use Rattle.station_index.specs.declared.loaded_event.LoadedEvent.{LoadedEvent}
 use Rattle.station_index.specs.Indexed.{AreInOrder}
 use Rattle.station_index.specs.Slots.{AreEnds, AreEndsOf, IsSlot, entry_in, entry_of, event_in, is_at, rebuilt, slot_at, slot_number, slot_of, start_of}

@@ -5,7 +5,7 @@ use mathlib.Core.Bool.{beq}
 use Rattle.std.specs.Coded.{Coded, code_by, coded×, coded_ℕ, coded_bool, coded_list}
 use Rattle.std.specs.List.{AllPairs}
 use Rattle.mt_base.specs.declared.keys.Node.{Node}
-use Rattle.mt_base.specs.declared.plans.Entry.{Entry}
+use Rattle.mt_base.specs.declared.index_entries.Entry.{Entry}
 use Rattle.mt_base.specs.Order.{coded_node, is_before_entry, is_same_node}
 
 -- the entries of an index in their order, and for how many more there is room

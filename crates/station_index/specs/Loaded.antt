@@ -1,6 +1,6 @@
 -- How loaded entries are seen, and what holds of them.
 use Rattle.std.specs.Prelude.{◌<◌, ◌^◌, List, length}
-use Rattle.mt_base.specs.declared.plans.Entry.{Entry}
+use Rattle.mt_base.specs.declared.index_entries.Entry.{Entry}
 use Rattle.station_index.specs.declared.loaded.LoadedEntries.TheInside.{Inside}
 use Rattle.station_index.specs.Indexed.{AreInOrder}
 use Rattle.station_index.specs.Slots.{AreEnds, rebuilt}

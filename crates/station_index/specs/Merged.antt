@@ -1,6 +1,6 @@
 -- Two lists of entries as one, and the entries of a list that are live.
 use Rattle.std.specs.Prelude.{List, [], ◌∷◌, Bool, true, if◌then◌else◌}
-use Rattle.mt_base.specs.declared.plans.Entry.{Entry}
+use Rattle.mt_base.specs.declared.index_entries.Entry.{Entry}
 use Rattle.mt_base.specs.Order.{is_before_entry}
 use Rattle.station_index.specs.Indexed.{with_entry}
 

@@ -1,6 +1,6 @@
 -- Entries by a number, so that they stand in the order of their numbers.
 use Rattle.std.specs.Prelude.{ℕ, ◌/◌, ◌%◌, ◌^◌, nat_eq}
-use Rattle.mt_base.specs.declared.plans.Entry.{Entry}
+use Rattle.mt_base.specs.declared.index_entries.Entry.{Entry}
 use Rattle.station_index.specs.Slots.{entry_of}
 
 -- the entry of a number: from the highest of its 64 bits on, 17 of the stop, one that tells a

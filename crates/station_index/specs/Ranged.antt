@@ -1,7 +1,7 @@
 -- How a range is seen, and what holds of it.
 use Rattle.std.specs.Prelude.{◌≡◌, List, map, length}
 use Rattle.mt_base.specs.declared.keys.Node.{Node}
-use Rattle.mt_base.specs.declared.plans.Entry.{Entry}
+use Rattle.mt_base.specs.declared.index_entries.Entry.{Entry}
 use Rattle.station_index.specs.declared.range.Range.TheInside.{Inside}
 use Rattle.station_index.specs.Indexed.{AreInOrder}
 use Rattle.station_index.specs.Merged.{kept, merged}

@@ -4,7 +4,7 @@ use Rattle.std.specs.Prelude.{Bool, false, ◌&&◌, if◌then◌else◌, nat_eq
 use Rattle.std.specs.Prelude.{length, slice_index, slice_index_or}
 use mathlib.Core.Bool.{beq}
 use Rattle.std.specs.List.{AllWithin, count_by}
-use Rattle.mt_base.specs.declared.plans.Entry.{Entry}
+use Rattle.mt_base.specs.declared.index_entries.Entry.{Entry}
 use Rattle.station_index.specs.declared.loaded_event.LoadedEvent.{LoadedEvent}
 
 -- the number of a part: that of a stop's arrivals, and then that of its departures

@@ -1,7 +1,7 @@
 -- How a stored index is seen, and what holds of it.
 use Rattle.std.specs.Prelude.{◌≡◌, List, ◌+◌, ◌<◌, ◌≤◌, ◌^◌, length, vec_capacity, true}
 use Rattle.std.specs.List.{All, slice_index_or}
-use Rattle.mt_base.specs.declared.plans.Entry.{Entry}
+use Rattle.mt_base.specs.declared.index_entries.Entry.{Entry}
 use Rattle.station_index.specs.declared.index.StationIndex.TheInside.{Inside}
 use Rattle.station_index.specs.Indexed.{Indexed, AreInOrder}
 use Rattle.station_index.specs.Merged.{kept, merged}

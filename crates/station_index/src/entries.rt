@@ -8,7 +8,7 @@ ghost use Rattle.station_index.specs.Indexed.{AreInOrder, is_in_range, with_entr
 ghost use Rattle.station_index.specs.Places.{IsRangeAt, is_before_range, is_past_range};
 
 use mt_base::numbers::StopNo;
-use mt_base::plans::Entry;
+use mt_base::index_entries::Entry;
 
 /// How many of these entries stand before an entry.
 fn place(entries: &[Entry], entry: &Entry) -> usize

@@ -15,7 +15,7 @@ use crate::sorting::sort_entries;
 use mt_base::keys::Node;
 use mt_base::memory::{OutOfMemory, copy_with_room};
 use mt_base::numbers::{StopNo, Time};
-use mt_base::plans::Entry;
+use mt_base::index_entries::Entry;
 use std::alloc::Global;
 use std::marker::Model;
 

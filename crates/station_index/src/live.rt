@@ -6,7 +6,7 @@ ghost use Rattle.station_index.specs.Merged.{kept};
 
 use crate::loaded::LoadedEntries;
 use mt_base::memory::OutOfMemory;
-use mt_base::plans::Entry;
+use mt_base::index_entries::Entry;
 use std::alloc::Global;
 
 /// So many flags, each of them set.

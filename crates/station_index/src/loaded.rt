@@ -13,7 +13,7 @@ ghost use Rattle.station_index.specs.Slots as slots;
 use crate::loaded_event::{LoadedEvent, entry_of, event_in, slot_number};
 use mt_base::memory::OutOfMemory;
 use mt_base::numbers::StopNo;
-use mt_base::plans::Entry;
+use mt_base::index_entries::Entry;
 use std::alloc::Global;
 use std::marker::Model;
 
@@ -29,7 +29,7 @@ pub(crate) struct LoadedEntries {
 impl Model for LoadedEntries {
     ghost use Rattle.std.specs.Prelude.{List};
     ghost use Rattle.std.specs.Coded.{coded_list};
-    ghost use Rattle.mt_base.specs.declared.plans.Entry.{Entry};
+    ghost use Rattle.mt_base.specs.declared.index_entries.Entry.{Entry};
     ghost use Rattle.station_index.specs.Indexed.{coded_entry};
 
     ghost Value = { List Entry };

@@ -1,7 +1,7 @@
 -- What the walks that mark events come to: which keys are those of named events, and which are fed.
 use Rattle.timetable.proofs.Words.{◌≡◌, ◌&&◌, ◌||◌, ℕ, Bool, true, false, List, [], ◌∷◌, get_or, filter, refl, sym, ◌∙◌, ap, subst, arith, inl, inr, cases_Bool, and_parts, and_from, false_from_ne_true, suc, nat_le}
 use Rattle.timetable.proofs.Words.{All, All-contains, All-contains_itself, Contains, list_any, Key, Node, node_of, is_same, is_same_node, same-is, same-itself, same_node-is, same_node-itself, State, Event, Edge, events, edges, live_events}
-use Rattle.timetable.proofs.Words.{names_of, live_keys, IsTrain, events-unique, event_named, is_live, Timetabled, Some, None, option_map_or, All-nil, All-cons, All-filter, All-weaker}
+use Rattle.timetable.proofs.Words.{names_of, live_keys, IsTrain, events-unique, event_named, is_live, GraphState, Some, None, option_map_or, All-nil, All-cons, All-filter, All-weaker}
 use Rattle.delay_model.proofs.Ends.{JoinsLive, edges-join}
 use Rattle.delay_model.specs.Touched.{is_fed_by}
 unfoldable use Rattle.edge_rules.specs.AtEvent.{outgoing}
@@ -41,7 +41,7 @@ any-either : {X : Type 0} (p a b : X → Bool) (xs : List X) → list_any (λ x.
 any-either p a b [] = refl
 any-either p a b (x ∷ xs) = grind (arith, any-either p a b xs)
 
-module _ (g : Timetabled) (trains : All IsTrain g.state.trains) (k : Key) where
+module _ (g : GraphState) (trains : All IsTrain g.state.trains) (k : Key) where
   abbrev es : List Event
   es = events g.state
 
@@ -77,7 +77,7 @@ module _ (g : Timetabled) (trains : All IsTrain g.state.trains) (k : Key) where
 abbrev pub LeadsToLive : List Event → Edge → Type 0
 LeadsToLive es e = Contains (live_keys es) e.to
 
-pub from-live : (g : Timetabled) (n : Node) → All (LeadsToLive (events g.state)) (edges_from g n)
+pub from-live : (g : GraphState) (n : Node) → All (LeadsToLive (events g.state)) (edges_from g n)
 unfolding outgoing
 from-live g n =
     let es = events g.state in

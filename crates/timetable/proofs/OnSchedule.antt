@@ -1,7 +1,7 @@
 -- Where nothing but the schedule is known, each event takes place as scheduled.
 use Rattle.timetable.proofs.Words.{◌≡◌, ◌+◌, ℕ, true, List, [], ◌∷◌, None, refl, sym, ◌∙◌, ap, arith, inl, inr, ◌⊎◌, All, All-contains, All-contains_itself, All-tail, Contains, Contains-cases, cases_Bool, get_or, and_parts}
 use Rattle.timetable.proofs.Words.{suc, elements, false, Bool, ◌&&◌, ◌<◌, drop, length, Some, events-unique, events_from, train_events, Node, node_of, is_same_node, same_node-is, same_node-itself}
-use Rattle.timetable.proofs.Words.{StoredTimes, time_of, has_time, Timetabled, HasItsTime, HasTimesFor, live_keys}
+use Rattle.timetable.proofs.Words.{StoredTimes, time_of, has_time, GraphState, HasItsTime, HasTimesFor, live_keys}
 use Rattle.timetable.proofs.Words.{Key, Event, State, Network, events, edges, incoming, event_time, IsValid, valid-graph, incoming-leads}
 use Rattle.std.specs.List.{list_all}
 use Rattle.std.specs.Bool.{if◌then◌else◌}
@@ -62,16 +62,16 @@ module _ (nw : Network) (st : State) (valid : IsValid nw st) (alone : list_all h
       rw (← at.2) (time-scheduled at.0 at.1 at.3)
 
 -- part of a walk: for these events a scheduled time is still to be stored, and for all other live ones it is stored
-pub record IsScheduledBut (g : Timetabled) (old times : StoredTimes) (left : List Key) : Type 0 where
+pub record IsScheduledBut (g : GraphState) (old times : StoredTimes) (left : List Key) : Type 0 where
   pub stored : (k : Key) → Contains (live_keys (events g.state)) k → Contains left k ⊎ (time_of times (node_of k) ≡ Some k.time)
   pub known : All (Contains (live_keys (events g.state))) left
   pub held : All (λ k. has_time times (node_of k) ≡ true) left
   pub has_times : (st : State) → HasTimesFor st old → HasTimesFor st times
 
-pub none-scheduled : {g : Timetabled} {old : StoredTimes} (keys : List Key) → keys ≡ live_keys (events g.state) → All (λ k. has_time old (node_of k) ≡ true) (live_keys (events g.state)) → IsScheduledBut g old old keys
+pub none-scheduled : {g : GraphState} {old : StoredTimes} (keys : List Key) → keys ≡ live_keys (events g.state) → All (λ k. has_time old (node_of k) ≡ true) (live_keys (events g.state)) → IsScheduledBut g old old keys
 none-scheduled {g} keys is held = rw is (record { stored = λ k h. inl h; known = All-contains_itself (live_keys (events g.state)); held = held; has_times = λ st h. h })
 
-module _ {g : Timetabled} (valid : IsValid g.network g.state) {old times : StoredTimes} where
+module _ {g : GraphState} (valid : IsValid g.network g.state) {old times : StoredTimes} where
   -- one event more
   pub scheduled-more : {k : Key} {left : List Key} → IsScheduledBut g old times (k ∷ left) → (new : StoredTimes) → new ≡ with_time (node_of k) k.time times → ((m : Node) → time_of new m ≡ (if is_same_node (node_of k) m then Some k.time else time_of times m)) → IsScheduledBut g old new left
   scheduled-more {k} {left} h new is time =

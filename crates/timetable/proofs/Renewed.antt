@@ -2,7 +2,7 @@
 use Rattle.timetable.proofs.Words.{◌≡◌, ◌&&◌, ◌||◌, ◌≤◌, ◌<◌, ◌-◌, ℕ, Bool, true, false, List, [], ◌∷◌, ◌++◌, Option, Some, None, length, get_or, filter, refl, sym, ◌∙◌, ap, subst, arith, inl, inr, cases_Bool, and_parts, not-false, false_from_ne_true}
 use Rattle.timetable.proofs.Words.{suc, nat_le, All, All-contains, All-filter, All-contains_itself, Contains, Contains-append_left, Contains-append_right, filter-append, append-nil, list_any}
 use Rattle.timetable.proofs.Words.{Key, Node, node_of, is_same, is_same_node, same-is, Network, NewCall, Message, Cancel, Reroute, Extra, accepted-by, are_at_stops, calls_of, stands_before, stretch, State, Event, Edge, events, edges, live_events, train_events, is_live, is_live_key, live_only, names_of}
-use Rattle.timetable.proofs.Words.{effect, rerouted, node_at, live_keys, IsTrain, IsValid, IsSmallCall, IsWellFormed, refusal, stays-valid, events-unique, train_events-there, Timetabled, message_of_shape, arith}
+use Rattle.timetable.proofs.Words.{effect, rerouted, node_at, live_keys, IsTrain, IsValid, IsSmallCall, IsWellFormed, refusal, stays-valid, events-unique, train_events-there, GraphState, message_of_shape, arith}
 use Rattle.train_nodes.specs.declared.kinds.Shape.{Shape}
 use Rattle.train_nodes.specs.declared.kinds.Shape.TheVariants as Shapes
 use Rattle.train_nodes.specs.declared.kinds.Choice.{Choice}
@@ -171,7 +171,7 @@ cancel-end nw st n from to valid accepted kept k fed =
 -- where the live events are marked that a message made, and those that they feed first
 made-marks : (nw : Network) (st new : State) (out put : List Event) → IsTurn st new out put → All IsTrain st.trains → All IsTrain new.trains → (first n : ℕ) → filter (λ v. v.live && nat_le first v.key.label) (train_events new n) ≡ live_events put → (k : Key) → Contains (live_keys (events new)) k → list_any (is_marked_by (record { network = nw; state = new }) first k) (train_events new n) ≡ (list_any (is_same_node (node_of k)) (names_of put) || is_fed_by_new (edges nw new) (live_only (events new) (events st)) k)
 made-marks nw st new out put turn was now first n are k live =
-    let g : Timetabled = record { network = nw; state = new } in
+    let g : GraphState = record { network = nw; state = new } in
     let there : All (Contains (events new)) put = λ i d l. rw turn.after (Contains-append_right turn.front (put ++ turn.back) (get_or put i d) (Contains-append_left put turn.back (get_or put i d) (All-contains_itself put i d l))) in
     made-walk g now k first (train_events new n) (train_events-there new n)
     ∙ rw (are, made-are was turn, keys-names new now k live put there) refl
@@ -372,5 +372,5 @@ routed-by nw st new n from to cs step =
     })
 
 -- so after the marks of dead events were taken off
-pub stepped-fit : (g : Timetabled) (s : Shape) (old : Marked) → IsMarkedAndApplied g (message_of_shape s) old → (kept : Marked) → AreKept g.state old kept → AreMarksOf (events g.state) kept
+pub stepped-fit : (g : GraphState) (s : Shape) (old : Marked) → IsMarkedAndApplied g (message_of_shape s) old → (kept : Marked) → AreKept g.state old kept → AreMarksOf (events g.state) kept
 stepped-fit g s old stepped kept are = step-fit g.network stepped.old g.state s stepped.step old stepped.before kept are

@@ -1,6 +1,6 @@
 -- What is marked and stored after an accepted message is what settling asks for, and it reads no more than a message may take.
 use Rattle.timetable.proofs.Words.{◌≡◌, ◌≤◌, ◌∙◌, false, refl, sym, filter, All, Network, State, Message, effect, events, refusal, None, IsValid, IsWellFormed, live_keys, key_order, StoredTimes, IsPrepared, Marked, is_marked, AreUnsettled}
-use Rattle.timetable.proofs.Words.{IsMarkedBefore, IsStateAfter, Timetabled}
+use Rattle.timetable.proofs.Words.{IsMarkedBefore, IsStateAfter, GraphState}
 use Rattle.std.specs.List.{sum_by}
 use Rattle.propagate.specs.Reads.{reads_of}
 use Rattle.propagate.specs.Settling.{FollowsRule, is_due, reads_at}
@@ -12,7 +12,7 @@ module _ {nw : Network} {st : State} {m : Message} (valid : IsValid nw st) (well
   step-made = record { valid = valid; well_formed = well; accepted = accepted; made = refl }
 
   -- so the events are marked that may have another value
-  pub step-due : {marks after : Marked} (g : Timetabled) → g ≡ record { network = nw; state = effect st m } → IsMarkedBefore nw st m marks → ((old : State) → IsStateAfter g.network old g.state m → IsMarkedBefore g.network old m marks → AreUnsettled g.network old m after) → AreUnsettled nw st m after
+  pub step-due : {marks after : Marked} (g : GraphState) → g ≡ record { network = nw; state = effect st m } → IsMarkedBefore nw st m marks → ((old : State) → IsStateAfter g.network old g.state m → IsMarkedBefore g.network old m marks → AreUnsettled g.network old m after) → AreUnsettled nw st m after
   step-due g is before h = (rw is at h) st step-made before
 
 module _ {nw : Network} {st : State} {m : Message} {times : StoredTimes} (p : IsPrepared nw st (effect st m) times) {marks : Marked} (due : AreUnsettled nw st m marks) where

@@ -14,7 +14,7 @@ use Rattle.state_laws.proofs.Splits.{pairs-across}
 use Rattle.state_laws.proofs.Swapped.{swap-of}
 use Rattle.state_laws.proofs.Values.{any-there, pairs-right}
 use Rattle.state_laws.proofs.Parts.{All-left}
-use Rattle.edge_rules.specs.Held.{HasOwnLabels}
+use Rattle.edge_rules.specs.Inside.{HasOwnLabels}
 use Rattle.edge_rules.specs.Indexing.{entry_of}
 use Rattle.edge_rules.proofs.EventChanges.{cancel-exchange, reroute-exchange, killed-entries, made}
 use Rattle.timetable.specs.Marking.{leaving_of}

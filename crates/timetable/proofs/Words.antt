@@ -29,7 +29,7 @@ pub use Rattle.std.specs.Ordering.{is_lt, ordering_then}
 pub use Rattle.mt_base.proofs.KeyLemmas.{before-asymmetric, before-itself, exact_keys, keys_total}
 pub use Rattle.edge_rules.proofs.InLine.{AllPairs-before, filter-none}
 pub use Rattle.edge_rules.specs.AtEvent.{edges_to, stored_time, local_at}
-pub use Rattle.edge_rules.specs.Timetabled.{Timetabled}
+pub use Rattle.edge_rules.specs.GraphState.{GraphState}
 pub use Rattle.state_laws.proofs.Accepted.{accepted-by, or-none, refused-none}
 pub use Rattle.state_laws.proofs.Changed.{Contains-map, contains-change, later-trains, map-same, train_events-there}
 pub use Rattle.state_laws.proofs.Mappings.{contains-unmap, mapping-events}
@@ -52,7 +52,7 @@ unfoldable pub use Rattle.dep_order.specs.Departing.{leaves_before}
 unfoldable pub use Rattle.timetable.specs.Moved.{with_times}
 pub use Rattle.timetable.specs.Moved.{AreLiveDepartures, AreTimeChanges, IsAtCall, count_new, departing_then, departs, is_new_to, is_of_none, is_of_one, time_changes_of}
 pub use Rattle.timetable.specs.LiveTimes.{live_event, live_keys, live_time}
-pub use Rattle.timetable.specs.Running.{Running}
+pub use Rattle.timetable.specs.TimetableState.{TimetableState}
 pub use Rattle.timetable.specs.Settled.{HasItsTime, HasTimesFor, IsRoomy, IsSettled, most_live}
 pub use Rattle.timetable.specs.Shapes.{HasRoomFor, IsPrepared, with_made}
 pub use Rattle.mt_base.specs.Sorted.{in_order, placed}

@@ -2,10 +2,10 @@
 use Rattle.std.specs.Prelude.{◌≡◌, ◌*◌, ◌≤◌, [], vec_capacity}
 use Rattle.timetable.specs.declared.timetable.Timetable.TheInside.{Inside}
 use Rattle.timetable.specs.Departures.{live_departures}
-use Rattle.timetable.specs.Running.{Running}
+use Rattle.timetable.specs.TimetableState.{TimetableState}
 use Rattle.timetable.specs.Settled.{IsSettled, IsRoomy, most_live}
 
-abbrev pub seen : Inside → Running
+abbrev pub seen : Inside → TimetableState
 seen a = record {
   network = a.graph.network;
   state = a.graph.state;

@@ -1,4 +1,4 @@
-pub mod Running
+pub mod TimetableState
 pub mod LiveTimes
 pub mod Changed
 pub mod Departures

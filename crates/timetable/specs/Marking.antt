@@ -22,7 +22,7 @@ use Rattle.train_nodes.specs.declared.kinds.Shape.TheVariants as Shapes
 use Rattle.train_nodes.specs.Times.{no_time}
 use Rattle.edge_rules.specs.AtEvent.{edges_from}
 use Rattle.edge_rules.specs.Deciding.{may_change}
-use Rattle.edge_rules.specs.Timetabled.{Timetabled}
+use Rattle.edge_rules.specs.GraphState.{GraphState}
 use Rattle.rank_order.specs.Marked.{Marked, is_marked}
 use Rattle.propagate.specs.LiveKeys.{live_keys}
 use Rattle.propagate.specs.Unsettled.{is_unsettled}
@@ -49,17 +49,17 @@ abbrev pub leads_to : List Edge → Key → Bool
 leads_to gs k = list_any (λ e. is_same e.to k) gs
 
 -- an edge leads to this key from the event of this name
-abbrev pub is_fed_from : Timetabled → Key → Node → Bool
+abbrev pub is_fed_from : GraphState → Key → Node → Bool
 is_fed_from g k n = leads_to (edges_from g n) k
 
 -- an edge that may change a time, where the event that it leaves gets its first time, leads to this
 -- key from the event of this name
-abbrev pub is_fed_from_new : Timetabled → Key → Node → Bool
+abbrev pub is_fed_from_new : GraphState → Key → Node → Bool
 is_fed_from_new g k n = leads_to (filter (may_change no_time no_time) (edges_from g n)) k
 
 -- the event is live, its label is one of those from `first` on, and this key is its own or that of
 -- an event whose time it may change
-abbrev pub is_marked_by : Timetabled → ℕ → Key → Event → Bool
+abbrev pub is_marked_by : GraphState → ℕ → Key → Event → Bool
 is_marked_by g first k v = (v.live && nat_le first v.key.label)
     && (is_same v.key k || is_fed_from_new g k (node_of v.key))
 
@@ -93,7 +93,7 @@ pub record IsStateAfter (nw : Network) (old new : State) (m : Message) : Type 0 
   pub made : new ≡ effect old m
 
 -- a message was applied, before which events were marked
-pub record IsMarkedAndApplied (g : Timetabled) (m : Message) (marks : Marked) : Type 0 where
+pub record IsMarkedAndApplied (g : GraphState) (m : Message) (marks : Marked) : Type 0 where
   pub old : State
   pub step : IsStateAfter g.network old g.state m
   pub before : IsMarkedBefore g.network old m marks

@@ -11,7 +11,7 @@ ghost use Rattle.delay_model.specs.Valid.{IsValid};
 ghost use Rattle.timetable.specs.Changed.{changed_nodes, AreInOrder, IsChangedEvent};
 ghost use Rattle.timetable.specs.Departures.{departing, departures_from, leaves_before, IsDeparture};
 ghost use Rattle.timetable.specs.LiveTimes.{live_time};
-ghost use Rattle.timetable.specs.Running.{state_after};
+ghost use Rattle.timetable.specs.TimetableState.{state_after};
 
 use crate::timetable::Timetable;
 use delay_model::network::Network;

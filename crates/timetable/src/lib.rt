@@ -11,7 +11,7 @@ mod leaving;
 mod lists;
 mod loading;
 mod marking;
-mod messages;
+mod check;
 mod prepare;
 mod scheduled;
 pub mod timetable;

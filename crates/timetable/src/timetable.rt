@@ -6,14 +6,14 @@ ghost use Rattle.delay_model.specs.Refusals.{refusal};
 ghost use Rattle.delay_model.specs.Touched.{changed_count};
 ghost use Rattle.delay_model.specs.Valid.{IsValid};
 ghost use Rattle.waiting_rules.specs.WaitTable.{parent_station};
-ghost use Rattle.edge_rules.specs.Held.{network_of};
+ghost use Rattle.edge_rules.specs.Inside.{network_of};
 ghost use Rattle.graph_edit.specs.Values.{Answers};
 ghost use Rattle.edge_rules.specs.AtStops.{AreAtStops};
 ghost use Rattle.propagate.specs.Reads.{reads_of};
 ghost use Rattle.timetable.specs.Departures.{departures_from};
 ghost use Rattle.timetable.specs.Emptied.{AreEmpty};
 ghost use Rattle.timetable.specs.LiveTimes.{live_time};
-ghost use Rattle.timetable.specs.Running.{stepped};
+ghost use Rattle.timetable.specs.TimetableState.{stepped};
 ghost use Rattle.timetable.specs.Settled.{HasTimesFor, most_live};
 
 use crate::departures::{move_departures, take_departures};
@@ -21,7 +21,7 @@ use crate::events::count_live;
 use crate::lists::{Lists, copy_lists, empty_lists};
 use crate::loading::settle_all;
 use crate::marking::{mark_after, mark_before};
-use crate::messages::check;
+use crate::check::check;
 use crate::prepare::{apply, push_names};
 use change_times::Changes;
 use delay_model::messages::Refusal;
@@ -59,11 +59,11 @@ pub struct Timetable {
 }
 
 impl Model for Timetable {
-    ghost use Rattle.timetable.specs.Running.{Running, running_code};
+    ghost use Rattle.timetable.specs.TimetableState.{TimetableState, timetable_state_code};
 
-    ghost Value = { Running };
+    ghost Value = { TimetableState };
 
-    ghost coded = { running_code };
+    ghost coded = { timetable_state_code };
 
     ghost use Rattle.timetable.specs.Inside.{seen, IsTimed};
 

@@ -3,7 +3,7 @@ use Rattle.train_nodes.proofs.Words.{is_among, change_train, node_at, kill_in, c
 use Rattle.train_nodes.proofs.Words.{Bool, true, false, ◌&&◌, ◌||◌, not, nat_eq, nat_lt, Some, length, refl, sym, ◌∙◌, ap, subst, arith, slice_get, map, nat_le, get_or}
 use Rattle.train_nodes.proofs.Words.{nat_tests, slice_get_within, slice_get_read, retain_keys, len, Vec, Global, stands, IsLineChange, IsChangedBy, eq-eqb}
 use Rattle.train_nodes.proofs.Words.{eqb-true, nat_eq-same, killed_by, IsKilledCall, IsKilled, IsPartOf, call_of, is_between, IsTrainLine, IsRenewed, IsCurrentAt}
-use Rattle.train_nodes.proofs.Words.{NumberedTrain, is_end, is_removed, names_removed, first_slot, seen, IsStored, Overrides, Row, Part, StoredCall, Inside, effect}
+use Rattle.train_nodes.proofs.Words.{NumberedTrain, is_end, is_removed, names_removed, first_slot, seen, IsStored, Overrides, TrainRecord, Part, StoredCall, Inside, effect}
 use Rattle.train_nodes.proofs.Words.{begins, ends, same-tests, standing-test, one-of}
 use Rattle.std.specs.Prelude.{vec_capacity}
 use Rattle.train_nodes.proofs.FoundParts.{IsFoundPart, between-test, found-part, part-found}
@@ -11,15 +11,15 @@ use Rattle.train_nodes.proofs.RemovedLemmas.{cancel-among, removed-seen}
 use Rattle.train_nodes.proofs.StoredLemmas.{IsRowAt, edited-stored, changed-line, IsEdit, then-renewed, edited-trains}
 
 -- the row that was read is the train's
-pub row-read : {a : Inside} {t : ℕ} {r : Row} {n : NumberedTrain} {k : ℕ} (x : Row) → IsRowAt a t r n → k ≡ t → x ≡ get_or a.rows.items k x → x ≡ r
+pub row-read : {a : Inside} {t : ℕ} {r : TrainRecord} {n : NumberedTrain} {k : ℕ} (x : TrainRecord) → IsRowAt a t r n → k ≡ t → x ≡ get_or a.records.items k x → x ≡ r
 row-read {a} {t} {r} x w at read =
-    one-of a.rows.items t x r (slice_get_read a.rows.items (length a.rows.items) t x refl (slice_get_within a.rows.items t r w.row) (read ∙ ap (λ i. get_or a.rows.items i x) at)) w.row
+    one-of a.records.items t x r (slice_get_read a.records.items (length a.records.items) t x refl (slice_get_within a.records.items t r w.row) (read ∙ ap (λ i. get_or a.records.items i x) at)) w.row
 
 changed-call : (t first last : ℕ) (es : List Event) (x y : StoredCall) → IsKilledCall t first last x y → (x.train ≡ t → killed_by t first last x ≡ kill_in es t (call_of x)) → IsChangedBy t (kill_in es t) x y
 changed-call t first last es x y k h =
     grind (arith, nat_tests)
 
-module _ {a : Inside} {t from to : ℕ} {p : Part} {r : Row} {n : NumberedTrain} (w : IsFoundPart a t from to p r n) where
+module _ {a : Inside} {t from to : ℕ} {p : Part} {r : TrainRecord} {n : NumberedTrain} (w : IsFoundPart a t from to p r n) where
   abbrev es : List Event
   es = stretch (seen a) t from to
 
@@ -81,13 +81,13 @@ module _ {a : Inside} {t from to : ℕ} {p : Part} {r : Row} {n : NumberedTrain}
       }
 
 -- after all steps, trains are stored, and seen as the model's
-pub cancelled : {a : Inside} {cs ds : List StoredCall} {t from to k : ℕ} {p : Part} {x : Row} (mid ys : Vec StoredCall Global) (st : State) (o : Overrides) → IsStored a → seen a ≡ st → cs ≡ a.calls.items → IsPartOf cs a.slots t from to p → ds ≡ a.calls.items → o.choices ≡ retain_keys a.overrides.choices (λ q. not (names_removed p.train (is_between ds a.slots p.train p.first p.last) (Some (from, to)) q)) → o.spare ≡ a.overrides.spare + (len a.overrides.choices - len o.choices) → k ≡ t → x ≡ get_or a.rows.items k x → IsKilled p.train p.first p.last a.calls.items mid.items → vec_capacity mid ≡ vec_capacity a.calls → vec_capacity ys ≡ vec_capacity mid → ((first : ℕ) → IsTrainLine a.slots t first x.len mid.items → IsRenewed t first x.len mid.items ys.items) → IsStored (record a { calls = ys; overrides = o }) × (seen (record a { calls = ys; overrides = o }) ≡ effect st (Cancel t from to))
+pub cancelled : {a : Inside} {cs ds : List StoredCall} {t from to k : ℕ} {p : Part} {x : TrainRecord} (mid ys : Vec StoredCall Global) (st : State) (o : Overrides) → IsStored a → seen a ≡ st → cs ≡ a.calls.items → IsPartOf cs a.slots t from to p → ds ≡ a.calls.items → o.choices ≡ retain_keys a.overrides.choices (λ q. not (names_removed p.train (is_between ds a.slots p.train p.first p.last) (Some (from, to)) q)) → o.spare ≡ a.overrides.spare + (len a.overrides.choices - len o.choices) → k ≡ t → x ≡ get_or a.records.items k x → IsKilled p.train p.first p.last a.calls.items mid.items → vec_capacity mid ≡ vec_capacity a.calls → vec_capacity ys ≡ vec_capacity mid → ((first : ℕ) → IsTrainLine a.slots t first x.len mid.items → IsRenewed t first x.len mid.items ys.items) → IsStored (record a { calls = ys; overrides = o }) × (seen (record a { calls = ys; overrides = o }) ≡ effect st (Cancel t from to))
 unfolding effect
 cancelled {a} {cs} {ds} {t} {from} {to} {k} {p} {x} mid ys st o s view read part same choices spare at row kills capacity more renew =
     let f = part-found s read part in
     let w = f.2 in
     let g = kill_in (es w) t in
-    let edit = cancel-edit w mid ys x.len (ap (λ (q : Row). q.len) (row-read x w.of at row)) kills capacity more renew in
+    let edit = cancel-edit w mid ys x.len (ap (λ (q : TrainRecord). q.len) (row-read x w.of at row)) kills capacity more renew in
     let by = λ (ts : List Train). let s : State = record (seen a) { trains = ts } in s in
     let trains = edited-trains a ys o t g f.0 f.1 edit in (
       edited-stored a ys o t g f.0 f.1 edit,

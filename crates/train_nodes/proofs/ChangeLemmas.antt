@@ -1,6 +1,6 @@
 -- One train changed: its row, its numbers and its calls, and nothing of other trains.
 use Rattle.train_nodes.proofs.Words.{◌≡◌, ◌≢◌, ℕ, zero, suc, ◌+◌, ◌-◌, ◌<◌, ◌≤◌, inl, inr, List, [], ◌∷◌, true, Some, length, refl, sym, ◌∙◌, ap, arith, slice_get, map}
-use Rattle.train_nodes.proofs.Words.{option_map, cases_eq, Train, change_train, Row, StoredCall, Inside, last_label, call_of, slot_after, HasNextReports, IsLineAt}
+use Rattle.train_nodes.proofs.Words.{option_map, cases_eq, Train, change_train, TrainRecord, StoredCall, Inside, last_label, call_of, slot_after, HasNextReports, IsLineAt}
 use Rattle.train_nodes.proofs.Words.{IsPlacedAt, NumberedTrain, first_slot, line_of, train_by, trains_by, AreLabelled, IsLinked, IsTrainStored, same-gets, slot-at}
 use Rattle.train_nodes.proofs.Words.{line-length, placed-linked, placed-at}
 use Rattle.train_nodes.proofs.StoredLemmas.{IsRowAt, kept-line, kept-stored, trains-get}
@@ -36,11 +36,11 @@ change-other (s ∷ ts) (suc t) zero f ne = refl
 change-other (s ∷ ts) (suc t) (suc u) f ne = change-other ts t u f (λ e. ne (ap suc e))
 
 -- one train changed, by its line
-pub record IsTrainChange (a b : Inside) (t : ℕ) (r q : Row) (n m : NumberedTrain) (at : ℕ → ℕ) : Type 0 where
+pub record IsTrainChange (a b : Inside) (t : ℕ) (r q : TrainRecord) (n m : NumberedTrain) (at : ℕ → ℕ) : Type 0 where
   pub of : IsRowAt a t r n
-  pub row : slice_get b.rows.items t ≡ Some q
+  pub row : slice_get b.records.items t ≡ Some q
   pub number : slice_get b.slots.trains t ≡ Some m
-  pub other_rows : (u : ℕ) → u ≢ t → slice_get b.rows.items u ≡ slice_get a.rows.items u
+  pub other_rows : (u : ℕ) → u ≢ t → slice_get b.records.items u ≡ slice_get a.records.items u
   pub other_numbers : (u : ℕ) → u ≢ t → slice_get b.slots.trains u ≡ slice_get a.slots.trains u
   pub others : AreOthersKept t a.calls.items b.calls.items
   pub placed : IsPlacedAt b.calls.items t q.len at
@@ -50,7 +50,7 @@ pub record IsTrainChange (a b : Inside) (t : ℕ) (r q : Row) (n m : NumberedTra
   pub last : last_label (map call_of (line_of b.calls.items q.len m)) ≡ Some (m.loaded - 1)
   pub spare : b.slots.spare_calls ≤ a.slots.spare_calls
 
-module _ (a b : Inside) (t : ℕ) (r q : Row) (n m : NumberedTrain) (at : ℕ → ℕ) (w : IsTrainChange a b t r q n m at) where
+module _ (a b : Inside) (t : ℕ) (r q : TrainRecord) (n m : NumberedTrain) (at : ℕ → ℕ) (w : IsTrainChange a b t r q n m at) where
   abbrev cs : List StoredCall
   cs = a.calls.items
 
@@ -63,12 +63,12 @@ module _ (a b : Inside) (t : ℕ) (r q : Row) (n m : NumberedTrain) (at : ℕ �
       let linked = placed-linked ds t q.len at w.placed q.len 0 (omega arith) in
       record { whole = rw w.begins at whole; linked = rw w.begins at linked; reports = w.reports; labels = w.labels; last = w.last }
 
-  other-linked : (u : ℕ) (p : Row) (k : NumberedTrain) → u ≢ t → slice_get a.rows.items u ≡ Some p → slice_get a.slots.trains u ≡ Some k → IsLinked ds u 0 (first_slot k) (first_slot k) (line_of cs p.len k)
+  other-linked : (u : ℕ) (p : TrainRecord) (k : NumberedTrain) → u ≢ t → slice_get a.records.items u ≡ Some p → slice_get a.slots.trains u ≡ Some k → IsLinked ds u 0 (first_slot k) (first_slot k) (line_of cs p.len k)
   other-linked u p k ne row number =
       linked-others t u cs ds _ 0 _ _ w.others ne (w.of.stored.trains u p k row number).linked
 
   -- each train is stored as before
-  pub train-changed : (u : ℕ) (p : Row) (k : NumberedTrain) → slice_get b.rows.items u ≡ Some p → slice_get b.slots.trains u ≡ Some k → IsTrainStored b.slots.spare_calls ds u p.len k
+  pub train-changed : (u : ℕ) (p : TrainRecord) (k : NumberedTrain) → slice_get b.records.items u ≡ Some p → slice_get b.slots.trains u ≡ Some k → IsTrainStored b.slots.spare_calls ds u p.len k
   train-changed u p k row number = elim (cases_eq u t) [
     | inl same ↦ grind (arith, same, row, number, w.row, w.number, own-stored)
     | inr ne ↦ (
@@ -78,7 +78,7 @@ module _ (a b : Inside) (t : ℕ) (r q : Row) (n m : NumberedTrain) (at : ℕ �
   ]
 
   -- each call that is one of its train's stands at its place
-  pub placed-changed : (i : ℕ) (x : StoredCall) (p : Row) (k : NumberedTrain) → slice_get ds i ≡ Some x → x.current ≡ true → slice_get b.rows.items x.train ≡ Some p → slice_get b.slots.trains x.train ≡ Some k → (x.place < p.len) × (slot_after ds x.place (first_slot k) ≡ i)
+  pub placed-changed : (i : ℕ) (x : StoredCall) (p : TrainRecord) (k : NumberedTrain) → slice_get ds i ≡ Some x → x.current ≡ true → slice_get b.records.items x.train ≡ Some p → slice_get b.slots.trains x.train ≡ Some k → (x.place < p.len) × (slot_after ds x.place (first_slot k) ≡ i)
   placed-changed i x p k h c row number =
       let zero_more : 0 + x.place ≡ x.place = omega arith in
       elim (cases_eq x.train t) [
@@ -96,20 +96,20 @@ module _ (a b : Inside) (t : ℕ) (r q : Row) (n m : NumberedTrain) (at : ℕ �
             (s.0, slot-at ds x.train p.len from kept x.place 0 (omega (arith, s.0)) ∙ ap from zero_more ∙ s.1))
       ]
 
-  other-seen : (u : ℕ) (p : Row) (k : NumberedTrain) → u ≢ t → slice_get a.rows.items u ≡ Some p → slice_get a.slots.trains u ≡ Some k → train_by ds p k ≡ train_by cs p k
+  other-seen : (u : ℕ) (p : TrainRecord) (k : NumberedTrain) → u ≢ t → slice_get a.records.items u ≡ Some p → slice_get a.slots.trains u ≡ Some k → train_by ds p k ≡ train_by cs p k
   other-seen u p k ne row number =
       rw (kept-line cs ds u p.len k _ 0 (w.of.stored.trains u p k row number) (other-linked u p k ne row number)) refl
 
-  seen-other : (u : ℕ) → u ≢ t → slice_get (trains_by ds b.rows.items b.slots.trains) u ≡ slice_get (trains_by cs a.rows.items a.slots.trains) u
+  seen-other : (u : ℕ) → u ≢ t → slice_get (trains_by ds b.records.items b.slots.trains) u ≡ slice_get (trains_by cs a.records.items a.slots.trains) u
   seen-other u ne =
-      rw (trains-get ds b.rows.items b.slots.trains u, w.other_rows u ne, w.other_numbers u ne, trains-get cs a.rows.items a.slots.trains u)
-      (grind (arith, ne, λ (p : Row) (k : NumberedTrain). other-seen u p k))
+      rw (trains-get ds b.records.items b.slots.trains u, w.other_rows u ne, w.other_numbers u ne, trains-get cs a.records.items a.slots.trains u)
+      (grind (arith, ne, λ (p : TrainRecord) (k : NumberedTrain). other-seen u p k))
 
   -- and one train that is seen is changed
-  pub trains-changed : (f : Train → Train) → train_by ds q m ≡ f (train_by cs r n) → trains_by ds b.rows.items b.slots.trains ≡ change_train t f (trains_by cs a.rows.items a.slots.trains)
+  pub trains-changed : (f : Train → Train) → train_by ds q m ≡ f (train_by cs r n) → trains_by ds b.records.items b.slots.trains ≡ change_train t f (trains_by cs a.records.items a.slots.trains)
   trains-changed f e =
-      let old = trains_by cs a.rows.items a.slots.trains in
+      let old = trains_by cs a.records.items a.slots.trains in
       same-gets _ _ (λ u. elim (cases_eq u t) [
-        | inl same ↦ rw (same, change-own old t f, trains-get ds b.rows.items b.slots.trains t, trains-get cs a.rows.items a.slots.trains t, w.row, w.number, w.of.row, w.of.number) (ap Some e)
+        | inl same ↦ rw (same, change-own old t f, trains-get ds b.records.items b.slots.trains t, trains-get cs a.records.items a.slots.trains t, w.row, w.number, w.of.row, w.of.number) (ap Some e)
         | inr ne ↦ rw (change-other old t u f ne) (seen-other u ne)
       ])

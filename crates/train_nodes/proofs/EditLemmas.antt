@@ -1,12 +1,12 @@
 -- A change of one event's values, in the storage and in the state.
 use Rattle.train_nodes.proofs.Words.{◌≡◌, ◌≢◌, ℕ, List, Bool, true, false, nat_eq, Some, refl, ◌∙◌, subst, arith, slice_get, vec_capacity, inl}
 use Rattle.train_nodes.proofs.Words.{inr, set, Vec, Global, cond_both, cases_eq, length-set, slice_get_within, Call, change_labelled}
-use Rattle.train_nodes.proofs.Words.{change_event, Forecast, Row, StoredCall, Inside, edited, walk, call_of, call_report, HasPlaces, HasNextReports, IsEdited, IsRenewed}
+use Rattle.train_nodes.proofs.Words.{change_event, Forecast, TrainRecord, StoredCall, Inside, edited, walk, call_of, call_report, HasPlaces, HasNextReports, IsEdited, IsRenewed}
 use Rattle.train_nodes.proofs.Words.{IsTrainLine, NumberedTrain, first_slot, line_of, eq-eqb, nat_eq-apart, slice_get-set_same}
 use Rattle.train_nodes.proofs.Words.{slice_get-set_other, IsChangedBy, IsLineChange, KeepsReport, kept-places, kept-reports}
 use Rattle.train_nodes.proofs.StoredLemmas.{IsRowAt, row-stored, IsFound, IsEdit, then-renewed, changed-line}
 
-module _ (a : Inside) (t l slot : ℕ) (x y : StoredCall) (r : Row) (n : NumberedTrain) (h : Call → Call) (w : IsFound a t l slot x r n) (call : call_of y ≡ h (call_of x)) (rest : IsEdited x y) where
+module _ (a : Inside) (t l slot : ℕ) (x y : StoredCall) (r : TrainRecord) (n : NumberedTrain) (h : Call → Call) (w : IsFound a t l slot x r n) (call : call_of y ≡ h (call_of x)) (rest : IsEdited x y) where
   abbrev old : List StoredCall
   old = a.calls.items
 
@@ -61,7 +61,7 @@ forecast-reports true time c = refl
 forecast-reports false time c = refl
 
 -- calls that were changed and then renewed
-pub renewed-edit : (a : Inside) (calls : Vec StoredCall Global) (t len : ℕ) (g : Call → Call) (mid : List StoredCall) (r : Row) (n : NumberedTrain) → IsRowAt a t r n → IsLineChange t g a.calls.items mid → len ≡ r.len → ((first : ℕ) → IsTrainLine a.slots t first len mid → IsRenewed t first len mid calls.items) → vec_capacity calls ≡ vec_capacity a.calls → IsEdit a calls t g r n
+pub renewed-edit : (a : Inside) (calls : Vec StoredCall Global) (t len : ℕ) (g : Call → Call) (mid : List StoredCall) (r : TrainRecord) (n : NumberedTrain) → IsRowAt a t r n → IsLineChange t g a.calls.items mid → len ≡ r.len → ((first : ℕ) → IsTrainLine a.slots t first len mid → IsRenewed t first len mid calls.items) → vec_capacity calls ≡ vec_capacity a.calls → IsEdit a calls t g r n
 renewed-edit a calls t len g mid r n w k e renew capacity =
     let f = first_slot n in
     let done = (rw e at renew) f (changed-line a t g mid r n w k) in

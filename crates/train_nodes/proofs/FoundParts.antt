@@ -4,7 +4,7 @@ use Rattle.train_nodes.proofs.Words.{◌^◌, inl, inr, List, [], ◌∷◌, Boo
 use Rattle.train_nodes.proofs.Words.{map, ◌⊎◌, Option, MatchOption, is_some, cases_Bool, or_parts, cases_lt, nat_tests, take-append-drop, length-map, slice_get_within}
 use Rattle.train_nodes.proofs.Words.{list_any, first-within, first-drop, none-any, past-none, stands, stands-no-first, stands-no-last, stands-not, between-at, IsPlacedAt}
 use Rattle.train_nodes.proofs.Words.{IsPart, IsPartOf, HasNoPart, call_of, slot_after, is_between, IsCurrentAt, HasNoCurrent, NumberedTrain, slot_of, IsFirst, AreInOrder}
-use Rattle.train_nodes.proofs.Words.{first_slot, line_of, seen, IsStored, Row, Part, StoredCall, Inside, list_any-append, one-of}
+use Rattle.train_nodes.proofs.Words.{first_slot, line_of, seen, IsStored, TrainRecord, Part, StoredCall, Inside, list_any-append, one-of}
 use Rattle.train_nodes.proofs.StoredLemmas.{IsRowAt, row-stored, row-calls, IsFound, found, none-named}
 use Rattle.train_nodes.proofs.StoredLines.{stored-line}
 
@@ -56,15 +56,15 @@ current-by a t l (Some slot) s e =
     ]
 
 -- the call of a label, in the train's row
-pub found-in : {a : Inside} {t l slot : ℕ} {r : Row} {n : NumberedTrain} → IsRowAt a t r n → (c : IsCurrentAt a.calls.items a.slots t l slot) → IsFound a t l slot c.call r n
+pub found-in : {a : Inside} {t l slot : ℕ} {r : TrainRecord} {n : NumberedTrain} → IsRowAt a t r n → (c : IsCurrentAt a.calls.items a.slots t l slot) → IsFound a t l slot c.call r n
 found-in {a} {t} {l} {slot} {r} {n} w c =
     let k = found a t l slot c.call w.stored c c.stored in
-    rw (one-of a.rows.items t k.0 r k.2.of.row w.row, one-of a.slots.trains t k.1 n k.2.of.number w.number) at k.2
+    rw (one-of a.records.items t k.0 r k.2.of.row w.row, one-of a.slots.trains t k.1 n k.2.of.number w.number) at k.2
 
 -- a part of a train that is there, by the train's row
-pub record IsFoundPart (a : Inside) (t from to : ℕ) (p : Part) (r : Row) (n : NumberedTrain) : Type 0 where
+pub record IsFoundPart (a : Inside) (t from to : ℕ) (p : Part) (r : TrainRecord) (n : NumberedTrain) : Type 0 where
   pub of : IsRowAt a t r n
-  pub there : (t < length a.rows.items) × (t < length a.slots.trains)
+  pub there : (t < length a.records.items) × (t < length a.slots.trains)
   pub part : IsPartOf a.calls.items a.slots t from to p
   pub start : slot_after a.calls.items p.first (first_slot n) ≡ p.from
   pub end : slot_after a.calls.items p.last (first_slot n) ≡ p.to
@@ -73,7 +73,7 @@ pub record IsFoundPart (a : Inside) (t from to : ℕ) (p : Part) (r : Row) (n : 
   pub labels : r.len ≤ length n.slots
   pub small : length n.slots + a.slots.spare_calls < 2 ^ 31
 
-pub part-found : {a : Inside} {cs : List StoredCall} {t from to : ℕ} {p : Part} → IsStored a → cs ≡ a.calls.items → IsPartOf cs a.slots t from to p → (r : Row) × (n : NumberedTrain) × IsFoundPart a t from to p r n
+pub part-found : {a : Inside} {cs : List StoredCall} {t from to : ℕ} {p : Part} → IsStored a → cs ≡ a.calls.items → IsPartOf cs a.slots t from to p → (r : TrainRecord) × (n : NumberedTrain) × IsFoundPart a t from to p r n
 part-found {a} {cs} {t} {from} {to} {p} s read g =
     let h = subst (λ cs. IsPartOf cs a.slots t from to p) read g in
     let k = found a t from p.from h.start.call s h.start h.start.stored in
@@ -90,7 +90,7 @@ part-found {a} {cs} {t} {from} {to} {p} s read g =
       n,
       record {
         of = u.of;
-        there = (slice_get_within a.rows.items t r u.of.row, slice_get_within a.slots.trains t n u.of.number);
+        there = (slice_get_within a.records.items t r u.of.row, slice_get_within a.slots.trains t n u.of.number);
         part = h;
         start = ap at (sym h.first_is) ∙ u.slot_is;
         end = ap at (sym h.last_is) ∙ v.slot_is;
@@ -108,7 +108,7 @@ part-found {a} {cs} {t} {from} {to} {p} s read g =
     )
 
 -- it is one of the train's line
-pub found-part : {a : Inside} {t from to : ℕ} {p : Part} {r : Row} {n : NumberedTrain} → IsFoundPart a t from to p r n → IsPart a.calls.items p.train p.from p.to p.first p.last
+pub found-part : {a : Inside} {t from to : ℕ} {p : Part} {r : TrainRecord} {n : NumberedTrain} → IsFoundPart a t from to p r n → IsPart a.calls.items p.train p.from p.to p.first p.last
 found-part {a} {t} {from} {to} {p} {r} {n} w =
     record {
       len = r.len;
@@ -142,7 +142,7 @@ stands-found a cs st t from to None s read view h =
 stands-found a cs st t from to (Some p) s read view h =
     sym (stands from to p.first p.last (calls_of (seen a) t) (part-found s read h).2.order) ∙ ap (λ st. stands_before from to (calls_of st t)) view
 
-module _ {a : Inside} {t from to : ℕ} {p : Part} {r : Row} {n : NumberedTrain} (w : IsFoundPart a t from to p r n) where
+module _ {a : Inside} {t from to : ℕ} {p : Part} {r : TrainRecord} {n : NumberedTrain} (w : IsFoundPart a t from to p r n) where
   -- the calls between the two are those that the storage tells by their places
   pub between-test : (l : ℕ) → is_between a.calls.items a.slots t p.first p.last l ≡ has_call l (calls_between from to (calls_of (seen a) t))
   between-test l =

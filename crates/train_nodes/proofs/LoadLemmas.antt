@@ -1,7 +1,7 @@
 -- A train at the end, in the storage and in the state.
 use Rattle.train_nodes.proofs.Words.{◌≡◌, ℕ, zero, suc, ◌+◌, ◌-◌, ◌<◌, ◌≤◌, ◌^◌, ◌⊎◌, inl, inr, List, [], ◌∷◌, ◌++◌, true, Some, length, refl, ◌∙◌, ap}
 use Rattle.train_nodes.proofs.Words.{arith, map, slice_get, vec_capacity, Vec, Global, length-map, length-append, slice_get_within}
-use Rattle.train_nodes.proofs.Words.{slice_get_cases, TableCall, Row, StoredCall, Inside}
+use Rattle.train_nodes.proofs.Words.{slice_get_cases, TableCall, TrainRecord, StoredCall, Inside}
 use Rattle.train_nodes.proofs.Words.{walk, call_of, slot_after, HasNextReports, IsLaid, AreLaid, call_at, loaded_from, loaded_train}
 use Rattle.train_nodes.proofs.Words.{with_train, NumberedTrain, slots_from, with_numbered, first_slot, line_of, train_by, trains_by, seen}
 use Rattle.train_nodes.proofs.Words.{IsInLine, IsLinked, IsTrainStored, IsCallAt, IsStored, numbered-loaded, numbered-distinct, numbered-below, State}
@@ -9,36 +9,36 @@ use Rattle.train_nodes.proofs.Words.{get-push, walk-next, linked-kept, kept-afte
 use Rattle.train_nodes.proofs.StoredLemmas.{kept-line, kept-stored, same-trains}
 use Rattle.train_nodes.proofs.Words.{range-get, range-only, slots-from, slots_at, push-stays, push-only, push-made}
 
-pushed-trains : (cs : List StoredCall) (rs : List Row) (ns : List NumberedTrain) (r : Row) (n : NumberedTrain) → length rs ≡ length ns → trains_by cs (rs ++ r ∷ []) (ns ++ n ∷ []) ≡ trains_by cs rs ns ++ train_by cs r n ∷ []
+pushed-trains : (cs : List StoredCall) (rs : List TrainRecord) (ns : List NumberedTrain) (r : TrainRecord) (n : NumberedTrain) → length rs ≡ length ns → trains_by cs (rs ++ r ∷ []) (ns ++ n ∷ []) ≡ trains_by cs rs ns ++ train_by cs r n ∷ []
 pushed-trains cs [] [] r n e = refl
 pushed-trains cs [] (m ∷ ns) r n e = absurd (omega arith)
 pushed-trains cs (q ∷ rs) [] r n e = absurd (omega arith)
 pushed-trains cs (q ∷ rs) (m ∷ ns) r n e = ap (λ ts. train_by cs q m ∷ ts) (pushed-trains cs rs ns r n (omega arith))
 
 -- a train of the timetable, or an extra one, is stored
-pub record IsLoad (a : Inside) (rows : Vec Row Global) (calls : Vec StoredCall Global) (day route : ℕ) (cs : List TableCall) : Type 0 where
+pub record IsLoad (a : Inside) (records : Vec TrainRecord Global) (calls : Vec StoredCall Global) (day route : ℕ) (cs : List TableCall) : Type 0 where
   pub before : IsStored a
-  pub added : rows.items ≡ a.rows.items ++ record { day = day; route = route; len = length cs } ∷ []
-  pub laid : AreLaid (length a.rows.items) (length a.calls.items) cs (length cs) a.calls.items calls.items
-  pub rows_capacity : vec_capacity rows ≡ vec_capacity a.rows
+  pub added : records.items ≡ a.records.items ++ record { day = day; route = route; len = length cs } ∷ []
+  pub laid : AreLaid (length a.records.items) (length a.calls.items) cs (length cs) a.calls.items calls.items
+  pub rows_capacity : vec_capacity records ≡ vec_capacity a.records
   pub calls_capacity : vec_capacity calls ≡ vec_capacity a.calls
   pub two : 2 ≤ length cs
   pub spare_trains : 0 < a.slots.spare_trains
   pub spare_calls : length cs ≤ a.slots.spare_calls
   pub small : a.slots.used + a.slots.spare_calls < 2 ^ 31
 
-pub load-from : (a : Inside) (st : State) (rows : Vec Row Global) (calls : Vec StoredCall Global) (day route : ℕ) (cs : List TableCall) (number first : ℕ) → IsStored a → seen a ≡ st → number ≡ length a.slots.trains → first ≡ a.slots.used → rows.items ≡ a.rows.items ++ record { day = day; route = route; len = length cs } ∷ [] → AreLaid number first cs (length cs) a.calls.items calls.items → vec_capacity rows ≡ vec_capacity a.rows → vec_capacity calls ≡ vec_capacity a.calls → 2 ≤ length cs → 0 < st.spare_trains → length cs ≤ st.spare_calls → a.slots.used + a.slots.spare_calls < 2 ^ 31 → IsLoad a rows calls day route cs
-load-from a st rows calls day route cs number first s v n f added laid row-room call-room two some enough small =
-    let number-is : number ≡ length a.rows.items = omega (arith, s.rows_count) in
+pub load-from : (a : Inside) (st : State) (records : Vec TrainRecord Global) (calls : Vec StoredCall Global) (day route : ℕ) (cs : List TableCall) (number first : ℕ) → IsStored a → seen a ≡ st → number ≡ length a.slots.trains → first ≡ a.slots.used → records.items ≡ a.records.items ++ record { day = day; route = route; len = length cs } ∷ [] → AreLaid number first cs (length cs) a.calls.items calls.items → vec_capacity records ≡ vec_capacity a.records → vec_capacity calls ≡ vec_capacity a.calls → 2 ≤ length cs → 0 < st.spare_trains → length cs ≤ st.spare_calls → a.slots.used + a.slots.spare_calls < 2 ^ 31 → IsLoad a records calls day route cs
+load-from a st records calls day route cs number first s v n f added laid row-room call-room two some enough small =
+    let number-is : number ≡ length a.records.items = omega (arith, s.records_count) in
     let first-is : first ≡ length a.calls.items = omega (arith, s.calls_count) in
     let new = rw (number-is, first-is) at laid in
     let some-train = rw (← v) at some in
     let some-calls = rw (← v) at enough in
     grind (arith, s, added, new, row-room, call-room, two, some-train, some-calls, small)
 
-module _ (a : Inside) (rows : Vec Row Global) (calls : Vec StoredCall Global) (day route : ℕ) (cs : List TableCall) (w : IsLoad a rows calls day route cs) where
+module _ (a : Inside) (records : Vec TrainRecord Global) (calls : Vec StoredCall Global) (day route : ℕ) (cs : List TableCall) (w : IsLoad a records calls day route cs) where
   abbrev number : ℕ
-  number = length a.rows.items
+  number = length a.records.items
 
   abbrev start : ℕ
   start = length a.calls.items
@@ -46,7 +46,7 @@ module _ (a : Inside) (rows : Vec Row Global) (calls : Vec StoredCall Global) (d
   abbrev spare : ℕ
   spare = a.slots.spare_calls - length cs
 
-  abbrev row : Row
+  abbrev row : TrainRecord
   row = record { day = day; route = route; len = length cs }
 
   abbrev numbers : NumberedTrain
@@ -104,16 +104,16 @@ module _ (a : Inside) (rows : Vec Row Global) (calls : Vec StoredCall Global) (d
       }
 
   -- an old train is linked as before
-  old-linked : (u : ℕ) (q : Row) (m : NumberedTrain) → slice_get a.rows.items u ≡ Some q → slice_get a.slots.trains u ≡ Some m → IsLinked calls.items u 0 (first_slot m) (first_slot m) (line_of a.calls.items q.len m)
+  old-linked : (u : ℕ) (q : TrainRecord) (m : NumberedTrain) → slice_get a.records.items u ≡ Some q → slice_get a.slots.trains u ≡ Some m → IsLinked calls.items u 0 (first_slot m) (first_slot m) (line_of a.calls.items q.len m)
   old-linked u q m is has =
       linked-kept a.calls.items calls.items _ u 0 (first_slot m) (first_slot m) w.laid.stay (w.before.trains u q m is has).linked
 
   -- a train is an old one or the new one
-  row-cases : (u : ℕ) (q : Row) (m : NumberedTrain) → slice_get rows.items u ≡ Some q → slice_get (a.slots.trains ++ numbers ∷ []) u ≡ Some m → ((slice_get a.rows.items u ≡ Some q) × (slice_get a.slots.trains u ≡ Some m)) ⊎ ((u ≡ number) × (q ≡ row) × (m ≡ numbers))
+  row-cases : (u : ℕ) (q : TrainRecord) (m : NumberedTrain) → slice_get records.items u ≡ Some q → slice_get (a.slots.trains ++ numbers ∷ []) u ≡ Some m → ((slice_get a.records.items u ≡ Some q) × (slice_get a.slots.trains u ≡ Some m)) ⊎ ((u ≡ number) × (q ≡ row) × (m ≡ numbers))
   row-cases u q m h k =
-      let own = get-push a.rows.items row u q (rw w.added at h) in
+      let own = get-push a.records.items row u q (rw w.added at h) in
       let numbered = get-push a.slots.trains numbers u m k in
-      grind (arith, own, numbered, slice_get_within a.rows.items u q, slice_get_within a.slots.trains u m, w.before.rows_count)
+      grind (arith, own, numbered, slice_get_within a.records.items u q, slice_get_within a.slots.trains u m, w.before.records_count)
 
   -- a call of the new train in its slot
   record IsNewAt (i : ℕ) (y : StoredCall) : Type 0 where
@@ -142,13 +142,13 @@ module _ (a : Inside) (rows : Vec Row Global) (calls : Vec StoredCall Global) (d
       rw (z.2, after) (omega (arith, new-after k (j + 1) (omega arith)))
 
   abbrev pushed : Inside
-  pushed = record a { rows = rows; calls = calls; slots = with_numbered (length cs) a.slots }
+  pushed = record a { records = records; calls = calls; slots = with_numbered (length cs) a.slots }
 
   pushed-numbered : (i : ℕ) (y : StoredCall) → slice_get calls.items i ≡ Some y → slots_at (a.slots.trains ++ numbers ∷ []) y.train y.label ≡ Some i
   pushed-numbered i y h = elim (call-cases i y h) [
     | inl old ↦ push-stays a.slots.trains numbers y.train y.label i (w.before.numbered i y old)
     | inr new ↦ (
-        let train : y.train ≡ length a.slots.trains = omega (arith, new.laid.train_is, w.before.rows_count) in
+        let train : y.train ≡ length a.slots.trains = omega (arith, new.laid.train_is, w.before.records_count) in
         let slot = range-get a.slots.used (length cs) new.place new.within in
         grind (arith, train, new.laid.call_is, new.slot, slot, push-made a.slots.trains numbers new.place, w.before.calls_count))
   ]
@@ -162,10 +162,10 @@ module _ (a : Inside) (rows : Vec Row Global) (calls : Vec StoredCall Global) (d
         let at = range-only a.slots.used (length cs) l i new.1 in
         let slot : i ≡ start + l = omega (arith, at.1, w.before.calls_count) in
         let z = new-at l at.0 in
-        grind (arith, slot, z, new.0, w.before.rows_count))
+        grind (arith, slot, z, new.0, w.before.records_count))
   ]
 
-  pushed-placed : (i : ℕ) (y : StoredCall) (q : Row) (m : NumberedTrain) → slice_get calls.items i ≡ Some y → y.current ≡ true → slice_get rows.items y.train ≡ Some q → slice_get (a.slots.trains ++ numbers ∷ []) y.train ≡ Some m → (y.place < q.len) × (slot_after calls.items y.place (first_slot m) ≡ i)
+  pushed-placed : (i : ℕ) (y : StoredCall) (q : TrainRecord) (m : NumberedTrain) → slice_get calls.items i ≡ Some y → y.current ≡ true → slice_get records.items y.train ≡ Some q → slice_get (a.slots.trains ++ numbers ∷ []) y.train ≡ Some m → (y.place < q.len) × (slot_after calls.items y.place (first_slot m) ≡ i)
   pushed-placed i y q m h current is has = elim (row-cases y.train q m is has) [
     | inl old ↦ elim (call-cases i y h) [
       | inl was ↦ (
@@ -173,10 +173,10 @@ module _ (a : Inside) (rows : Vec Row Global) (calls : Vec StoredCall Global) (d
           let own = w.before.trains y.train q m old.0 old.1 in
           let f = first_slot m in
           (p.0, kept-after a.calls.items calls.items (line_of a.calls.items q.len m) y.train 0 f f y.place w.laid.stay own.linked (omega (arith, p.0, own.whole)) ∙ p.1))
-      | inr new ↦ absurd (omega (arith, new.laid.train_is, slice_get_within a.rows.items y.train q old.0))
+      | inr new ↦ absurd (omega (arith, new.laid.train_is, slice_get_within a.records.items y.train q old.0))
     ]
     | inr new ↦ elim (call-cases i y h) [
-      | inl was ↦ grind (arith, new.0, w.before.rows_count, w.before.numbered i y was, λ (n : NumberedTrain). slice_get_within a.slots.trains y.train n)
+      | inl was ↦ grind (arith, new.0, w.before.records_count, w.before.numbered i y was, λ (n : NumberedTrain). slice_get_within a.slots.trains y.train n)
       | inr also ↦ (
           let after = new-after also.place 0 (omega (arith, also.within)) in
           let f : first_slot numbers ≡ start + 0 = omega (arith, first-is) in
@@ -188,7 +188,7 @@ module _ (a : Inside) (rows : Vec Row Global) (calls : Vec StoredCall Global) (d
   pub load-stored : IsStored pushed
   load-stored =
       let s = w.before in
-      let rows-len : length rows.items ≡ number + 1 = omega (arith, ap length w.added, length-append a.rows.items (row ∷ [])) in
+      let rows-len : length records.items ≡ number + 1 = omega (arith, ap length w.added, length-append a.records.items (row ∷ [])) in
       record {
         trains = λ u q m is has. elim (row-cases u q m is has) [
           | inl old ↦ kept-stored a.calls.items calls.items u q.len m a.slots.spare_calls spare (s.trains u q m old.0 old.1) (old-linked u q m old.0 old.1) (omega arith)
@@ -197,21 +197,21 @@ module _ (a : Inside) (rows : Vec Row Global) (calls : Vec StoredCall Global) (d
         numbered = pushed-numbered;
         named = pushed-named;
         placed = pushed-placed;
-        rows_count = omega (arith, s.rows_count, length-append a.slots.trains (numbers ∷ []));
+        records_count = omega (arith, s.records_count, length-append a.slots.trains (numbers ∷ []));
         calls_count = omega (arith, s.calls_count, w.laid.count);
-        rows_room = omega (arith, s.rows_room, w.rows_capacity, w.spare_trains);
+        records_room = omega (arith, s.records_room, w.rows_capacity, w.spare_trains);
         calls_room = omega (arith, s.calls_room, w.calls_capacity, w.laid.count, w.spare_calls);
       }
 
   -- and one more train is seen
   pub load-seen : seen pushed ≡ with_train (loaded_train day route cs) (seen a)
   load-seen =
-      let rs = a.rows.items in
+      let rs = a.records.items in
       let ns = a.slots.trains in
-      let kept = λ (u : ℕ) (q : Row) (m : NumberedTrain) (is : slice_get rs u ≡ Some q) (has : slice_get ns u ≡ Some m).
+      let kept = λ (u : ℕ) (q : TrainRecord) (m : NumberedTrain) (is : slice_get rs u ≡ Some q) (has : slice_get ns u ≡ Some m).
       (let line = kept-line a.calls.items calls.items u q.len m a.slots.spare_calls 0 (w.before.trains u q m is has) (old-linked u q m is has) in
       let same : train_by calls.items q m ≡ train_by a.calls.items q m = rw line refl in same) in
       let calls-are = whole-line.is ∙ loaded-is cs in
       let new : train_by calls.items row numbers ≡ loaded_train day route cs = rw (calls-are, slots-from a.slots.used (length cs)) refl in
       let count : length (loaded_train day route cs).calls ≡ length cs = omega (arith, length-loaded (length cs) 0 cs, ap length (loaded-is cs)) in
-      rw (w.added, pushed-trains calls.items rs ns row numbers w.before.rows_count, same-trains a.calls.items calls.items rs ns kept, new, count) refl
+      rw (w.added, pushed-trains calls.items rs ns row numbers w.before.records_count, same-trains a.calls.items calls.items rs ns kept, new, count) refl

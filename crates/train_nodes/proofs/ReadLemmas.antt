@@ -2,7 +2,7 @@
 use Rattle.train_nodes.proofs.Words.{◌≡◌, ◌≢◌, ℕ, suc, ◌+◌, ◌-◌, ◌<◌, ◌≤◌, ◌^◌, List, IsTrue, length, get_or, refl, sym, ◌∙◌, ap, arith}
 use Rattle.train_nodes.proofs.Words.{Some, None, slice_get, is_some, map, All, inl, inr, vec_capacity, option_map, length-map, slice_get_within, slice_get_cases}
 use Rattle.train_nodes.proofs.Words.{slice_get_past, slice_get-map, slice_get-get_or, slice_get_read, Train, State, calls_of, events_at, train_events, HasDistinctLabels}
-use Rattle.train_nodes.proofs.Words.{Row, StoredCall, Inside, call_named, first_label, label_after, label_before, walk, call_of, IsCurrentAt, HasNoCurrent, NumberedTrain}
+use Rattle.train_nodes.proofs.Words.{TrainRecord, StoredCall, Inside, call_named, first_label, label_after, label_before, walk, call_of, IsCurrentAt, HasNoCurrent, NumberedTrain}
 use Rattle.train_nodes.proofs.Words.{slot_of, first_slot, line_of, train_by, seen, IsStored, label_after-at, label_before-at, label_before-none}
 use Rattle.train_nodes.proofs.Words.{walk-at, linked-next}
 use Rattle.call_lines.specs.Calls.{has_call}
@@ -10,22 +10,22 @@ use Rattle.train_nodes.proofs.StoredLemmas.{train-none, seen-length, IsRowAt, ro
 use Rattle.train_nodes.proofs.StoredLemmas.{none-named}
 
 -- a train of the state is there
-pub there-seen : (a : Inside) (st : State) (t : ℕ) → IsStored a → seen a ≡ st → t < length st.trains → (t < length a.rows.items) × (t < length a.slots.trains)
+pub there-seen : (a : Inside) (st : State) (t : ℕ) → IsStored a → seen a ≡ st → t < length st.trains → (t < length a.records.items) × (t < length a.slots.trains)
 there-seen a st t s v l =
     let n : length st.trains ≡ length a.slots.trains = rw (← v) (seen-length a s) in
-    (omega (arith, s.rows_count), omega arith)
+    (omega (arith, s.records_count), omega arith)
 
 -- the row that is read is that of the train
-pub row-read : (a : Inside) (st : State) (t i : ℕ) (r : Row) → IsStored a → seen a ≡ st → t < length st.trains → i ≡ t → r ≡ get_or a.rows.items i r → (n : NumberedTrain) × IsRowAt a t r n × (slice_get st.trains t ≡ Some (train_by a.calls.items r n))
+pub row-read : (a : Inside) (st : State) (t i : ℕ) (r : TrainRecord) → IsStored a → seen a ≡ st → t < length st.trains → i ≡ t → r ≡ get_or a.records.items i r → (n : NumberedTrain) × IsRowAt a t r n × (slice_get st.trains t ≡ Some (train_by a.calls.items r n))
 row-read a st t i r s v l e is =
     let k = there-seen a st t s v l in
     let w = row-there a t s k.1 in
-    let read = slice_get_read a.rows.items (length a.rows.items) t r refl k.0 (rw e at is) in
+    let read = slice_get_read a.records.items (length a.records.items) t r refl k.0 (rw e at is) in
     let at : IsRowAt a t r w.1 = record { stored = s; row = read; number = w.2.number } in
     (w.1, at, ap (λ (st : State). slice_get st.trains t) (sym v) ∙ row-train a t r w.1 at)
 
 -- a train has fewer than 2^31 calls
-pub len-small : (a : Inside) (t : ℕ) (r : Row) (n : NumberedTrain) → IsRowAt a t r n → r.len < 2 ^ 31
+pub len-small : (a : Inside) (t : ℕ) (r : TrainRecord) (n : NumberedTrain) → IsRowAt a t r n → r.len < 2 ^ 31
 len-small a t r n w =
     let own = row-stored a t r n w in
     omega (arith, own.whole, own.labels.count, own.labels.small, length-map (line_of a.calls.items r.len n) call_of)
@@ -49,7 +49,7 @@ pub all-distinct : (a : Inside) (st : State) → IsStored a → seen a ≡ st �
 all-distinct a st s v = λ k d l. rw (slice_get-get_or st.trains k d l) at (distinct-seen a st k s v)
 
 -- the call that is read from a slot is the current one
-pub found-read : (a : Inside) (cs : List StoredCall) (t l slot : ℕ) (x : StoredCall) → IsStored a → cs ≡ a.calls.items → IsCurrentAt cs a.slots t l slot → x ≡ get_or a.calls.items slot x → (r : Row) × (n : NumberedTrain) × IsFound a t l slot x r n
+pub found-read : (a : Inside) (cs : List StoredCall) (t l slot : ℕ) (x : StoredCall) → IsStored a → cs ≡ a.calls.items → IsCurrentAt cs a.slots t l slot → x ≡ get_or a.calls.items slot x → (r : TrainRecord) × (n : NumberedTrain) × IsFound a t l slot x r n
 found-read a cs t l slot x s e c is =
     let d = rw e at c in
     found a t l slot x s d (slice_get_read a.calls.items _ slot x refl (slice_get_within a.calls.items slot d.call d.stored) is)
@@ -85,7 +85,7 @@ first-read a st t s v l =
       | inr past ↦ absurd (omega (arith, past.0, own.labels.some, own.labels.count))
     ]
 
-module _ (a : Inside) (st : State) (t l slot : ℕ) (x : StoredCall) (r : Row) (n : NumberedTrain) (v : seen a ≡ st) (w : IsFound a t l slot x r n) where
+module _ (a : Inside) (st : State) (t l slot : ℕ) (x : StoredCall) (r : TrainRecord) (n : NumberedTrain) (v : seen a ≡ st) (w : IsFound a t l slot x r n) where
   abbrev line : List StoredCall
   line = line_of a.calls.items r.len n
 
@@ -96,9 +96,9 @@ module _ (a : Inside) (st : State) (t l slot : ℕ) (x : StoredCall) (r : Row) (
   st-calls = rw (← v) (row-calls a t r n w.of)
 
   -- the row of its train
-  pub row-is : (i : ℕ) (q : Row) → i ≡ t → q ≡ get_or a.rows.items i q → q ≡ r
+  pub row-is : (i : ℕ) (q : TrainRecord) → i ≡ t → q ≡ get_or a.records.items i q → q ≡ r
   row-is i q e is =
-      grind (arith, w.of.row, slice_get_read a.rows.items _ t q refl (slice_get_within a.rows.items t r w.of.row) (rw e at is))
+      grind (arith, w.of.row, slice_get_read a.records.items _ t q refl (slice_get_within a.records.items t r w.of.row) (rw e at is))
 
   next-there : suc x.place < r.len → (y : StoredCall) × (slice_get line (suc x.place) ≡ Some y) × (slice_get a.calls.items x.after ≡ Some y)
   next-there m =
@@ -148,7 +148,7 @@ module _ (a : Inside) (st : State) (t l slot : ℕ) (x : StoredCall) (r : Row) (
   before-first e = rw st-calls (label_before-none (map call_of line) l x.place w.first e)
 
 -- the events of a train are those of its line
-pub events-read : (a : Inside) (st : State) (t i first : ℕ) (r : Row) (cs : List StoredCall) → IsStored a → seen a ≡ st → t < length st.trains → i ≡ t → r ≡ get_or a.rows.items i r → cs ≡ a.calls.items → slot_of a.slots t 0 ≡ Some first → events_at t r.route (map call_of (walk cs r.len first)) ≡ train_events st t
+pub events-read : (a : Inside) (st : State) (t i first : ℕ) (r : TrainRecord) (cs : List StoredCall) → IsStored a → seen a ≡ st → t < length st.trains → i ≡ t → r ≡ get_or a.records.items i r → cs ≡ a.calls.items → slot_of a.slots t 0 ≡ Some first → events_at t r.route (map call_of (walk cs r.len first)) ≡ train_events st t
 events-read a st t i first r cs s v l e is calls h =
     let w = row-read a st t i r s v l e is in
     let slot = rw w.1.number at h in
@@ -156,14 +156,14 @@ events-read a st t i first r cs s v l e is calls h =
     rw (calls, w.2, ← start) refl
 
 -- a copy with room is stored as well
-pub copied-stored : (a b : Inside) → IsStored a → b.rows.items ≡ a.rows.items → b.calls.items ≡ a.calls.items → b.slots ≡ a.slots → length b.rows.items + b.slots.spare_trains ≤ vec_capacity b.rows → length b.calls.items + b.slots.spare_calls ≤ vec_capacity b.calls → IsStored b
-copied-stored a b s rows calls slots rows-room calls-room = record {
-  trains = rw (rows, calls, slots) s.trains;
+pub copied-stored : (a b : Inside) → IsStored a → b.records.items ≡ a.records.items → b.calls.items ≡ a.calls.items → b.slots ≡ a.slots → length b.records.items + b.slots.spare_trains ≤ vec_capacity b.records → length b.calls.items + b.slots.spare_calls ≤ vec_capacity b.calls → IsStored b
+copied-stored a b s records calls slots rows-room calls-room = record {
+  trains = rw (records, calls, slots) s.trains;
   numbered = rw (calls, slots) s.numbered;
   named = rw (calls, slots) s.named;
-  placed = rw (rows, calls, slots) s.placed;
-  rows_count = rw (rows, slots) s.rows_count;
+  placed = rw (records, calls, slots) s.placed;
+  records_count = rw (records, slots) s.records_count;
   calls_count = rw (calls, slots) s.calls_count;
-  rows_room = rows-room;
+  records_room = rows-room;
   calls_room = calls-room;
 }

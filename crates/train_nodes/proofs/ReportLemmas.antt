@@ -1,7 +1,7 @@
 -- The reports after an event, by the calls after its own.
 use Rattle.train_nodes.proofs.Words.{arith, ◌≡◌, ℕ, zero, suc, List, [], ◌∷◌, Bool, true, false, cond, drop, refl, sym, ◌∙◌, ap, Option, Some, slice_get, map, option_or}
 use Rattle.train_nodes.proofs.Words.{option_map_or, Node, Call, Train, State, after, is_call, node_at, events_at, is_event, first_report, StoredCall, call_of}
-use Rattle.train_nodes.proofs.Words.{live_report, report_of, next_report_of, HasNextReports, IsFirst, report_after, line_of, Row, NumberedTrain, seen, Inside}
+use Rattle.train_nodes.proofs.Words.{live_report, report_of, next_report_of, HasNextReports, IsFirst, report_after, line_of, TrainRecord, NumberedTrain, seen, Inside}
 use Rattle.train_nodes.proofs.Words.{nat_eq-same, name-test}
 use Rattle.train_nodes.proofs.StoredLemmas.{IsFound, row-train, row-stored}
 
@@ -28,7 +28,7 @@ rest-reports t route dep (y ∷ xs) (suc j) x h e = rest-reports t route dep xs 
 rest-reports t route dep (y ∷ xs) zero x h e = grind (arith, reports-by t route (map call_of xs), h.0, e, nat_eq-same t)
 
 -- the report after an event of a call
-pub report-found : (a : Inside) (st : State) (n : Node) (slot : ℕ) (x : StoredCall) (r : Row) (m : NumberedTrain) → seen a ≡ st → IsFound a n.train n.label slot x r m → report_after st n ≡ known_after n.dep x
+pub report-found : (a : Inside) (st : State) (n : Node) (slot : ℕ) (x : StoredCall) (r : TrainRecord) (m : NumberedTrain) → seen a ≡ st → IsFound a n.train n.label slot x r m → report_after st n ≡ known_after n.dep x
 report-found a st n slot x r m v w =
     let line = line_of a.calls.items r.len m in
     ap (λ (st : State). report_after st n) (sym v)
@@ -36,8 +36,8 @@ report-found a st n slot x r m v w =
     ∙ ap (first_report n.train) (after-named n.train r.route n.label x.place n.dep (map call_of line) w.first)
     ∙ rest-reports n.train r.route n.dep line x.place x (row-stored a n.train r m w.of).reports w.place
 
-pub report-departs : (a : Inside) (st : State) (n : Node) (slot : ℕ) (x : StoredCall) (r : Row) (m : NumberedTrain) → seen a ≡ st → IsFound a n.train n.label slot x r m → n.dep ≡ true → report_after st n ≡ next_report_of x
+pub report-departs : (a : Inside) (st : State) (n : Node) (slot : ℕ) (x : StoredCall) (r : TrainRecord) (m : NumberedTrain) → seen a ≡ st → IsFound a n.train n.label slot x r m → n.dep ≡ true → report_after st n ≡ next_report_of x
 report-departs a st n slot x r m v w e = report-found a st n slot x r m v w ∙ ap (λ b. known_after b x) e
 
-pub report-arrives : (a : Inside) (st : State) (n : Node) (slot : ℕ) (x : StoredCall) (r : Row) (m : NumberedTrain) → seen a ≡ st → IsFound a n.train n.label slot x r m → n.dep ≡ false → report_after st n ≡ option_or (live_report (call_of x).departure) (next_report_of x)
+pub report-arrives : (a : Inside) (st : State) (n : Node) (slot : ℕ) (x : StoredCall) (r : TrainRecord) (m : NumberedTrain) → seen a ≡ st → IsFound a n.train n.label slot x r m → n.dep ≡ false → report_after st n ≡ option_or (live_report (call_of x).departure) (next_report_of x)
 report-arrives a st n slot x r m v w e = report-found a st n slot x r m v w ∙ ap (λ b. known_after b x) e

@@ -7,7 +7,7 @@ use Rattle.train_nodes.proofs.Words.{option_map, Vec, Global, first-up_to, first
 use Rattle.train_nodes.proofs.Words.{numbered-new, length-new, IsGrown, calls-grown, change-length, calls-alike, slice_get-set_same, slice_get-set_other, slots-from}
 use Rattle.train_nodes.proofs.Words.{last_label, AreReplaced, IsReplaced, IsPartOf, walk, call_of, slot_after, is_between, IsLine, IsTrainLine, IsRenewed, HasNextReports}
 use Rattle.train_nodes.proofs.Words.{change_at, NumberedTrain, Numbering, slot_of, slots_from, with_more, IsFirst, is_end, is_removed, names_removed, first_slot, line_of}
-use Rattle.train_nodes.proofs.Words.{train_by, seen, AreLabelled, IsCallAt, IsStored, Overrides, Row, Part, StoredCall, Inside, effect, get-old, IsSplice, spliced}
+use Rattle.train_nodes.proofs.Words.{train_by, seen, AreLabelled, IsCallAt, IsStored, Overrides, TrainRecord, Part, StoredCall, Inside, effect, get-old, IsSplice, spliced}
 use Rattle.train_nodes.proofs.Words.{spliced-begins, spliced-calls, spliced-ends, spliced-last, spliced-line, line-length, line-of, one-of, renewed-line, some-of}
 use Rattle.std.specs.Prelude.{vec_capacity}
 use Rattle.train_nodes.proofs.CancelLemmas.{row-read}
@@ -72,7 +72,7 @@ no-change : (t : ℕ) (cs : List StoredCall) → IsLineChange t (λ c. c) cs cs
 no-change t cs = record { count = refl; at = λ i x h. (x, h, grind arith) }
 
 -- the last call that a train was loaded with is the last of its line
-last-slot : (a : Inside) (t : ℕ) (r : Row) (n : NumberedTrain) (slot : ℕ) → IsRowAt a t r n → slot_of a.slots t (n.loaded - 1) ≡ Some slot → slot_after a.calls.items (r.len - 1) (first_slot n) ≡ slot
+last-slot : (a : Inside) (t : ℕ) (r : TrainRecord) (n : NumberedTrain) (slot : ℕ) → IsRowAt a t r n → slot_of a.slots t (n.loaded - 1) ≡ Some slot → slot_after a.calls.items (r.len - 1) (first_slot n) ≡ slot
 last-slot a t r n slot w h = (changed-line a t (λ c. c) a.calls.items r n w (no-change t a.calls.items) n slot w.number h).ends
 
 change-get : (ns : List NumberedTrain) (t : ℕ) (f : NumberedTrain → NumberedTrain) (n : NumberedTrain) → slice_get ns t ≡ Some n → slice_get (change_at t f ns) t ≡ Some (f n)
@@ -93,13 +93,13 @@ unreplaced t from to first last used count i x y k e f g = grind arith
 
 -- a rerouting of a train: the calls strictly within a part were replaced by new ones, the row tells how many the train makes now, and
 -- each of them knows its place and the first report after it
-record IsReroute (a : Inside) (t from to : ℕ) (p : Part) (r : Row) (n : NumberedTrain) (via : List NewCall) (mid : List StoredCall) : Type 0 where
+record IsReroute (a : Inside) (t from to : ℕ) (p : Part) (r : TrainRecord) (n : NumberedTrain) (via : List NewCall) (mid : List StoredCall) : Type 0 where
   pub found : IsFoundPart a t from to p r n
   pub loaded : (1 ≤ n.loaded) × (n.loaded ≤ length n.slots)
   pub spare : length via ≤ a.slots.spare_calls
   pub replaced : AreReplaced t p.from p.to p.first p.last (length n.slots) via a.calls.items mid
 
-module _ {a : Inside} {t from to : ℕ} {p : Part} {r : Row} {n : NumberedTrain} {via : List NewCall} {mid : List StoredCall} (w : IsReroute a t from to p r n via mid) where
+module _ {a : Inside} {t from to : ℕ} {p : Part} {r : TrainRecord} {n : NumberedTrain} {via : List NewCall} {mid : List StoredCall} (w : IsReroute a t from to p r n via mid) where
   abbrev cs : List StoredCall
   cs = a.calls.items
 
@@ -256,12 +256,12 @@ module _ {a : Inside} {t from to : ℕ} {p : Part} {r : Row} {n : NumberedTrain}
               record { call = y.0; stored = ap (slice_get ys) (sym slot) ∙ y.1; train_is = y.2 ∙ sym made.train; label_is = y.3 ∙ sym made.label })
         ]
 
-  abbrev row : Row
+  abbrev row : TrainRecord
   row = record r { len = size }
 
-  module _ (rows : Vec Row Global) (ys : Vec StoredCall Global) (o : Overrides) (row_is : rows.items ≡ set a.rows.items t row) (q : IsRenewed t (first_slot n) size mid ys.items) where
+  module _ (records : Vec TrainRecord Global) (ys : Vec StoredCall Global) (o : Overrides) (row_is : records.items ≡ set a.records.items t row) (q : IsRenewed t (first_slot n) size mid ys.items) where
     abbrev b : Inside
-    b = record a { rows = rows; calls = ys; slots = nb; overrides = o }
+    b = record a { records = records; calls = ys; slots = nb; overrides = o }
 
     own-calls : map call_of (line_of ys.items size m) ≡ map call_of (walk mid size (first_slot n))
     own-calls =
@@ -272,9 +272,9 @@ module _ {a : Inside} {t from to : ℕ} {p : Part} {r : Row} {n : NumberedTrain}
     reroute-change =
         record {
           of = w.found.of;
-          row = ap (λ xs. slice_get xs t) row_is ∙ slice_get-set_same a.rows.items t row w.found.there.0;
+          row = ap (λ xs. slice_get xs t) row_is ∙ slice_get-set_same a.records.items t row w.found.there.0;
           number = number;
-          other_rows = λ u ne. ap (λ xs. slice_get xs u) row_is ∙ slice_get-set_other a.rows.items t u row ne;
+          other_rows = λ u ne. ap (λ xs. slice_get xs u) row_is ∙ slice_get-set_other a.records.items t u row ne;
           other_numbers = λ u ne. change-apart a.slots.trains t u (λ (n : NumberedTrain). record n { slots = n.slots ++ slots_from a.slots.used count }) ne;
           others = new-others ys.items q;
           placed = renewed-line mid ys.items t size at (spliced-line splice) (subst (λ s. IsRenewed t s size mid ys.items) (sym (spliced-begins splice)) q);
@@ -286,19 +286,19 @@ module _ {a : Inside} {t from to : ℕ} {p : Part} {r : Row} {n : NumberedTrain}
         }
 
     -- it keeps what holds of all trains
-    reroute-stored : vec_capacity rows ≡ vec_capacity a.rows → vec_capacity ys ≡ vec_capacity a.calls → IsStored b
+    reroute-stored : vec_capacity records ≡ vec_capacity a.records → vec_capacity ys ≡ vec_capacity a.calls → IsStored b
     reroute-stored rows_same calls_same =
         let s = w.found.of.stored in
-        let rows_length = ap length row_is ∙ length-set a.rows.items t row in
+        let rows_length = ap length row_is ∙ length-set a.records.items t row in
         let calls_length = q.same_count ∙ w.replaced.count in
         record {
           trains = train-changed a b t r row n m at reroute-change;
           numbered = new-numbered ys.items q;
           named = new-named ys.items q;
           placed = placed-changed a b t r row n m at reroute-change;
-          rows_count = rows_length ∙ s.rows_count ∙ sym (change-length t count a.slots);
+          records_count = rows_length ∙ s.records_count ∙ sym (change-length t count a.slots);
           calls_count = calls_length ∙ ap (λ k. k + count) s.calls_count;
-          rows_room = omega arith;
+          records_room = omega arith;
           calls_room = omega arith;
         }
 
@@ -321,19 +321,19 @@ module _ {a : Inside} {t from to : ℕ} {p : Part} {r : Row} {n : NumberedTrain}
     reroute-seen xs same choices spare =
         let st = seen a in
         let by = λ (ts : List Train). let s : State = record st { trains = ts; spare_calls = st.spare_calls - count } in s in
-        removed-seen (record a { rows = rows; calls = ys; slots = nb }) o (by (change_train t (rerouted from to via) st.trains)) (events_between st t from to) cs xs a.slots t p None w.found.part.train_is same among-test choices spare
+        removed-seen (record a { records = records; calls = ys; slots = nb }) o (by (change_train t (rerouted from to via) st.trains)) (events_between st t from to) cs xs a.slots t p None w.found.part.train_is same among-test choices spare
         (ap by (trains-changed a b t r row n m at reroute-change (rerouted from to via) seen-train))
 
 -- the label that comes next
-pub next-label : {a : Inside} {t from to label : ℕ} {p : Part} {r : Row} {n : NumberedTrain} → IsFoundPart a t from to p r n → option_map (λ (n : NumberedTrain). length n.slots) (slice_get a.slots.trains t) ≡ Some label → label ≡ length n.slots
+pub next-label : {a : Inside} {t from to label : ℕ} {p : Part} {r : TrainRecord} {n : NumberedTrain} → IsFoundPart a t from to p r n → option_map (λ (n : NumberedTrain). length n.slots) (slice_get a.slots.trains t) ≡ Some label → label ≡ length n.slots
 next-label {n = n} w e = let both = ap (option_map (λ (n : NumberedTrain). length n.slots)) (sym w.of.number) ∙ e in cc
 
-told-row : (t k gap count : ℕ) (rows : List Row) (r x y : Row) → k ≡ t → x ≡ r → y ≡ r → (let told : Row = record y { len = x.len - gap + count } in let row : Row = record r { len = r.len - gap + count } in set rows k told ≡ set rows t row)
-told-row t k gap count rows r x y at e f = rw (at, e, f) refl
+told-row : (t k gap count : ℕ) (records : List TrainRecord) (r x y : TrainRecord) → k ≡ t → x ≡ r → y ≡ r → (let told : TrainRecord = record y { len = x.len - gap + count } in let row : TrainRecord = record r { len = r.len - gap + count } in set records k told ≡ set records t row)
+told-row t k gap count records r x y at e f = rw (at, e, f) refl
 
 -- after all steps, trains are stored, and seen as the model's
-pub rerouted-as : {a : Inside} {cs ds : List StoredCall} {t from to label k l : ℕ} {p : Part} (x y : Row) (via : List NewCall) (mid : List StoredCall) (rows : Vec Row Global) (ys : Vec StoredCall Global) (nb : Numbering) (st : State) (o : Overrides) → IsStored a → seen a ≡ st → cs ≡ a.calls.items → IsPartOf cs a.slots t from to p → length via ≤ st.spare_calls → ds ≡ a.calls.items → o.choices ≡ retain_keys a.overrides.choices (λ q. not (names_removed p.train (is_between ds a.slots p.train p.first p.last) None q)) → o.spare ≡ a.overrides.spare + (len a.overrides.choices - len o.choices) → ((u : ℕ) (n : NumberedTrain) → slice_get a.slots.trains u ≡ Some n → (1 ≤ n.loaded) × (n.loaded ≤ length n.slots)) → option_map (λ (n : NumberedTrain). length n.slots) (slice_get a.slots.trains t) ≡ Some label → nb ≡ with_more t (length via) a.slots → AreReplaced p.train p.from p.to p.first p.last label via a.calls.items mid → k ≡ t → x ≡ get_or a.rows.items k x → l ≡ t → y ≡ get_or a.rows.items l y → (let told : Row = record y { len = x.len - (p.last - p.first - 1) + length via } in rows.items ≡ set a.rows.items l told) → vec_capacity rows ≡ vec_capacity a.rows → vec_capacity ys ≡ vec_capacity a.calls → ((first : ℕ) → IsTrainLine nb t first (x.len - (p.last - p.first - 1) + length via) mid → IsRenewed t first (x.len - (p.last - p.first - 1) + length via) mid ys.items) → IsStored (record a { rows = rows; calls = ys; slots = nb; overrides = o }) × (seen (record a { rows = rows; calls = ys; slots = nb; overrides = o }) ≡ effect st (Reroute t from to via))
-rerouted-as {a} {cs} {ds} {t} {from} {to} {label} {k} {l} {p} x y via mid rows ys nb st o s view read part fits same choices spare loaded next more replaced at row at-2 row-2 told rows_same calls_same renew =
+pub rerouted-as : {a : Inside} {cs ds : List StoredCall} {t from to label k l : ℕ} {p : Part} (x y : TrainRecord) (via : List NewCall) (mid : List StoredCall) (records : Vec TrainRecord Global) (ys : Vec StoredCall Global) (nb : Numbering) (st : State) (o : Overrides) → IsStored a → seen a ≡ st → cs ≡ a.calls.items → IsPartOf cs a.slots t from to p → length via ≤ st.spare_calls → ds ≡ a.calls.items → o.choices ≡ retain_keys a.overrides.choices (λ q. not (names_removed p.train (is_between ds a.slots p.train p.first p.last) None q)) → o.spare ≡ a.overrides.spare + (len a.overrides.choices - len o.choices) → ((u : ℕ) (n : NumberedTrain) → slice_get a.slots.trains u ≡ Some n → (1 ≤ n.loaded) × (n.loaded ≤ length n.slots)) → option_map (λ (n : NumberedTrain). length n.slots) (slice_get a.slots.trains t) ≡ Some label → nb ≡ with_more t (length via) a.slots → AreReplaced p.train p.from p.to p.first p.last label via a.calls.items mid → k ≡ t → x ≡ get_or a.records.items k x → l ≡ t → y ≡ get_or a.records.items l y → (let told : TrainRecord = record y { len = x.len - (p.last - p.first - 1) + length via } in records.items ≡ set a.records.items l told) → vec_capacity records ≡ vec_capacity a.records → vec_capacity ys ≡ vec_capacity a.calls → ((first : ℕ) → IsTrainLine nb t first (x.len - (p.last - p.first - 1) + length via) mid → IsRenewed t first (x.len - (p.last - p.first - 1) + length via) mid ys.items) → IsStored (record a { records = records; calls = ys; slots = nb; overrides = o }) × (seen (record a { records = records; calls = ys; slots = nb; overrides = o }) ≡ effect st (Reroute t from to via))
+rerouted-as {a} {cs} {ds} {t} {from} {to} {label} {k} {l} {p} x y via mid records ys nb st o s view read part fits same choices spare loaded next more replaced at row at-2 row-2 told rows_same calls_same renew =
     let f = part-found s read part in
     let r = f.0 in
     let n = f.1 in
@@ -345,10 +345,10 @@ rerouted-as {a} {cs} {ds} {t} {from} {to} {label} {k} {l} {p} x y via mid rows y
       replaced = rw (f.2.part.train_is, next-label f.2 next) at replaced;
     } in
     let gap = p.last - p.first - 1 in
-    let rows_are = told ∙ told-row t l gap (length via) a.rows.items r x y at-2 (row-read x f.2.of at row) (row-read y f.2.of at-2 row-2) in
-    let long = ap (λ (q : Row). q.len - gap + length via) (row-read x f.2.of at row) in
+    let rows_are = told ∙ told-row t l gap (length via) a.records.items r x y at-2 (row-read x f.2.of at row) (row-read y f.2.of at-2 row-2) in
+    let long = ap (λ (q : TrainRecord). q.len - gap + length via) (row-read x f.2.of at row) in
     let renewed = subst (λ j. IsRenewed t (first_slot n) j mid ys.items) long (renew (first_slot n) (subst (λ nb. IsTrainLine nb t (first_slot n) (x.len - gap + length via) mid) (sym more) (subst (λ j. IsTrainLine (with_more t (length via) a.slots) t (first_slot n) j mid) (sym long) (reroute-line w)))) in
-    subst (λ nb. IsStored (record a { rows = rows; calls = ys; slots = nb; overrides = o }) × (seen (record a { rows = rows; calls = ys; slots = nb; overrides = o }) ≡ effect st (Reroute t from to via))) (sym more) (
-      reroute-stored w rows ys o rows_are renewed rows_same calls_same,
-      reroute-seen w rows ys o rows_are renewed ds same choices spare ∙ ap (λ st. effect st (Reroute t from to via)) view,
+    subst (λ nb. IsStored (record a { records = records; calls = ys; slots = nb; overrides = o }) × (seen (record a { records = records; calls = ys; slots = nb; overrides = o }) ≡ effect st (Reroute t from to via))) (sym more) (
+      reroute-stored w records ys o rows_are renewed rows_same calls_same,
+      reroute-seen w records ys o rows_are renewed ds same choices spare ∙ ap (λ st. effect st (Reroute t from to via)) view,
     )

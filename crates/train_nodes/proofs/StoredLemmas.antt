@@ -2,41 +2,41 @@
 use Rattle.train_nodes.proofs.Words.{◌≡◌, ◌≢◌, ℕ, zero, suc, ◌+◌, ◌-◌, ◌<◌, ◌≤◌, List, [], ◌∷◌, true, length, refl, sym, ◌∙◌, ap, subst, arith, Option, Some, None}
 use Rattle.train_nodes.proofs.Words.{slice_get, find, map, All, inl, inr, vec_capacity, Vec, Global, option_map, option_and_then, cases_eq, length-map, slice_get_within}
 use Rattle.train_nodes.proofs.Words.{slice_get_cases, slice_get-map, get_or_from_slice_get, option_and_then_some, Call, Train, is_call, change_train, change_calls}
-use Rattle.train_nodes.proofs.Words.{calls_of, Row, StoredCall, Inside, call_named, last_label, walk, call_of, slot_after, HasPlaces, HasNextReports, IsChained}
+use Rattle.train_nodes.proofs.Words.{calls_of, TrainRecord, StoredCall, Inside, call_named, last_label, walk, call_of, slot_after, HasPlaces, HasNextReports, IsChained}
 use Rattle.train_nodes.proofs.Words.{IsCurrentAt, HasNoCurrent, IsRenewed, IsTrainLine, NumberedTrain, IsFirst, Overrides, first_slot, line_of, train_by, trains_by, seen}
 use Rattle.train_nodes.proofs.Words.{IsLinked, AreLabelled, IsTrainStored, IsStored, nat_eq-apart, label_of, labels-length, All-labels, distinct-labels, at-label}
 use Rattle.train_nodes.proofs.Words.{first-cut, walk-linked, walk-at, linked-at, IsLineChange, changed-back, changed-length, changed-calls, changed-labels, changed-other}
 use Rattle.train_nodes.proofs.Words.{changed-linked, changed-chained, changed-mine, changed-after, last-at}
 
 -- what stands at a place of the trains that are seen
-abbrev pub seen_at : List StoredCall → Option Row → Option NumberedTrain → Option Train
-seen_at cs r n = option_and_then (λ (r : Row). option_map (λ (n : NumberedTrain). train_by cs r n) n) r
+abbrev pub seen_at : List StoredCall → Option TrainRecord → Option NumberedTrain → Option Train
+seen_at cs r n = option_and_then (λ (r : TrainRecord). option_map (λ (n : NumberedTrain). train_by cs r n) n) r
 
-pub trains-get : (cs : List StoredCall) (rs : List Row) (ns : List NumberedTrain) (u : ℕ) → slice_get (trains_by cs rs ns) u ≡ seen_at cs (slice_get rs u) (slice_get ns u)
+pub trains-get : (cs : List StoredCall) (rs : List TrainRecord) (ns : List NumberedTrain) (u : ℕ) → slice_get (trains_by cs rs ns) u ≡ seen_at cs (slice_get rs u) (slice_get ns u)
 trains-get cs [] ns u = refl
 trains-get cs (r ∷ rs) [] u = grind arith
 trains-get cs (r ∷ rs) (n ∷ ns) zero = refl
 trains-get cs (r ∷ rs) (n ∷ ns) (suc u) = trains-get cs rs ns u
 
 pub train-none : (a : Inside) (t : ℕ) → slice_get a.slots.trains t ≡ None → slice_get (seen a).trains t ≡ None
-train-none a t h = grind (arith, h, trains-get a.calls.items a.rows.items a.slots.trains t)
+train-none a t h = grind (arith, h, trains-get a.calls.items a.records.items a.slots.trains t)
 
-trains-length : (cs : List StoredCall) (rs : List Row) (ns : List NumberedTrain) → length rs ≡ length ns → length (trains_by cs rs ns) ≡ length ns
+trains-length : (cs : List StoredCall) (rs : List TrainRecord) (ns : List NumberedTrain) → length rs ≡ length ns → length (trains_by cs rs ns) ≡ length ns
 trains-length cs [] ns e = e
 trains-length cs (q ∷ rs) [] e = refl
 trains-length cs (q ∷ rs) (m ∷ ns) e = ap suc (trains-length cs rs ns (omega arith))
 
 -- as many trains are seen as are numbered
 pub seen-length : (a : Inside) → IsStored a → length (seen a).trains ≡ length a.slots.trains
-seen-length a s = trains-length a.calls.items a.rows.items a.slots.trains s.rows_count
+seen-length a s = trains-length a.calls.items a.records.items a.slots.trains s.records_count
 
-pub same-trains : (cs ds : List StoredCall) (rs : List Row) (ns : List NumberedTrain) → ((u : ℕ) (r : Row) (n : NumberedTrain) → slice_get rs u ≡ Some r → slice_get ns u ≡ Some n → train_by ds r n ≡ train_by cs r n) → trains_by ds rs ns ≡ trains_by cs rs ns
+pub same-trains : (cs ds : List StoredCall) (rs : List TrainRecord) (ns : List NumberedTrain) → ((u : ℕ) (r : TrainRecord) (n : NumberedTrain) → slice_get rs u ≡ Some r → slice_get ns u ≡ Some n → train_by ds r n ≡ train_by cs r n) → trains_by ds rs ns ≡ trains_by cs rs ns
 same-trains cs ds [] ns h = refl
 same-trains cs ds (r ∷ rs) [] h = refl
 same-trains cs ds (r ∷ rs) (n ∷ ns) h = rw (h 0 r n refl refl, same-trains cs ds rs ns (λ u. h (suc u))) refl
 
 -- where the calls of one train change, one train changes
-changed-trains : (cs ds : List StoredCall) (rs : List Row) (ns : List NumberedTrain) (t : ℕ) (f : Train → Train) → ((r : Row) (n : NumberedTrain) → slice_get rs t ≡ Some r → slice_get ns t ≡ Some n → train_by ds r n ≡ f (train_by cs r n)) → ((u : ℕ) (r : Row) (n : NumberedTrain) → u ≢ t → slice_get rs u ≡ Some r → slice_get ns u ≡ Some n → train_by ds r n ≡ train_by cs r n) → trains_by ds rs ns ≡ change_train t f (trains_by cs rs ns)
+changed-trains : (cs ds : List StoredCall) (rs : List TrainRecord) (ns : List NumberedTrain) (t : ℕ) (f : Train → Train) → ((r : TrainRecord) (n : NumberedTrain) → slice_get rs t ≡ Some r → slice_get ns t ≡ Some n → train_by ds r n ≡ f (train_by cs r n)) → ((u : ℕ) (r : TrainRecord) (n : NumberedTrain) → u ≢ t → slice_get rs u ≡ Some r → slice_get ns u ≡ Some n → train_by ds r n ≡ train_by cs r n) → trains_by ds rs ns ≡ change_train t f (trains_by cs rs ns)
 changed-trains cs ds [] ns t f own other = refl
 changed-trains cs ds (r ∷ rs) [] t f own other = refl
 changed-trains cs ds (r ∷ rs) (n ∷ ns) zero f own other =
@@ -46,34 +46,34 @@ changed-trains cs ds (r ∷ rs) (n ∷ ns) (suc t) f own other =
     rw (other 0 r n (λ e. absurd (omega arith)) refl refl, rest) refl
 
 -- the row of a train that is there, and its numbers
-pub record IsRowAt (a : Inside) (t : ℕ) (r : Row) (n : NumberedTrain) : Type 0 where
+pub record IsRowAt (a : Inside) (t : ℕ) (r : TrainRecord) (n : NumberedTrain) : Type 0 where
   pub stored : IsStored a
-  pub row : slice_get a.rows.items t ≡ Some r
+  pub row : slice_get a.records.items t ≡ Some r
   pub number : slice_get a.slots.trains t ≡ Some n
 
-pub row-numbered : (a : Inside) (t : ℕ) (n : NumberedTrain) → IsStored a → slice_get a.slots.trains t ≡ Some n → (r : Row) × IsRowAt a t r n
+pub row-numbered : (a : Inside) (t : ℕ) (n : NumberedTrain) → IsStored a → slice_get a.slots.trains t ≡ Some n → (r : TrainRecord) × IsRowAt a t r n
 row-numbered a t n s h =
-    grind (arith, s, h, s.rows_count, slice_get_cases a.rows.items t, slice_get_within a.slots.trains t n h)
+    grind (arith, s, h, s.records_count, slice_get_cases a.records.items t, slice_get_within a.slots.trains t n h)
 
 -- a train that is there has a row and numbers
-pub row-there : (a : Inside) (t : ℕ) → IsStored a → t < length a.slots.trains → (r : Row) × (n : NumberedTrain) × IsRowAt a t r n
+pub row-there : (a : Inside) (t : ℕ) → IsStored a → t < length a.slots.trains → (r : TrainRecord) × (n : NumberedTrain) × IsRowAt a t r n
 row-there a t s l = grind (arith, l, slice_get_cases a.slots.trains t, λ (n : NumberedTrain). row-numbered a t n s)
 
-module _ (a : Inside) (t : ℕ) (r : Row) (n : NumberedTrain) (w : IsRowAt a t r n) where
+module _ (a : Inside) (t : ℕ) (r : TrainRecord) (n : NumberedTrain) (w : IsRowAt a t r n) where
   -- what is known of it
   pub row-stored : IsTrainStored a.slots.spare_calls a.calls.items t r.len n
   row-stored = w.stored.trains t r n w.row w.number
 
   -- the train that is seen
   pub row-train : slice_get (seen a).trains t ≡ Some (train_by a.calls.items r n)
-  row-train = rw (trains-get a.calls.items a.rows.items a.slots.trains t, w.row, w.number) refl
+  row-train = rw (trains-get a.calls.items a.records.items a.slots.trains t, w.row, w.number) refl
 
   -- its calls
   pub row-calls : calls_of (seen a) t ≡ map call_of (line_of a.calls.items r.len n)
   row-calls = rw row-train refl
 
 -- a call of a train, in its slot and at its place
-pub record IsFound (a : Inside) (t label slot : ℕ) (x : StoredCall) (r : Row) (n : NumberedTrain) : Type 0 where
+pub record IsFound (a : Inside) (t label slot : ℕ) (x : StoredCall) (r : TrainRecord) (n : NumberedTrain) : Type 0 where
   pub of : IsRowAt a t r n
   pub train_is : x.train ≡ t
   pub label_is : x.label ≡ label
@@ -84,7 +84,7 @@ pub record IsFound (a : Inside) (t label slot : ℕ) (x : StoredCall) (r : Row) 
   pub place : slice_get (line_of a.calls.items r.len n) x.place ≡ Some x
   pub first : IsFirst (is_call label) x.place (map call_of (line_of a.calls.items r.len n))
 
-found-at : (a : Inside) (t l slot : ℕ) (x : StoredCall) (r : Row) (n : NumberedTrain) → IsRowAt a t r n → x.train ≡ t → x.label ≡ l → x.current ≡ true → slice_get a.calls.items slot ≡ Some x → IsFound a t l slot x r n
+found-at : (a : Inside) (t l slot : ℕ) (x : StoredCall) (r : TrainRecord) (n : NumberedTrain) → IsRowAt a t r n → x.train ≡ t → x.label ≡ l → x.current ≡ true → slice_get a.calls.items slot ≡ Some x → IsFound a t l slot x r n
 found-at a t l slot x r n w train label current stored =
     let line = line_of a.calls.items r.len n in
     let own = row-stored a t r n w in
@@ -97,7 +97,7 @@ found-at a t l slot x r n w train label current stored =
     grind (arith, w, p, place, first)
 
 -- the call with a label that is one of the train's calls now
-pub found : (a : Inside) (t l slot : ℕ) (x : StoredCall) → IsStored a → IsCurrentAt a.calls.items a.slots t l slot → slice_get a.calls.items slot ≡ Some x → (r : Row) × (n : NumberedTrain) × IsFound a t l slot x r n
+pub found : (a : Inside) (t l slot : ℕ) (x : StoredCall) → IsStored a → IsCurrentAt a.calls.items a.slots t l slot → slice_get a.calls.items slot ≡ Some x → (r : TrainRecord) × (n : NumberedTrain) × IsFound a t l slot x r n
 found a t l slot x s c stored =
     let k = s.named t l slot c.number in
     option_and_then_some (λ (n : NumberedTrain). slice_get n.slots l) (slice_get a.slots.trains t) slot c.number (λ n is _.
@@ -105,7 +105,7 @@ found a t l slot x s c stored =
     (w.0, n, found-at a t l slot x w.0 n w.1 (grind (arith, k, stored)) (grind (arith, k, stored)) (grind (arith, c, stored)) stored))
 
 -- it is the one that is seen
-pub found-named : (a : Inside) (t l slot : ℕ) (x : StoredCall) (r : Row) (n : NumberedTrain) → IsFound a t l slot x r n → call_named (seen a) t l ≡ Some (call_of x)
+pub found-named : (a : Inside) (t l slot : ℕ) (x : StoredCall) (r : TrainRecord) (n : NumberedTrain) → IsFound a t l slot x r n → call_named (seen a) t l ≡ Some (call_of x)
 found-named a t l slot x r n w =
     let line = line_of a.calls.items r.len n in
     let first = (first-cut (is_call l) x.place (map call_of line) w.first).found in
@@ -173,25 +173,25 @@ module _ (t : ℕ) (g : Call → Call) (cs ds : List StoredCall) (w : IsLineChan
       grind (arith, own-length, rw (← whole-line) at linked, reports, labels, last-same _ _ own-labels, h.last)
 
 -- a change of a train's calls, after which each knows its place and the first report after it
-pub record IsEdit (a : Inside) (calls : Vec StoredCall Global) (t : ℕ) (g : Call → Call) (r : Row) (n : NumberedTrain) : Type 0 where
+pub record IsEdit (a : Inside) (calls : Vec StoredCall Global) (t : ℕ) (g : Call → Call) (r : TrainRecord) (n : NumberedTrain) : Type 0 where
   pub of : IsRowAt a t r n
   pub change : IsLineChange t g a.calls.items calls.items
   pub capacity : vec_capacity calls ≡ vec_capacity a.calls
   pub places : HasPlaces 0 (line_of calls.items r.len n)
   pub reports : HasNextReports (line_of calls.items r.len n)
 
-module _ (a : Inside) (calls : Vec StoredCall Global) (overrides : Overrides) (t : ℕ) (g : Call → Call) (r : Row) (n : NumberedTrain) (w : IsEdit a calls t g r n) where
+module _ (a : Inside) (calls : Vec StoredCall Global) (overrides : Overrides) (t : ℕ) (g : Call → Call) (r : TrainRecord) (n : NumberedTrain) (w : IsEdit a calls t g r n) where
   abbrev cs : List StoredCall
   cs = a.calls.items
 
   abbrev ds : List StoredCall
   ds = calls.items
 
-  edited-other : (u : ℕ) (q : Row) (m : NumberedTrain) → u ≢ t → slice_get a.rows.items u ≡ Some q → slice_get a.slots.trains u ≡ Some m → IsLinked ds u 0 (first_slot m) (first_slot m) (line_of cs q.len m)
+  edited-other : (u : ℕ) (q : TrainRecord) (m : NumberedTrain) → u ≢ t → slice_get a.records.items u ≡ Some q → slice_get a.slots.trains u ≡ Some m → IsLinked ds u 0 (first_slot m) (first_slot m) (line_of cs q.len m)
   edited-other u q m other row number =
       changed-other t g cs ds w.change u 0 _ _ (line_of cs q.len m) (w.of.stored.trains u q m row number).linked other
 
-  edited-train : (u : ℕ) (q : Row) (m : NumberedTrain) → slice_get a.rows.items u ≡ Some q → slice_get a.slots.trains u ≡ Some m → IsTrainStored a.slots.spare_calls ds u q.len m
+  edited-train : (u : ℕ) (q : TrainRecord) (m : NumberedTrain) → slice_get a.records.items u ≡ Some q → slice_get a.slots.trains u ≡ Some m → IsTrainStored a.slots.spare_calls ds u q.len m
   edited-train u q m row number = elim (cases_eq u t) [
     | inl same ↦ (
         let own = own-stored t g cs ds w.change a.slots.spare_calls r.len n (row-stored a t r n w.of) w.places w.reports in
@@ -199,7 +199,7 @@ module _ (a : Inside) (calls : Vec StoredCall Global) (overrides : Overrides) (t
     | inr other ↦ kept-stored cs ds u q.len m _ a.slots.spare_calls (w.of.stored.trains u q m row number) (edited-other u q m other row number) (omega arith)
   ]
 
-  edited-placed : (i : ℕ) (y : StoredCall) (q : Row) (m : NumberedTrain) → slice_get ds i ≡ Some y → y.current ≡ true → slice_get a.rows.items y.train ≡ Some q → slice_get a.slots.trains y.train ≡ Some m → (y.place < q.len) × (slot_after ds y.place (first_slot m) ≡ i)
+  edited-placed : (i : ℕ) (y : StoredCall) (q : TrainRecord) (m : NumberedTrain) → slice_get ds i ≡ Some y → y.current ≡ true → slice_get a.records.items y.train ≡ Some q → slice_get a.slots.trains y.train ≡ Some m → (y.place < q.len) × (slot_after ds y.place (first_slot m) ≡ i)
   edited-placed i y q m h current row number =
       let k = changed-back t g cs ds w.change i y h in
       let x = k.0 in
@@ -223,16 +223,16 @@ module _ (a : Inside) (calls : Vec StoredCall Global) (overrides : Overrides) (t
             let m = w.change.at i k.call k.stored in
             grind (arith, k, m);
         placed = edited-placed;
-        rows_count = s.rows_count;
+        records_count = s.records_count;
         calls_count = w.change.count ∙ s.calls_count;
-        rows_room = s.rows_room;
+        records_room = s.records_room;
         calls_room = omega (arith, s.calls_room, w.capacity, w.change.count);
       }
 
   -- and changes the calls of one train
-  pub edited-trains : trains_by ds a.rows.items a.slots.trains ≡ change_train t (change_calls (map g)) (trains_by cs a.rows.items a.slots.trains)
+  pub edited-trains : trains_by ds a.records.items a.slots.trains ≡ change_train t (change_calls (map g)) (trains_by cs a.records.items a.slots.trains)
   edited-trains =
-      changed-trains cs ds a.rows.items a.slots.trains t (change_calls (map g))
+      changed-trains cs ds a.records.items a.slots.trains t (change_calls (map g))
       (λ q m row number. rw (own-calls t g cs ds w.change _ q.len m (w.of.stored.trains t q m row number)) refl)
       (λ u q m other row number. rw (kept-line cs ds u q.len m _ 0 (w.of.stored.trains u q m row number) (edited-other u q m other row number)) refl)
 
@@ -247,7 +247,7 @@ then-renewed t len first g xs mid ys w h = record {
 }
 
 -- the calls of a train that were changed are a line still
-pub changed-line : (a : Inside) (t : ℕ) (g : Call → Call) (ds : List StoredCall) (r : Row) (n : NumberedTrain) → IsRowAt a t r n → IsLineChange t g a.calls.items ds → IsTrainLine a.slots t (first_slot n) r.len ds
+pub changed-line : (a : Inside) (t : ℕ) (g : Call → Call) (ds : List StoredCall) (r : TrainRecord) (n : NumberedTrain) → IsRowAt a t r n → IsLineChange t g a.calls.items ds → IsTrainLine a.slots t (first_slot n) r.len ds
 changed-line a t g ds r n w k m last number slot =
     let cs = a.calls.items in
     let f = first_slot n in

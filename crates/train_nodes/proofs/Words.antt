@@ -54,7 +54,7 @@ pub use Rattle.event_numbers.specs.SlotTimes.{blank_trains}
 pub use Rattle.event_numbers.specs.Times.{AreSized, blank_times, no_time}
 unfoldable pub use Rattle.mt_base.specs.Order.{is_same_node}
 pub use Rattle.mt_base.specs.declared.keys.Node.{Node}
-pub use Rattle.mt_base.specs.declared.plans.NewCall.{NewCall}
+pub use Rattle.mt_base.specs.declared.new_calls.NewCall.{NewCall}
 pub use Rattle.std.proofs.Common.{All, Bool, IsTrue, List, MatchOption, None, Option, Some, [], ap, append_assoc, arith, cond, drop, false, find}
 pub use Rattle.std.proofs.Common.{get_or, inl, inr, is_some, length, map, nat_eq, nat_le, nat_lt, not, refl, slice_get, subst, suc, sym, take, true}
 pub use Rattle.std.proofs.Common.{unwrap_or, vec_capacity, zero, ℕ, ◌&&◌, ◌*◌, ◌++◌, ◌+◌, ◌-◌, ◌<◌, ◌^◌, ◌||◌, ◌∙◌, ◌∷◌, ◌≡◌, ◌≢◌, ◌≤◌, ◌⊎◌}
@@ -77,6 +77,6 @@ pub use Rattle.std.specs.declared.alloc.Global.{Global}
 pub use Rattle.train_nodes.specs.Removed.{is_end, is_removed, names_removed}
 pub use Rattle.train_nodes.specs.Reports.{report_after}
 pub use Rattle.train_nodes.specs.Stored.{AreLabelled, IsCallAt, IsStored, IsTrainStored, first_slot, line_of, seen, train_by, trains_by}
-pub use Rattle.train_nodes.specs.declared.rows.Row.{Row}
+pub use Rattle.train_nodes.specs.declared.train_records.TrainRecord.{TrainRecord}
 pub use Rattle.train_nodes.specs.declared.trains.Trains.TheInside.{Inside}
 pub use mathlib.Core.Bool.{beq}

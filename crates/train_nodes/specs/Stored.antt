@@ -4,7 +4,7 @@ use Rattle.delay_model.specs.declared.state.Call.{Call}
 use Rattle.delay_model.specs.declared.state.Train.{Train}
 use Rattle.delay_model.specs.declared.state.State.{State}
 use Rattle.delay_model.specs.Valid.{HasDistinctLabels}
-use Rattle.train_nodes.specs.declared.rows.Row.{Row}
+use Rattle.train_nodes.specs.declared.train_records.TrainRecord.{TrainRecord}
 use Rattle.call_lines.specs.declared.stored_call.StoredCall.{StoredCall}
 use Rattle.train_nodes.specs.declared.trains.Trains.TheInside.{Inside}
 use Rattle.call_lines.specs.Calls.{last_label}
@@ -20,7 +20,7 @@ abbrev pub line_of : List StoredCall → ℕ → NumberedTrain → List StoredCa
 line_of cs len n = walk cs len (first_slot n)
 
 -- a train by its row and its numbers
-abbrev pub train_by : List StoredCall → Row → NumberedTrain → Train
+abbrev pub train_by : List StoredCall → TrainRecord → NumberedTrain → Train
 train_by cs r n =
     record {
       day = r.day;
@@ -29,7 +29,7 @@ train_by cs r n =
       calls = map call_of (line_of cs r.len n);
     }
 
-abbrev pub trains_by : List StoredCall → List Row → List NumberedTrain → List Train
+abbrev pub trains_by : List StoredCall → List TrainRecord → List NumberedTrain → List Train
 trains_by cs [] ns = []
 trains_by cs (r ∷ rs) [] = []
 trains_by cs (r ∷ rs) (n ∷ ns) = train_by cs r n ∷ trains_by cs rs ns
@@ -37,7 +37,7 @@ trains_by cs (r ∷ rs) (n ∷ ns) = train_by cs r n ∷ trains_by cs rs ns
 abbrev pub seen : Inside → State
 seen a =
     record {
-      trains = trains_by a.calls.items a.rows.items a.slots.trains;
+      trains = trains_by a.calls.items a.records.items a.slots.trains;
       overrides = a.overrides.choices;
       spare_trains = a.slots.spare_trains;
       spare_calls = a.slots.spare_calls;
@@ -73,17 +73,17 @@ pub record IsCallAt (cs : List StoredCall) (train label slot : ℕ) : Type 0 whe
 -- each train's calls are linked; a call has the slot that its train and label have; a current one
 -- is found by its place from the first of its train on; and there is room for the spare ones
 pub record IsStored (a : Inside) : Type 0 where
-  pub trains : (t : ℕ) (r : Row) (n : NumberedTrain) → slice_get a.rows.items t ≡ Some r
+  pub trains : (t : ℕ) (r : TrainRecord) (n : NumberedTrain) → slice_get a.records.items t ≡ Some r
       → slice_get a.slots.trains t ≡ Some n
       → IsTrainStored a.slots.spare_calls a.calls.items t r.len n
   pub numbered : (i : ℕ) (x : StoredCall) → slice_get a.calls.items i ≡ Some x
       → slot_of a.slots x.train x.label ≡ Some i
   pub named : (t l i : ℕ) → slot_of a.slots t l ≡ Some i → IsCallAt a.calls.items t l i
-  pub placed : (i : ℕ) (x : StoredCall) (r : Row) (n : NumberedTrain) → slice_get a.calls.items i
+  pub placed : (i : ℕ) (x : StoredCall) (r : TrainRecord) (n : NumberedTrain) → slice_get a.calls.items i
       ≡ Some x → x.current ≡ true
-      → slice_get a.rows.items x.train ≡ Some r → slice_get a.slots.trains x.train ≡ Some n
+      → slice_get a.records.items x.train ≡ Some r → slice_get a.slots.trains x.train ≡ Some n
       → (x.place < r.len) × (slot_after a.calls.items x.place (first_slot n) ≡ i)
-  pub rows_count : length a.rows.items ≡ length a.slots.trains
+  pub records_count : length a.records.items ≡ length a.slots.trains
   pub calls_count : length a.calls.items ≡ a.slots.used
-  pub rows_room : length a.rows.items + a.slots.spare_trains ≤ vec_capacity a.rows
+  pub records_room : length a.records.items + a.slots.spare_trains ≤ vec_capacity a.records
   pub calls_room : length a.calls.items + a.slots.spare_calls ≤ vec_capacity a.calls

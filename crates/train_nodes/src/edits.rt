@@ -28,7 +28,7 @@ impl Trains {
     {
         if let Some(slot) = current_slot(&self.calls, &self.slots, n.train, n.label) {
             self.calls[slot as usize].edit(n.dep, Edit::Report(t));
-            let len = self.rows[n.train.get() as usize].len;
+            let len = self.records[n.train.get() as usize].len;
             renew_train(&mut self.calls, &self.slots, n.train, len);
         }
     }

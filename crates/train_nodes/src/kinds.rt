@@ -4,12 +4,12 @@ ghost use Rattle.std.specs.Prelude.{◌≡◌};
 ghost use Rattle.delay_model.specs.Messages.{IsWellFormed};
 ghost use Rattle.train_nodes.specs.Kinds.{HasFewCalls, changed_train, message_of};
 
-use crate::messages::Msg;
+use crate::well_formed::Msg;
 use delay_model::messages::Message;
 use delay_model::overrides::Override;
 use mt_base::keys::Node;
 use mt_base::numbers::{Day, Label, RouteNo, Time, TrainNo};
-use mt_base::plans::NewCall;
+use mt_base::new_calls::NewCall;
 
 /// What a message changes.
 #[derive(Clone, Copy)]

@@ -4,9 +4,9 @@
 
 mod edits;
 pub mod kinds;
-pub mod messages;
+pub mod well_formed;
 mod removed;
-mod rows;
+mod train_records;
 mod shapes;
 pub mod trains;
 
@@ -14,7 +14,7 @@ pub use call_lines::{TableCall, TrainEvents, calls, events};
 pub use connection_choices::Keeps;
 pub use event_numbers::{NodeTimes, Steps};
 pub use kinds::Kind;
-pub use messages::Msg;
+pub use well_formed::Msg;
 pub use trains::Trains;
 
 #[cfg(test)]

@@ -17,7 +17,7 @@ use call_lines::{Part, StoredCall};
 use connection_choices::OverrideTable;
 use event_numbers::Slots;
 use mt_base::numbers::{Label, TrainNo};
-use mt_base::plans::NewCall;
+use mt_base::new_calls::NewCall;
 
 impl Trains {
     /// Whether both are calls of the train, and the one stands before the other.
@@ -39,7 +39,7 @@ impl Trains {
         let ends = Some((from, to));
         remove_overrides(&mut self.overrides, &self.calls, &self.slots, &part, ends);
         kill(&mut self.calls, &part);
-        let len = self.rows[t.get() as usize].len;
+        let len = self.records[t.get() as usize].len;
         renew_train(&mut self.calls, &self.slots, t, len);
     }
 
@@ -60,8 +60,8 @@ impl Trains {
         let new = via.len() as u32;
         let _ = self.slots.add_calls(t, new);
         replace(&mut self.calls, &part, label, via);
-        let len = self.rows[t.get() as usize].len - (part.last - part.first - 1) + new;
-        self.rows[t.get() as usize].len = len;
+        let len = self.records[t.get() as usize].len - (part.last - part.first - 1) + new;
+        self.records[t.get() as usize].len = len;
         renew_train(&mut self.calls, &self.slots, t, len);
     }
 }

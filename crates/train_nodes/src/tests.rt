@@ -5,7 +5,7 @@ use delay_model::overrides::Override;
 use mt_base::keys::Node;
 use mt_base::memory::OutOfMemory;
 use mt_base::numbers::{Day, Label, RouteNo, StopNo, Time, TrainNo};
-use mt_base::plans::NewCall;
+use mt_base::new_calls::NewCall;
 use std::alloc::Global;
 use std::test::Fail;
 

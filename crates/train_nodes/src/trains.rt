@@ -22,7 +22,7 @@ ghost use Rattle.call_lines.specs.Linked.{call_of};
 ghost use Rattle.call_lines.specs.Loaded.{loaded_train, with_train, DoNotFall};
 ghost use Rattle.event_numbers.specs.Times.{AreSized};
 
-use crate::rows::Row;
+use crate::train_records::TrainRecord;
 use call_lines::calls::{push_calls, push_extra_calls};
 use call_lines::events::stored_event;
 use call_lines::line::current_slot;
@@ -35,7 +35,7 @@ use event_numbers::{NodeTimes, Slots};
 use mt_base::keys::{Key, Node};
 use mt_base::memory::{OutOfMemory, copy_with_room};
 use mt_base::numbers::{Day, Label, RouteNo, StopNo, Time, TrainNo};
-use mt_base::plans::NewCall;
+use mt_base::new_calls::NewCall;
 use std::alloc::Global;
 use std::marker::Model;
 
@@ -44,7 +44,7 @@ use std::marker::Model;
 /// that are neither moved nor used again.
 #[derive(Drop)]
 pub struct Trains {
-    pub(crate) rows: Vec<Row>,
+    pub(crate) records: Vec<TrainRecord>,
     pub(crate) calls: Vec<StoredCall>,
     pub(crate) slots: Slots,
     pub(crate) overrides: OverrideTable,
@@ -84,7 +84,7 @@ impl Trains {
     {
         let slots = Slots::with_room(alloc, trains, calls)?;
         Ok(Trains {
-            rows: Vec::with_capacity(alloc, trains as usize)?,
+            records: Vec::with_capacity(alloc, trains as usize)?,
             calls: Vec::with_capacity(alloc, calls as usize)?,
             slots,
             overrides: OverrideTable::with_room(alloc, overrides)?,
@@ -97,7 +97,7 @@ impl Trains {
     {
         self.slots.numbers_are_lawful();
         Ok(Trains {
-            rows: copy_with_room(alloc, self.rows.as_slice(), self.slots.spare_trains())?,
+            records: copy_with_room(alloc, self.records.as_slice(), self.slots.spare_trains())?,
             calls: copy_with_room(alloc, self.calls.as_slice(), self.slots.spare_calls())?,
             slots: self.slots.copy(alloc)?,
             overrides: self.overrides.copy(alloc)?,
@@ -129,7 +129,7 @@ impl Trains {
         let len = calls.len() as u32;
         let first = self.slots.push_train(len);
         push_calls(&mut self.calls, number, first, calls);
-        self.rows.push_reserved(Row { day, route, len });
+        self.records.push_reserved(TrainRecord { day, route, len });
         number
     }
 
@@ -147,7 +147,7 @@ impl Trains {
         let len = calls.len() as u32;
         let first = self.slots.push_train(len);
         push_extra_calls(&mut self.calls, number, first, calls);
-        self.rows.push_reserved(Row { day, route, len });
+        self.records.push_reserved(TrainRecord { day, route, len });
         number
     }
 
@@ -203,7 +203,7 @@ impl Trains {
         ensures { option_map (λ (train : ATrain). train.day) (slice_get self.now.trains t)
             ≡ Some result }
     {
-        self.rows[t.get() as usize].day
+        self.records[t.get() as usize].day
     }
 
     /// The route of a train.
@@ -213,7 +213,7 @@ impl Trains {
         ensures { option_map (λ (train : ATrain). train.route) (slice_get self.now.trains t)
             ≡ Some result }
     {
-        self.rows[t.get() as usize].route
+        self.records[t.get() as usize].route
     }
 
     /// The label of the next call that a rerouting of the train makes.
@@ -233,7 +233,7 @@ impl Trains {
     {
         // The first call is the one that the train was loaded with first: no rerouting takes it
         // out.
-        let _ = &self.rows;
+        let _ = &self.records;
         let _ = t;
         Label::new(0)
     }
@@ -245,7 +245,7 @@ impl Trains {
     {
         let slot = current_slot(&self.calls, &self.slots, t, l)?;
         let call = &self.calls[slot as usize];
-        if call.place() + 1 == self.rows[t.get() as usize].len {
+        if call.place() + 1 == self.records[t.get() as usize].len {
             None
         } else {
             Some(self.calls[call.after() as usize].label())
@@ -353,7 +353,7 @@ impl Trains {
         if t.get() >= self.count() {
             return TrainEvents::none(t, &self.calls);
         }
-        let row = &self.rows[t.get() as usize];
+        let row = &self.records[t.get() as usize];
         let first = self.slots.first(t);
         TrainEvents::new(t, row.route, &self.calls, first, row.len)
     }
@@ -414,7 +414,7 @@ impl Trains {
         ensures labels { All (λ (t : ATrain). HasDistinctLabels t.calls) self.now.trains }
     {
         // A field is named, so that the check knows what holds of the rows.
-        let _ = &self.rows;
+        let _ = &self.records;
     }
 
     /// The call with this label.

@@ -5,7 +5,7 @@ use Rattle.mt_base.specs.declared.tables.Tables.{Tables}
 use Rattle.delay_model.specs.Waits.{wait}
 use Rattle.change_times.specs.ChangeTables.{ChangeTables, HaveSameChanges, tables_of}
 use Rattle.waiting_rules.specs.WaitTable.{WaitTable, wait_table}
-use Rattle.edge_rules.specs.Held.{network_of}
+use Rattle.edge_rules.specs.Inside.{network_of}
 use Rattle.information_service.specs.Networks.{IsSame}
 use Rattle.traind.specs.Feeds.{network}
 

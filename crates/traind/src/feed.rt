@@ -2,7 +2,7 @@
 
 ghost use Rattle.std.specs.Prelude.{◌≡◌, ◌<◌, ◌≤◌, Ok, Some, IfOk, IsErrOf};
 ghost use Rattle.command_words.specs.Held.{asked_view};
-ghost use Rattle.gtfs_tables.specs.Refusals.{Yields};
+ghost use Rattle.gtfs_tables.specs.Refusals.{Gives};
 ghost use Rattle.mt_base.specs.Civil.{IsCivil};
 ghost use Rattle.mt_base.specs.Options.{IsInRange};
 ghost use Rattle.information_service.specs.Networks.{IsSame};
@@ -29,7 +29,7 @@ pub(crate) fn load<F: Feed>(
     requires days { (1 ≤ asked.now.days) × (asked.now.days ≤ 31) }
     requires options { IsInRange asked.now.opts }
     ensures exact { (told : Told) → F.tables feed.old ≡ Some told
-        → Yields (λ s. (s.state, s.names)) result (asked_in told (asked_view asked.now)) }
+        → Gives (λ s. (s.state, s.names)) result (asked_in told (asked_view asked.now)) }
     ensures network { IfOk result (λ s. (told : Told) (rows : ATables) → F.tables feed.old
         ≡ Some told → tables_in told (asked_view asked.now) ≡ Ok rows
         → IsSame (network rows asked.now.opts) s.network) }

@@ -4,5 +4,5 @@ pub mod Scopes
 pub mod Indexed
 pub mod Waiting
 pub mod Bounded
-pub mod Held
-pub mod HeldClass
+pub mod Inside
+pub mod InsideClass

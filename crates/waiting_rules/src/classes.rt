@@ -47,7 +47,7 @@ impl<'a> Model for WaitClass<'a> {
       stop = a.stop;
     } };
 
-    ghost use Rattle.waiting_rules.specs.HeldClass.{IsClass};
+    ghost use Rattle.waiting_rules.specs.InsideClass.{IsClass};
 
     ghost invariant = { IsClass };
 }

@@ -46,9 +46,9 @@ impl Model for Waits {
 
     ghost view = { λ a. record { parents = a.parents.items; rules = a.rules.items } };
 
-    ghost use Rattle.waiting_rules.specs.Held.{IsHeld};
+    ghost use Rattle.waiting_rules.specs.Inside.{IsConsistent};
 
-    ghost invariant = { IsHeld };
+    ghost invariant = { IsConsistent };
 }
 
 impl Waits {

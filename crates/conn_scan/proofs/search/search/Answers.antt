@@ -1,6 +1,6 @@
 use Rattle.std.proofs.Common.{◌≤◌, Option, None, length, sym, ◌∙◌, ap, subst}
 use Rattle.std.proofs.lemmas.List.{length-replicate}
-use Rattle.mt_base.specs.declared.plans.PlanRide.{PlanRide}
+use Rattle.mt_base.specs.declared.journeys.PlanRide.{PlanRide}
 use Rattle.timetable.specs.Departures.{departures_from}
 use Rattle.conn_scan.specs.Lowered.{lowered, access_of}
 use Rattle.conn_scan.specs.Scan.{IsAtEnd}

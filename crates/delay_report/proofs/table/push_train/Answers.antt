@@ -5,7 +5,7 @@ use Rattle.mt_base.specs.Order.{node_of}
 use Rattle.delay_model.specs.declared.state.Event.{Event}
 use Rattle.delay_model.specs.Events.{event_named, train_events}
 use Rattle.delay_model.specs.Timing.{event_time}
-use Rattle.edge_rules.specs.Held.{HasOwnLabels}
+use Rattle.edge_rules.specs.Inside.{HasOwnLabels}
 use Rattle.delay_report.specs.Table.{rows_of_events}
 use Rattle.delay_report.specs.Written.{bytes_of}
 use Rattle.delay_report.proofs.EventRows.{AreNamed, all-named, rows-pass, rows-end}

@@ -7,7 +7,7 @@ use Rattle.mt_io.specs.Reader.{Reader, GivesNext}
 use Rattle.mt_io.specs.Answers.{next_lines}
 use Rattle.mt_io.specs.declared.lines.Next.TheVariants as next
 use Rattle.mt_io.proofs.Runs.{stops}
-use Rattle.information_service.specs.Fronts.{Answered, AppendsFront, Begun}
+use Rattle.information_service.specs.Fronts.{AreAnswered, AppendsFront, Begun}
 use Rattle.information_service.specs.Output.{IsReplyTo}
 use Rattle.information_service.specs.ServiceState.{ServiceState, after_line}
 use Rattle.information_service.proofs.Ends.{each_fault}
@@ -76,7 +76,7 @@ loop-number-preserved g c =
     let wrote : Appends o1 o2 (text_of_reply after.names c.match-next.reply) = subst (λ (t : ServiceState). Appends o1 o2 (text_of_reply t.names c.match-next.reply)) c.service.view_is c.in_ok-write_reply.ensures.ok in
     let same : c.match-next.reader ≡ now = elim c.match-next.branch [ in-Line+in_ok-reply-in-Line w ↦ w.reader-is | in-LongLine w ↦ w.reader-is ] in
     let one : (x : Line) → next_lines c.next.result ≡ x ∷ [] → IsReplyTo before c.loop-number.number x c.match-next.reply → after ≡ after_line before x
-    → (bytes : List ℕ) × (lines : List Line) × Answered first after now (g.S.Source.left c.args.input.now) l2 (g.K.Sink.written c.args.out.now) o2 bytes lines × (c.loop-number.number + 1 ≡ length lines + 1) = λ x is says stands.
+    → (bytes : List ℕ) × (lines : List Line) × AreAnswered first after now (g.S.Source.left c.args.input.now) l2 (g.K.Sink.written c.args.out.now) o2 bytes lines × (c.loop-number.number + 1 ≡ length lines + 1) = λ x is says stands.
     let more = one_line_more after x c.loop-number.number c.match-next.reply a.2 (λ ended. ap g.S.Source.left (c.next.ensures.ended ended))
     (subst (GivesNext c.loop-number.reader now l1 l2) is c.next.follows.holds-at-none.0) a.3 says stands wrote in
     (more.0, a.1 ++ x ∷ [], more.1, omega (arith, a.3, length-append a.1 (x ∷ []))) in

@@ -1,11 +1,11 @@
 use Rattle.std.proofs.Common.{◌≡◌, ◌≤◌, ◌<◌, ◌+◌, List, ℕ, length}
 use Rattle.mt_io.specs.Lines.{Line}
-use Rattle.information_service.specs.Fronts.{Answered}
+use Rattle.information_service.specs.Fronts.{AreAnswered}
 use Rattle.information_service.proofs.lines.answer_lines.Given as goal
 
 abbrev pub invariant-loop-number : goal.invariant-loop-number
 invariant-loop-number g l = record {
-  answered : (bytes : List ℕ) × (lines : List Line) × Answered l.initial.service l.service l.reader (g.S.Source.left l.initial.input) (g.S.Source.left l.input) (g.K.Sink.written l.initial.out) (g.K.Sink.written l.out) bytes lines
+  answered : (bytes : List ℕ) × (lines : List Line) × AreAnswered l.initial.service l.service l.reader (g.S.Source.left l.initial.input) (g.S.Source.left l.input) (g.K.Sink.written l.initial.out) (g.K.Sink.written l.out) bytes lines
       × (l.number ≡ length lines + 1);
   count : l.service.count < l.number;
   budget : l.reader.budget ≡ l.initial.reader.budget;

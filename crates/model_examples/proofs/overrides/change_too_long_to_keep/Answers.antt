@@ -6,7 +6,7 @@ use Rattle.delay_model.specs.Waits.{wait}
 use Rattle.delay_model.specs.Events.{events}
 use Rattle.delay_model.specs.Edges.{transfer}
 use Rattle.delay_model.specs.Effect.{effect}
-use Rattle.delay_model.specs.After.{after}
+use Rattle.delay_model.specs.After.{after_messages}
 use Rattle.delay_model.specs.Refusals.{refusal}
 use Rattle.delay_model.specs.Timing.{cap}
 use Rattle.model_examples.specs.TwoTrains.{opts, network, start, arrival, departure}
@@ -17,7 +17,7 @@ pub returns : goal.returns
 unfolding cap transfer change wait events effect refusal is_same is_same_node is_before
 returns c =
     record {
-      shortest = keep-answer (network (record opts { change = 360 })) (after (start (record opts { change = 360 })) []) (arrival 0 1) (departure 1 0) no_overrides _ refl None refl;
-      too_long = keep-answer (network (record opts { change = 361 })) (after (start (record opts { change = 361 })) []) (arrival 0 1) (departure 1 0) no_overrides _ refl (Some (AgainstRank (arrival 0 1) (departure 1 0))) refl;
-      to_drop = drop-answer (network (record opts { change = 361 })) (after (start (record opts { change = 361 })) []) (arrival 0 1) (departure 1 0) no_overrides _ refl None refl;
+      shortest = keep-answer (network (record opts { change = 360 })) (after_messages (start (record opts { change = 360 })) []) (arrival 0 1) (departure 1 0) no_overrides _ refl None refl;
+      too_long = keep-answer (network (record opts { change = 361 })) (after_messages (start (record opts { change = 361 })) []) (arrival 0 1) (departure 1 0) no_overrides _ refl (Some (AgainstRank (arrival 0 1) (departure 1 0))) refl;
+      to_drop = drop-answer (network (record opts { change = 361 })) (after_messages (start (record opts { change = 361 })) []) (arrival 0 1) (departure 1 0) no_overrides _ refl None refl;
     }

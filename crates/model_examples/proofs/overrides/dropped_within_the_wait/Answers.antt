@@ -5,7 +5,7 @@ use Rattle.delay_model.specs.Waits.{wait}
 use Rattle.delay_model.specs.Events.{events}
 use Rattle.delay_model.specs.Edges.{transfer}
 use Rattle.delay_model.specs.Effect.{effect}
-use Rattle.delay_model.specs.After.{after}
+use Rattle.delay_model.specs.After.{after_messages}
 use Rattle.delay_model.specs.Refusals.{refusal}
 use Rattle.delay_model.specs.Timing.{time, time_within, local, incoming, cap}
 use Rattle.model_examples.specs.TwoTrains.{clock, opts, network, start, at_b1, arrival, departure}
@@ -18,7 +18,7 @@ returns c =
     let d = with_override _ _ no_overrides in
     let r = without_override _ d in
     record {
-      accepted = (refl, (drop-answer (network opts) (after (start opts) (at_b1 (clock 8 36 0) ∷ [])) (arrival 0 1) (departure 1 0) no_overrides _ refl None refl, (refl, tt)));
+      accepted = (refl, (drop-answer (network opts) (after_messages (start opts) (at_b1 (clock 8 36 0) ∷ [])) (arrival 0 1) (departure 1 0) no_overrides _ refl None refl, (refl, tt)));
       changed = count-is _ _ _ no_overrides no_overrides _ refl and count-is _ _ _ no_overrides d _ refl and count-is _ _ _ d r _ refl and refl;
       dropped = times-are _ _ d _ refl;
       by_rule = times-are _ _ r _ refl;

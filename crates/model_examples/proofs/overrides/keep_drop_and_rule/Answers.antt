@@ -5,7 +5,7 @@ use Rattle.delay_model.specs.Waits.{wait}
 use Rattle.delay_model.specs.Events.{events}
 use Rattle.delay_model.specs.Edges.{transfer}
 use Rattle.delay_model.specs.Effect.{effect}
-use Rattle.delay_model.specs.After.{after}
+use Rattle.delay_model.specs.After.{after_messages}
 use Rattle.delay_model.specs.Refusals.{refusal}
 use Rattle.delay_model.specs.Timing.{time, time_within, local, incoming, cap}
 use Rattle.model_examples.specs.TwoTrains.{clock, opts, network, start, at_b1, arrival, departure, keep_at_b}
@@ -19,7 +19,7 @@ returns c =
     let d = with_override _ _ k in
     let r = without_override _ d in
     record {
-      accepted = (refl, (refl, (keep-answer (network opts) (after (start opts) (at_b1 (clock 8 38 0) ∷ at_b1 (clock 8 38 1) ∷ [])) (arrival 0 1) (departure 1 0) no_overrides _ refl None refl, (drop-answer (network opts) (after (start opts) (at_b1 (clock 8 38 0) ∷ at_b1 (clock 8 38 1) ∷ keep_at_b ∷ [])) (arrival 0 1) (departure 1 0) k _ refl None refl, (refl, tt)))));
+      accepted = (refl, (refl, (keep-answer (network opts) (after_messages (start opts) (at_b1 (clock 8 38 0) ∷ at_b1 (clock 8 38 1) ∷ [])) (arrival 0 1) (departure 1 0) no_overrides _ refl None refl, (drop-answer (network opts) (after_messages (start opts) (at_b1 (clock 8 38 0) ∷ at_b1 (clock 8 38 1) ∷ keep_at_b ∷ [])) (arrival 0 1) (departure 1 0) k _ refl None refl, (refl, tt)))));
       changed = count-is _ _ _ no_overrides no_overrides _ refl and count-is _ _ _ no_overrides no_overrides _ refl and count-is _ _ _ no_overrides k _ refl and count-is _ _ _ k d _ refl and count-is _ _ _ d r _ refl and refl;
       kept = times-are _ _ k _ refl;
       dropped = times-are _ _ d _ refl;

@@ -6,7 +6,7 @@ use Rattle.delay_model.specs.Waits.{wait}
 use Rattle.delay_model.specs.Events.{events}
 use Rattle.delay_model.specs.Edges.{transfer}
 use Rattle.delay_model.specs.Effect.{effect}
-use Rattle.delay_model.specs.After.{after}
+use Rattle.delay_model.specs.After.{after_messages}
 use Rattle.delay_model.specs.Refusals.{refusal}
 use Rattle.delay_model.specs.Timing.{cap}
 use Rattle.model_examples.specs.TwoTrains.{opts, network, start, arrival, departure}
@@ -21,5 +21,5 @@ returns c =
       change_and_report = refl;
       report_and_rank = refl;
       rank_and_calls = refl;
-      rank_and_overrides = keep-answer (network (record opts { change = 361; overrides = 0 })) (after (start (record opts { change = 361; overrides = 0 })) []) (arrival 0 1) (departure 1 0) no_overrides _ refl (Some (AgainstRank (arrival 0 1) (departure 1 0))) refl;
+      rank_and_overrides = keep-answer (network (record opts { change = 361; overrides = 0 })) (after_messages (start (record opts { change = 361; overrides = 0 })) []) (arrival 0 1) (departure 1 0) no_overrides _ refl (Some (AgainstRank (arrival 0 1) (departure 1 0))) refl;
     }

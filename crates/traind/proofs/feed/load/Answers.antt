@@ -1,6 +1,6 @@
 use Rattle.std.proofs.Common.{sym, ap, subst, ◌∙◌}
 use Rattle.delay_model.specs.declared.network.Network.{Network}
-use Rattle.timetable.specs.Running.{Running}
+use Rattle.timetable.specs.TimetableState.{TimetableState}
 use Rattle.information_service.specs.Networks.{IsSame}
 use Rattle.information_service.specs.ServiceState.{ServiceState}
 use Rattle.traind.specs.Feeds.{network}
@@ -10,5 +10,5 @@ use Rattle.traind.proofs.feed.load.Goals as goal
 pub returns-clause-network : goal.returns-clause-network
 returns-clause-network g c = λ told rows is are.
     let both = c.in_ok-loaded.ensures.network told rows is are in
-    subst (λ (n : Network). IsSame (network rows c.args.asked.now.opts) n) (sym (ap (λ (s : ServiceState). s.network) c.in_ok-build.ensures ∙ ap (λ (t : Running). t.network) c.in_ok-timetable.ensures))
+    subst (λ (n : Network). IsSame (network rows c.args.asked.now.opts) n) (sym (ap (λ (s : ServiceState). s.network) c.in_ok-build.ensures ∙ ap (λ (t : TimetableState). t.network) c.in_ok-timetable.ensures))
     (same-tables rows c.args.asked.now.opts c.in_ok-loaded.loaded.changes c.in_ok-loaded.loaded.waits both.0 both.1)

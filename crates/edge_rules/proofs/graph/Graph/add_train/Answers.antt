@@ -1,7 +1,7 @@
 use Rattle.std.proofs.Common.{[], length}
-use Rattle.edge_rules.specs.Held.{network_of}
+use Rattle.edge_rules.specs.Inside.{network_of}
 use Rattle.edge_rules.proofs.EventChanges.{extra-change}
-use Rattle.edge_rules.proofs.HeldLemmas.{held-after}
+use Rattle.edge_rules.proofs.InsideLemmas.{consistent-after}
 use Rattle.edge_rules.proofs.IndexChanges.{changed}
 use Rattle.edge_rules.proofs.StopsKept.{extra-stops}
 use Rattle.edge_rules.proofs.graph.Graph.add_train.Goals as goal
@@ -22,6 +22,6 @@ invariant_of-self c =
     let h = c.self.invariant in
     let is = c.add_train-number.ensures.train in
     let change = extra-change i.trains a.day a.route a.calls.now h.labels (rw is at c.labels_are_distinct.ensures.labels) (rw (← c.self.view_is) at c.requires.calls_spare) in
-    held-after i _ _ h c.labels_are_distinct.ensures.labels
+    consistent-after i _ _ h c.labels_are_distinct.ensures.labels
     (rw is (extra-stops (network_of i.changes i.waits i.opts) i.trains (length i.trains.trains) a.day a.route a.calls.now (rw (← c.self.view_is) at c.requires.stops) h.at_stops))
     (rw (c.insert_train.ensures, c.add_train-number.ensures.number, is) ((changed i.trains _ [] _ i.index h.index change).is_index))

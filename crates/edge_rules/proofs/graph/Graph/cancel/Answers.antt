@@ -1,7 +1,7 @@
 use Rattle.std.proofs.Common.{[]}
-use Rattle.edge_rules.specs.Held.{network_of}
+use Rattle.edge_rules.specs.Inside.{network_of}
 use Rattle.edge_rules.proofs.EventChanges.{cancel-change, cancel-exchange, out-of}
-use Rattle.edge_rules.proofs.HeldLemmas.{held-after}
+use Rattle.edge_rules.proofs.InsideLemmas.{consistent-after}
 use Rattle.edge_rules.proofs.IndexChanges.{changed, out-there}
 use Rattle.edge_rules.proofs.StopsKept.{cancel-stops}
 use Rattle.edge_rules.proofs.graph.Graph.cancel.Goals as goal
@@ -20,5 +20,5 @@ invariant_of-self c =
     let h = c.self.invariant in
     let is = c.cancel.ensures in
     let change = cancel-change i.trains a.t a.from a.to h.labels (rw is at c.labels_are_distinct.ensures.labels) (rw (← c.self.view_is) at c.requires) in
-    held-after i _ _ h c.labels_are_distinct.ensures.labels (rw is (cancel-stops (network_of i.changes i.waits i.opts) i.trains a.t a.from a.to h.at_stops))
+    consistent-after i _ _ h c.labels_are_distinct.ensures.labels (rw is (cancel-stops (network_of i.changes i.waits i.opts) i.trains a.t a.from a.to h.at_stops))
     (rw (is, c.remove_stretch.ensures) ((changed i.trains _ _ [] i.index h.index change).is_index))

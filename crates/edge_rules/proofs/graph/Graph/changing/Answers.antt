@@ -5,7 +5,7 @@ use Rattle.mt_base.specs.Order.{node_of}
 use Rattle.delay_model.specs.Edges.{DifferInEnds}
 use Rattle.edge_rules.specs.AtEvent.{along_from, edges_from}
 use Rattle.edge_rules.specs.Deciding.{may_change}
-use Rattle.edge_rules.specs.Timetabled.{Timetabled}
+use Rattle.edge_rules.specs.GraphState.{GraphState}
 use Rattle.edge_rules.proofs.EachOnce.{once-from, differ-turned}
 use Rattle.edge_rules.proofs.EdgesFound.{edges-changing_found, holds}
 use Rattle.edge_rules.proofs.Reordered.{pairs-permuted}
@@ -21,7 +21,7 @@ returns-clause-edges c =
     let h = holds a g c.self.invariant c.self.view_is in
     let v = c.live_event-at.result in
     let n = node_of v.key in
-    let along = c.edge_out.ensures ∙ ap (λ (x : Timetabled). along_from x.network.opts x.state n) c.self.view_is in
+    let along = c.edge_out.ensures ∙ ap (λ (x : GraphState). along_from x.network.opts x.state n) c.self.view_is in
     rw (along, c.planned_edges.ensures, c.kept_edges.ensures, ← c.live_event-at.ensures.named) (edges-changing_found g a.index n v h.labels h.stops h.index c.live_event-at.ensures.there (record { was = c.args.was; is = c.args.is; longest_wait = c.longest_wait.result }) (rw (← c.self.view_is) c.longest_wait.ensures.longest))
 
 pub returns-clause-once : goal.returns-clause-once

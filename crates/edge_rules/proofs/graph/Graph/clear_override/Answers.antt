@@ -2,7 +2,7 @@ use Rattle.std.proofs.Common.{refl}
 use Rattle.delay_model.specs.Effect.{without_override}
 use Rattle.delay_model.specs.Overrides.{connection}
 use Rattle.edge_rules.proofs.EventChanges.{index-kept}
-use Rattle.edge_rules.proofs.HeldLemmas.{held-after}
+use Rattle.edge_rules.proofs.InsideLemmas.{consistent-after}
 use Rattle.edge_rules.proofs.graph.Graph.clear_override.Goals as goal
 
 pub invariant_of-self : goal.invariant_of-self
@@ -10,4 +10,4 @@ invariant_of-self c =
     let i = c.self.inside in
     let h = c.self.invariant in
     let st = without_override (connection c.args.feeder c.args.train) i.trains in
-    rw c.clear_override.ensures (held-after i st i.index h h.labels h.at_stops (index-kept i.trains st i.index refl refl h.index))
+    rw c.clear_override.ensures (consistent-after i st i.index h h.labels h.at_stops (index-kept i.trains st i.index refl refl h.index))

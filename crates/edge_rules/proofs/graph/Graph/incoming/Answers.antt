@@ -4,7 +4,7 @@ use Rattle.mt_base.specs.Order.{node_of}
 use Rattle.delay_model.specs.Edges.{DifferInEnds}
 use Rattle.edge_rules.specs.AtEvent.{along_to}
 use Rattle.edge_rules.specs.Found.{waits_at}
-use Rattle.edge_rules.specs.Timetabled.{Timetabled}
+use Rattle.edge_rules.specs.GraphState.{GraphState}
 use Rattle.edge_rules.proofs.EachOnce.{once-to, differ-turned}
 use Rattle.edge_rules.proofs.EdgesFound.{edges-to_found, holds}
 use Rattle.edge_rules.proofs.Reordered.{pairs-permuted}
@@ -20,7 +20,7 @@ returns-clause-edges c =
     let h = holds a g c.self.invariant c.self.view_is in
     let v = c.live_event-at.result in
     let n = node_of v.key in
-    let along = c.edge_into.ensures ∙ ap (λ (x : Timetabled). along_to x.network.opts x.state n) c.self.view_is in
+    let along = c.edge_into.ensures ∙ ap (λ (x : GraphState). along_to x.network.opts x.state n) c.self.view_is in
     rw (along, c.planned_to.ensures, c.kept_edges.ensures, ← c.live_event-at.ensures.named) (edges-to_found g a.index n v h.labels h.stops h.index c.live_event-at.ensures.there (waits_at g v))
 
 pub returns-clause-once : goal.returns-clause-once

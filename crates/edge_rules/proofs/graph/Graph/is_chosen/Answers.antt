@@ -1,7 +1,7 @@
 use Rattle.std.proofs.Common.{is_some, sym, ◌∙◌, ap}
 use Rattle.mt_base.specs.Order.{node_of}
 use Rattle.delay_model.specs.Edges.{override_of}
-use Rattle.edge_rules.specs.Timetabled.{Timetabled}
+use Rattle.edge_rules.specs.GraphState.{GraphState}
 use Rattle.edge_rules.proofs.NoneFound.{not-chosen}
 use Rattle.edge_rules.proofs.graph.Graph.is_chosen.Goals as goal
 
@@ -10,4 +10,4 @@ returns-else-not-has_no_overrides c =
     let u = c.args.from.now in
     let v = c.args.to.now in
     let none = not-chosen c.self.inside.trains.overrides (node_of u.key) (node_of v.key) (sym c.has_no_overrides.ensures ∙ c.if-not-has_no_overrides.false) in
-    rw c.if-not-has_no_overrides.false (sym (ap is_some none) ∙ ap (λ (x : Timetabled). is_some (override_of x.state u v)) c.self.view_is)
+    rw c.if-not-has_no_overrides.false (sym (ap is_some none) ∙ ap (λ (x : GraphState). is_some (override_of x.state u v)) c.self.view_is)

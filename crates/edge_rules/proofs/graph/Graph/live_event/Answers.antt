@@ -1,12 +1,12 @@
 use Rattle.std.proofs.Common.{◌≡◌, Some, sym, ◌∙◌, ap, subst}
 use Rattle.mt_base.specs.declared.keys.Node.{Node}
 use Rattle.delay_model.specs.Events.{event_named, is_live}
-use Rattle.edge_rules.specs.Timetabled.{Timetabled}
+use Rattle.edge_rules.specs.GraphState.{GraphState}
 use Rattle.edge_rules.proofs.Neighbours.{live-there, named-is}
 use Rattle.edge_rules.proofs.graph.Graph.live_event.Goals as goal
 
 pub event-requires : goal.event-requires
-event-requires c = live-there c.self.inside.trains c.args.n.now (ap (λ (x : Timetabled). is_live x.state c.args.n.now) c.self.view_is ∙ c.requires)
+event-requires c = live-there c.self.inside.trains c.args.n.now (ap (λ (x : GraphState). is_live x.state c.args.n.now) c.self.view_is ∙ c.requires)
 
 pub returns-clause-named : goal.returns-clause-named
 returns-clause-named c = named-is c.self.inside.trains c.args.n.now c.event.result c.event.ensures
@@ -14,5 +14,5 @@ returns-clause-named c = named-is c.self.inside.trains c.args.n.now c.event.resu
 pub returns-clause-there : goal.returns-clause-there
 returns-clause-there c =
     let named = named-is c.self.inside.trains c.args.n.now c.event.result c.event.ensures in
-    let there = ap (λ (x : Timetabled). event_named x.state c.args.n.now) (sym c.self.view_is) ∙ c.event.ensures in
+    let there = ap (λ (x : GraphState). event_named x.state c.args.n.now) (sym c.self.view_is) ∙ c.event.ensures in
     subst (λ (n : Node). event_named c.args.self.now.state n ≡ Some c.event.result) (sym named) there

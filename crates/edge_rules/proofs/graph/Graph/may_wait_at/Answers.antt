@@ -1,7 +1,7 @@
 use Rattle.std.proofs.Common.{◌≡◌, sym, subst}
 use Rattle.delay_model.specs.Waits.{wait}
-use Rattle.edge_rules.specs.Timetabled.{Timetabled}
+use Rattle.edge_rules.specs.GraphState.{GraphState}
 use Rattle.edge_rules.proofs.graph.Graph.may_wait_at.Goals as goal
 
 pub returns : goal.returns
-returns c = λ none feeder connecting. subst (λ (x : Timetabled). wait x.network.stops x.network.rules feeder connecting c.args.stop ≡ 0) c.self.view_is (c.may_wait_at.ensures.none none feeder connecting c.self.inside.changes.stops (sym c.self.invariant.parents))
+returns c = λ none feeder connecting. subst (λ (x : GraphState). wait x.network.stops x.network.rules feeder connecting c.args.stop ≡ 0) c.self.view_is (c.may_wait_at.ensures.none none feeder connecting c.self.inside.changes.stops (sym c.self.invariant.parents))

@@ -3,7 +3,7 @@ use Rattle.std.proofs.lemmas.List.Sorted.{IsPermutation-sym}
 use Rattle.mt_base.specs.Order.{node_of}
 use Rattle.delay_model.specs.Edges.{DifferInEnds}
 use Rattle.edge_rules.specs.AtEvent.{along_from}
-use Rattle.edge_rules.specs.Timetabled.{Timetabled}
+use Rattle.edge_rules.specs.GraphState.{GraphState}
 use Rattle.edge_rules.proofs.EachOnce.{once-from, differ-turned}
 use Rattle.edge_rules.proofs.EdgesFound.{edges-from_found, holds}
 use Rattle.edge_rules.proofs.Reordered.{pairs-permuted}
@@ -19,7 +19,7 @@ returns-clause-edges c =
     let h = holds a g c.self.invariant c.self.view_is in
     let v = c.live_event-at.result in
     let n = node_of v.key in
-    let along = c.edge_out.ensures ∙ ap (λ (x : Timetabled). along_from x.network.opts x.state n) c.self.view_is in
+    let along = c.edge_out.ensures ∙ ap (λ (x : GraphState). along_from x.network.opts x.state n) c.self.view_is in
     rw (along, c.planned_edges.ensures, c.kept_edges.ensures, ← c.live_event-at.ensures.named) (edges-from_found g a.index n v h.labels h.stops h.index c.live_event-at.ensures.there)
 
 pub returns-clause-once : goal.returns-clause-once

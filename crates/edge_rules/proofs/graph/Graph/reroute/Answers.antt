@@ -1,7 +1,7 @@
 use Rattle.std.proofs.Common.{◌-◌, length, arith}
-use Rattle.edge_rules.specs.Held.{network_of}
+use Rattle.edge_rules.specs.Inside.{network_of}
 use Rattle.edge_rules.proofs.EventChanges.{out-of, reroute-change, reroute-exchange, reroute-next, reroute-there}
-use Rattle.edge_rules.proofs.HeldLemmas.{held-after}
+use Rattle.edge_rules.proofs.InsideLemmas.{consistent-after}
 use Rattle.edge_rules.proofs.IndexChanges.{changed, out-there}
 use Rattle.edge_rules.proofs.StopsKept.{reroute-stops}
 use Rattle.edge_rules.proofs.graph.Graph.reroute.Goals as goal
@@ -56,6 +56,6 @@ invariant_of-self c =
     let stand = rw (← c.self.view_is) at c.requires.stand in
     let next = reroute-next i.trains a.t a.from a.to c.next_label.result a.via.now stand (rw is at c.next_label.ensures.label) in
     let change = reroute-change i.trains a.t a.from a.to (c.next_label.result - length a.via.now) a.via.now h.labels (rw is at c.labels_are_distinct.ensures.labels) stand (rw (← c.self.view_is) at c.requires.spare) next.1 in
-    held-after i _ _ h c.labels_are_distinct.ensures.labels
+    consistent-after i _ _ h c.labels_are_distinct.ensures.labels
     (rw is (reroute-stops (network_of i.changes i.waits i.opts) i.trains a.t a.from a.to a.via.now (rw (← c.self.view_is) at c.requires.stops) h.at_stops))
     (rw (is, c.insert_calls.ensures, c.get.ensures, c.remove_between.ensures) ((changed i.trains _ _ _ i.index h.index change).is_index))

@@ -1,14 +1,14 @@
 use Rattle.std.proofs.Common.{◌≤◌, subst}
 use Rattle.std.specs.List.{All}
 use Rattle.mt_base.specs.declared.tables.RuleRow.{RuleRow}
-use Rattle.edge_rules.specs.Timetabled.{Timetabled}
+use Rattle.edge_rules.specs.GraphState.{GraphState}
 use Rattle.edge_rules.proofs.ShortWaits.{to-short, from-short}
 use Rattle.edge_rules.proofs.graph.Graph.waits_are_short.Goals as goal
 
 pub returns-clause-incoming : goal.returns-clause-incoming
 returns-clause-incoming c =
-    λ n. to-short c.args.self.now n (subst (λ (x : Timetabled). All (λ (rule : RuleRow). rule.max_wait ≤ 86400) x.network.rules) c.self.view_is c.waits_are_short.ensures)
+    λ n. to-short c.args.self.now n (subst (λ (x : GraphState). All (λ (rule : RuleRow). rule.max_wait ≤ 86400) x.network.rules) c.self.view_is c.waits_are_short.ensures)
 
 pub returns-clause-outgoing : goal.returns-clause-outgoing
 returns-clause-outgoing c =
-    λ n. from-short c.args.self.now n (subst (λ (x : Timetabled). All (λ (rule : RuleRow). rule.max_wait ≤ 86400) x.network.rules) c.self.view_is c.waits_are_short.ensures)
+    λ n. from-short c.args.self.now n (subst (λ (x : GraphState). All (λ (rule : RuleRow). rule.max_wait ≤ 86400) x.network.rules) c.self.view_is c.waits_are_short.ensures)

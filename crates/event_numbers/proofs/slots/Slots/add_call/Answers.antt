@@ -5,25 +5,25 @@ use Rattle.event_numbers.proofs.StoredSlotLemmas.{IsAdded, added-seen, added-sto
 use Rattle.event_numbers.proofs.slots.Slots.add_call.Goals as goal
 
 pub index_mut-row-requires : goal.index_mut-row-requires
-index_mut-row-requires c = omega (arith, c.get.ensures, numbered-length c.self.inside.added.items 0 c.self.inside.rows.items, rw (← c.self.view_is) at c.requires.there)
+index_mut-row-requires c = omega (arith, c.get.ensures, numbered-length c.self.inside.added.items 0 c.self.inside.records.items, rw (← c.self.view_is) at c.requires.there)
 
 pub next_entry-entry-requires-clause-linked : goal.next_entry-entry-requires-clause-linked
 next_entry-entry-requires-clause-linked c = rw c.deref.ensures.value c.self.invariant.linked
 
 pub next_entry-entry-requires-clause-last : goal.next_entry-entry-requires-clause-last
 next_entry-entry-requires-clause-last c =
-    rw c.deref.ensures.value (row-read c.self.inside c.args.t c.get.result c.index_mut-row.result.now c.self.invariant c.get.ensures (omega (arith, numbered-length c.self.inside.added.items 0 c.self.inside.rows.items, rw (← c.self.view_is) at c.requires.there)) c.index_mut-row.ensures.value).1.last
+    rw c.deref.ensures.value (row-read c.self.inside c.args.t c.get.result c.index_mut-row.result.now c.self.invariant c.get.ensures (omega (arith, numbered-length c.self.inside.added.items 0 c.self.inside.records.items, rw (← c.self.view_is) at c.requires.there)) c.index_mut-row.ensures.value).1.last
 
 pub next_entry-entry-requires-clause-count : goal.next_entry-entry-requires-clause-count
 next_entry-entry-requires-clause-count c =
-    rw c.deref.ensures.value (row-read c.self.inside c.args.t c.get.result c.index_mut-row.result.now c.self.invariant c.get.ensures (omega (arith, numbered-length c.self.inside.added.items 0 c.self.inside.rows.items, rw (← c.self.view_is) at c.requires.there)) c.index_mut-row.ensures.value).1.count
+    rw c.deref.ensures.value (row-read c.self.inside c.args.t c.get.result c.index_mut-row.result.now c.self.invariant c.get.ensures (omega (arith, numbered-length c.self.inside.added.items 0 c.self.inside.records.items, rw (← c.self.view_is) at c.requires.there)) c.index_mut-row.ensures.value).1.count
 
 pub overflow_add-row : goal.overflow_add-row
 overflow_add-row c =
-    let row = row-read c.self.inside c.args.t c.get.result c.index_mut-row.result.now c.self.invariant c.get.ensures (omega (arith, numbered-length c.self.inside.added.items 0 c.self.inside.rows.items, rw (← c.self.view_is) at c.requires.there)) c.index_mut-row.ensures.value in
+    let row = row-read c.self.inside c.args.t c.get.result c.index_mut-row.result.now c.self.invariant c.get.ensures (omega (arith, numbered-length c.self.inside.added.items 0 c.self.inside.records.items, rw (← c.self.view_is) at c.requires.there)) c.index_mut-row.ensures.value in
     omega (arith, row.1.small, c.self.invariant.calls_small)
 
-added : (c : goal.After-self-3-1) → IsAdded c.args.t c.index_mut-row.result.now c.next_entry-entry.result c.self.inside record { rows = with_item c.self.inside.rows c.get.result record c.index_mut-row.result.now { added = c.index_mut-row.result.now.added + 1; last = c.len.result }; added = c.push_reserved.new.self; used = c.self.inside.used + 1; spare_trains = c.self.inside.spare_trains; spare_calls = c.self.inside.spare_calls - 1 }
+added : (c : goal.After-self-3-1) → IsAdded c.args.t c.index_mut-row.result.now c.next_entry-entry.result c.self.inside record { records = with_item c.self.inside.records c.get.result record c.index_mut-row.result.now { added = c.index_mut-row.result.now.added + 1; last = c.len.result }; added = c.push_reserved.new.self; used = c.self.inside.used + 1; spare_trains = c.self.inside.spare_trains; spare_calls = c.self.inside.spare_calls - 1 }
 added c =
     let a = c.self.inside in
     let old = c.index_mut-row.result.now in
@@ -31,8 +31,8 @@ added c =
     let spare = ap (λ (n : Numbering). n.spare_calls) c.self.view_is in
     record {
       stored = c.self.invariant;
-      row = (row-read a c.args.t c.get.result old c.self.invariant c.get.ensures (omega (arith, numbered-length a.added.items 0 a.rows.items, rw (← c.self.view_is) at c.requires.there)) c.index_mut-row.ensures.value).0;
-      rows = ap (λ i. set a.rows.items i record old { added = old.added + 1; last = c.len.result }) c.get.ensures ∙ ap (λ n. set a.rows.items c.args.t record old { added = old.added + 1; last = n }) last;
+      row = (row-read a c.args.t c.get.result old c.self.invariant c.get.ensures (omega (arith, numbered-length a.added.items 0 a.records.items, rw (← c.self.view_is) at c.requires.there)) c.index_mut-row.ensures.value).0;
+      records = ap (λ i. set a.records.items i record old { added = old.added + 1; last = c.len.result }) c.get.ensures ∙ ap (λ n. set a.records.items c.args.t record old { added = old.added + 1; last = n }) last;
       added = c.push_reserved.ensures.items;
       train = c.next_entry-entry.ensures.train;
       nth = c.next_entry-entry.ensures.nth;

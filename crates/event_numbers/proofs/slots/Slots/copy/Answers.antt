@@ -3,16 +3,16 @@ use Rattle.event_numbers.proofs.slots.Slots.copy.Goals as goal
 
 pub invariant_of-result : goal.invariant_of-result
 invariant_of-result c =
-    let rows = c.in_ok-copy_with_room.ensures.items ∙ c.as_slice.ensures.value in
+    let records = c.in_ok-copy_with_room.ensures.items ∙ c.as_slice.ensures.value in
     let added = c.in_ok-copy_with_room-2.ensures.items ∙ c.as_slice-2.ensures.value in
     record {
       linked = rw added c.self.invariant.linked;
-      owned = rw (rows, added) c.self.invariant.owned;
-      rows = rw (rows, added) c.self.invariant.rows;
-      numbering = rw (rows, added) c.self.invariant.numbering;
-      rows_room = rw c.in_ok-copy_with_room.ensures.items c.in_ok-copy_with_room.ensures.room;
+      owned = rw (records, added) c.self.invariant.owned;
+      records = rw (records, added) c.self.invariant.records;
+      numbering = rw (records, added) c.self.invariant.numbering;
+      records_room = rw c.in_ok-copy_with_room.ensures.items c.in_ok-copy_with_room.ensures.room;
       added_room = rw c.in_ok-copy_with_room-2.ensures.items c.in_ok-copy_with_room-2.ensures.room;
-      rows_small = rw rows c.self.invariant.rows_small;
+      records_small = rw records c.self.invariant.records_small;
       added_small = rw added c.self.invariant.added_small;
       calls_small = c.self.invariant.calls_small;
     }

@@ -3,7 +3,7 @@ use Rattle.event_numbers.proofs.SlotLemmas.{numbered-length, train-read}
 use Rattle.event_numbers.proofs.slots.Slots.loaded.Goals as goal
 
 pub index-requires : goal.index-requires
-index-requires c = omega (arith, c.get.ensures, numbered-length c.self.inside.added.items 0 c.self.inside.rows.items, rw (← c.self.view_is) at c.requires)
+index-requires c = omega (arith, c.get.ensures, numbered-length c.self.inside.added.items 0 c.self.inside.records.items, rw (← c.self.view_is) at c.requires)
 
 pub returns : goal.returns
 returns c =

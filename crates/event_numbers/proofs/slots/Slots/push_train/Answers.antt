@@ -2,13 +2,13 @@ use Rattle.event_numbers.proofs.Words.{◌∙◌, ◌+◌, ◌-◌, refl, ap, ar
 use Rattle.event_numbers.proofs.StoredSlotLemmas.{IsPushed, pushed-seen, pushed-stored}
 use Rattle.event_numbers.proofs.slots.Slots.push_train.Goals as goal
 
-pushed : (c : goal.After-self-3-1) → IsPushed c.args.calls c.self.inside record { rows = c.push_reserved.new.self; added = c.self.inside.added; used = c.self.inside.used + c.args.calls; spare_trains = c.self.inside.spare_trains - 1; spare_calls = c.self.inside.spare_calls - c.args.calls }
+pushed : (c : goal.After-self-3-1) → IsPushed c.args.calls c.self.inside record { records = c.push_reserved.new.self; added = c.self.inside.added; used = c.self.inside.used + c.args.calls; spare_trains = c.self.inside.spare_trains - 1; spare_calls = c.self.inside.spare_calls - c.args.calls }
 pushed c =
     let trains = ap (λ (n : Numbering). n.spare_trains) c.self.view_is in
     let calls = ap (λ (n : Numbering). n.spare_calls) c.self.view_is in
     record {
       stored = c.self.invariant;
-      rows = c.push_reserved.ensures.items;
+      records = c.push_reserved.ensures.items;
       added = refl;
       used = refl;
       spare_trains = refl;

@@ -1,5 +1,5 @@
 use Rattle.std.proofs.Common.{arith, not, ap, sym, ◌∙◌, ◌≡◌}
-use Rattle.mt_base.specs.declared.plans.Entry.{Entry}
+use Rattle.mt_base.specs.declared.index_entries.Entry.{Entry}
 use Rattle.station_index.specs.Indexed.{Indexed, entry_at, is_same_entry, without_entry}
 use Rattle.station_index.specs.Merged.{kept, merged}
 use Rattle.station_index.proofs.OrderLemmas.{filter-ascends, filter-fewer}

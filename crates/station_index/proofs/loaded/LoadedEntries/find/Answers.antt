@@ -1,5 +1,5 @@
 use Rattle.std.proofs.Common.{◌≡◌, ℕ, ◌+◌, List, length, arith, sym, ◌∙◌, subst}
-use Rattle.mt_base.specs.declared.plans.Entry.{Entry}
+use Rattle.mt_base.specs.declared.index_entries.Entry.{Entry}
 use Rattle.station_index.specs.declared.loaded_event.LoadedEvent.{LoadedEvent}
 use Rattle.station_index.specs.Indexed.{is_in_range}
 use Rattle.station_index.specs.Places.{IsRangeAt}

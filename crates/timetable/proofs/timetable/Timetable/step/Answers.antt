@@ -1,5 +1,5 @@
-use Rattle.timetable.proofs.Words.{◌∙◌, ◌+◌, ◌≤◌, arith, ap, subst, effect, events, length, Marked, Running}
-use Rattle.timetable.specs.Running.{stepped}
+use Rattle.timetable.proofs.Words.{◌∙◌, ◌+◌, ◌≤◌, arith, ap, subst, effect, events, length, Marked, TimetableState}
+use Rattle.timetable.specs.TimetableState.{stepped}
 use Rattle.propagate.specs.Reads.{reads_of}
 use Rattle.delay_model.specs.Touched.{changed_count}
 use Rattle.timetable.proofs.{Changed.changed-length, Listing.live-held, Moving.gone-fit, Moving.gone-there, Moving.departures-live, Moving.left-are, Moving.moved-live, Moving.new-fit, Moving.time-changes-are, Moving.time-changes-fit, Prepared.names-are}
@@ -109,7 +109,7 @@ returns-clause-effect g c =
     let p = c.apply.ensures.prepared in
     let list = rw (c.clear.ensures.items, c.apply.ensures.effect) at c.settle.ensures.changed in
     let names = rw (c.deref-3.ensures.value, list, c.mark_before.ensures.leaving, names-are p) at c.push_names.ensures.names in
-    rw (c.apply.ensures.effect, names, c.saturating_add-self-inside.ensures) (ap (λ (r : Running). stepped r c.args.m.now) c.self.view_is)
+    rw (c.apply.ensures.effect, names, c.saturating_add-self-inside.ensures) (ap (λ (r : TimetableState). stepped r c.args.m.now) c.self.view_is)
 
 pub returns-clause-changed : goal.returns-clause-changed
 returns-clause-changed g c =
@@ -118,11 +118,11 @@ returns-clause-changed g c =
     let list = rw (c.clear.ensures.items, c.apply.ensures.effect) at c.settle.ensures.changed in
     let names = rw (c.deref-3.ensures.value, list, c.mark_before.ensures.leaving, names-are p) at c.push_names.ensures.names in
     rw (c.len.ensures, c.push_names.new.changed.ok.0, names, changed-length a.network a.state (effect a.state c.args.m.now))
-    (ap (λ (r : Running). changed_count r.network r.state c.args.m.now) c.self.view_is)
+    (ap (λ (r : TimetableState). changed_count r.network r.state c.args.m.now) c.self.view_is)
 
 pub returns-clause-cost : goal.returns-clause-cost
 returns-clause-cost g c =
     let due = step-due c.self.invariant.settled.valid c.apply.ensures.well_formed c.in_ok-check.ensures c.apply.new.graph c.apply.ensures.effect c.mark_before.ensures.marked c.mark_after.ensures.marked in
     let reads = step-reads c.apply.ensures.prepared due in
     let cost = rw c.apply.ensures.effect at c.settle.ensures.cost in
-    subst (λ (r : Running). c.settle.new.steps ≤ c.args.steps.now + reads_of r.network r.state c.args.m.now) c.self.view_is (omega (arith, cost, reads))
+    subst (λ (r : TimetableState). c.settle.new.steps ≤ c.args.steps.now + reads_of r.network r.state c.args.m.now) c.self.view_is (omega (arith, cost, reads))

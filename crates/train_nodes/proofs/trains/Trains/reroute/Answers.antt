@@ -1,4 +1,4 @@
-use Rattle.train_nodes.proofs.Words.{State, ◌+◌, ◌-◌, ◌<◌, length, refl, sym, ◌∙◌, ap, subst, arith, with_item, change-length, Numbering, Row, never}
+use Rattle.train_nodes.proofs.Words.{State, ◌+◌, ◌-◌, ◌<◌, length, refl, sym, ◌∙◌, ap, subst, arith, with_item, change-length, Numbering, TrainRecord, never}
 use Rattle.train_nodes.proofs.CancelLemmas.{row-read}
 use Rattle.train_nodes.proofs.FoundParts.{found-part, part-found, stands-found}
 use Rattle.train_nodes.proofs.RerouteLemmas.{next-label, rerouted-as}
@@ -33,12 +33,12 @@ index-requires c = omega (arith, (part-found c.self.invariant c.deref.ensures.va
 pub overflow_sub-len-3 : goal.overflow_sub-len-3
 overflow_sub-len-3 c =
     let w = (part-found c.self.invariant c.deref.ensures.value c.in-Some.ensures).2 in
-    omega (arith, ap (λ (q : Row). q.len) (row-read c.index.result.now w.of c.get.ensures c.index.ensures))
+    omega (arith, ap (λ (q : TrainRecord). q.len) (row-read c.index.result.now w.of c.get.ensures c.index.ensures))
 
 pub overflow_add-len : goal.overflow_add-len
 overflow_add-len c =
     let w = (part-found c.self.invariant c.deref.ensures.value c.in-Some.ensures).2 in
-    omega (arith, ap (λ (st : State). st.spare_calls) c.self.view_is, c.requires.spare, ap (λ (q : Row). q.len) (row-read c.index.result.now w.of c.get.ensures c.index.ensures))
+    omega (arith, ap (λ (st : State). st.spare_calls) c.self.view_is, c.requires.spare, ap (λ (q : TrainRecord). q.len) (row-read c.index.result.now w.of c.get.ensures c.index.ensures))
 
 pub index_mut-requires : goal.index_mut-requires
 index_mut-requires c = omega (arith, (part-found c.self.invariant c.deref.ensures.value c.in-Some.ensures).2.there.0)
@@ -52,8 +52,8 @@ pub invariant_of-self : goal.invariant_of-self
 invariant_of-self c =
     let x = c.index.result.now in
     let y = c.index_mut.result.now in
-    let told : Row = record y { len = x.len - (c.in-Some.part.last - c.in-Some.part.first - 1) + length c.args.via.now } in
-    (rerouted-as x y c.args.via.now c.replace.new.calls.items (with_item c.self.inside.rows c.get-2.result told) c.renew_train.new.calls c.add_calls.new.self c.args.self.now c.remove_overrides.new.overrides
+    let told : TrainRecord = record y { len = x.len - (c.in-Some.part.last - c.in-Some.part.first - 1) + length c.args.via.now } in
+    (rerouted-as x y c.args.via.now c.replace.new.calls.items (with_item c.self.inside.records c.get-2.result told) c.renew_train.new.calls c.add_calls.new.self c.args.self.now c.remove_overrides.new.overrides
     c.self.invariant c.self.view_is c.deref.ensures.value c.in-Some.ensures c.requires.spare c.deref-2.ensures.value c.remove_overrides.ensures.choices c.remove_overrides.ensures.spare
     c.numbers_are_lawful.ensures.loaded c.next_label-label.ensures.label c.add_calls.ensures.slots c.replace.ensures.replaced c.get.ensures c.index.ensures c.get-2.ensures c.index_mut.ensures.value
     refl refl (c.renew_train.ensures.capacity ∙ c.replace.ensures.capacity) c.renew_train.ensures.renewed).0
@@ -62,8 +62,8 @@ pub returns : goal.returns
 returns c =
     let x = c.index.result.now in
     let y = c.index_mut.result.now in
-    let told : Row = record y { len = x.len - (c.in-Some.part.last - c.in-Some.part.first - 1) + length c.args.via.now } in
-    (rerouted-as x y c.args.via.now c.replace.new.calls.items (with_item c.self.inside.rows c.get-2.result told) c.renew_train.new.calls c.add_calls.new.self c.args.self.now c.remove_overrides.new.overrides
+    let told : TrainRecord = record y { len = x.len - (c.in-Some.part.last - c.in-Some.part.first - 1) + length c.args.via.now } in
+    (rerouted-as x y c.args.via.now c.replace.new.calls.items (with_item c.self.inside.records c.get-2.result told) c.renew_train.new.calls c.add_calls.new.self c.args.self.now c.remove_overrides.new.overrides
     c.self.invariant c.self.view_is c.deref.ensures.value c.in-Some.ensures c.requires.spare c.deref-2.ensures.value c.remove_overrides.ensures.choices c.remove_overrides.ensures.spare
     c.numbers_are_lawful.ensures.loaded c.next_label-label.ensures.label c.add_calls.ensures.slots c.replace.ensures.replaced c.get.ensures c.index.ensures c.get-2.ensures c.index_mut.ensures.value
     refl refl (c.renew_train.ensures.capacity ∙ c.replace.ensures.capacity) c.renew_train.ensures.renewed).1

@@ -1,11 +1,11 @@
-use Rattle.train_nodes.proofs.Words.{ap, refl, with_item, with_event, change_event, change_labelled, forecasted, Forecast, edited, Row, NumberedTrain, live-there}
+use Rattle.train_nodes.proofs.Words.{ap, refl, with_item, with_event, change_event, change_labelled, forecasted, Forecast, edited, TrainRecord, NumberedTrain, live-there}
 use Rattle.train_nodes.proofs.EditLemmas.{slot-edit, forecast-reports}
 use Rattle.train_nodes.proofs.ReadLemmas.{found-read, missing-read, distinct-seen}
 use Rattle.train_nodes.proofs.StoredLemmas.{IsEdit, edited-stored, edited-trains}
 use Rattle.train_nodes.proofs.trains.Trains.set_forecast.Goals as goal
 
 -- the train's call is changed in its slot
-edit : (c : goal.After-self-1) → (r : Row) × (n : NumberedTrain) × IsEdit c.self.inside (with_item c.self.inside.calls c.in-Some.slot c.edit.new.self) c.args.n.train (change_labelled c.args.n.label (change_event c.args.n.dep (edited (Forecast c.args.t)))) r n
+edit : (c : goal.After-self-1) → (r : TrainRecord) × (n : NumberedTrain) × IsEdit c.self.inside (with_item c.self.inside.calls c.in-Some.slot c.edit.new.self) c.args.n.train (change_labelled c.args.n.label (change_event c.args.n.dep (edited (Forecast c.args.t)))) r n
 edit c =
     let w = found-read _ _ _ _ _ _ c.self.invariant c.deref.ensures.value c.in-Some.ensures c.index_mut.ensures.value in
     let h = change_event c.args.n.dep (edited (Forecast c.args.t)) in

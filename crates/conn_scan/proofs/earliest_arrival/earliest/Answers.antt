@@ -1,11 +1,11 @@
 use Rattle.std.proofs.Common.{◌≡◌, false, true, sym, ◌∙◌, subst}
-use Rattle.mt_base.specs.declared.plans.Query.{Query}
+use Rattle.mt_base.specs.declared.journeys.Query.{Query}
 use Rattle.delay_model.specs.Journeys.{is_one_station, IsEarliest}
 use Rattle.conn_scan.specs.Lowered.{access_of}
 use Rattle.conn_scan.specs.Scan.{IsAtEnd, LeadsTo}
 use Rattle.conn_scan.proofs.Answer.{at-once, found, none}
 use Rattle.conn_scan.proofs.StationLemmas.{stations-are}
-use Rattle.conn_scan.proofs.scratch.earliest.Goals as goal
+use Rattle.conn_scan.proofs.earliest_arrival.earliest.Goals as goal
 
 pub returns-then-is_at_once-clause-answer : goal.returns-then-is_at_once-clause-answer
 returns-then-is_at_once-clause-answer g c =

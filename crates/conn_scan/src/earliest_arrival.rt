@@ -1,7 +1,7 @@
 //! The earliest arrival of a query.
 
 ghost use Rattle.std.specs.Prelude.{◌≡◌, ◌≤◌, [], IfOk, length};
-ghost use Rattle.conn_scan.specs.Answered.{IsAnswer};
+ghost use Rattle.conn_scan.specs.ScratchState.{IsAnswer};
 
 use crate::accesses::Access;
 use crate::known::{Known, ask, is_at_once};
@@ -9,7 +9,7 @@ use crate::query_table::QueryTable;
 use crate::search::{search, trace};
 use mt_base::memory::OutOfMemory;
 use mt_base::numbers::{Label, Time};
-use mt_base::plans::{PlanRide, Query};
+use mt_base::journeys::{PlanRide, Query};
 use std::alloc::Global;
 use std::marker::Model;
 use std::sync::ledger::Ledger;
@@ -26,15 +26,15 @@ pub struct Scratch {
 }
 
 impl Model for Scratch {
-    ghost use Rattle.conn_scan.specs.Answered.{Answered};
+    ghost use Rattle.conn_scan.specs.ScratchState.{ScratchState};
 
-    ghost Value = { Answered };
+    ghost Value = { ScratchState };
 
-    ghost use Rattle.conn_scan.specs.Answered.{seen};
+    ghost use Rattle.conn_scan.specs.ScratchState.{seen};
 
     ghost view = { seen };
 
-    ghost use Rattle.conn_scan.specs.Answered.{HasRoom};
+    ghost use Rattle.conn_scan.specs.ScratchState.{HasRoom};
 
     ghost invariant = { HasRoom };
 }

@@ -8,7 +8,7 @@ use Rattle.waiting_rules.specs.Waiting.{HasFlags}
 use Rattle.waiting_rules.specs.declared.waits.Waits.TheInside.{Inside}
 
 -- no rule has a wait above 86,400 seconds, and what is kept is that of the rules of the file
-pub record IsHeld (a : Inside) : Type 0 where
+pub record IsConsistent (a : Inside) : Type 0 where
   pub longest : All (λ (rule : RuleRow). rule.max_wait ≤ 86400) a.rules.items
   pub first_rules : AreFirst a.rules.items a.first_rules.items
   pub bounds : HasBounds a.rules.items a.first_rules.items a.bounds

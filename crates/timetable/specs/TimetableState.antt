@@ -14,15 +14,15 @@ use Rattle.timetable.specs.Changed.{changed_nodes}
 
 -- what no message changes, the state of the trains, how many messages were accepted, and the events
 -- that the last of them changed
-pub record Running : Type 0 where
+pub record TimetableState : Type 0 where
   pub network : Network
   pub state : State
   pub count : ℕ
   pub changed : List Node
 
 -- a timetable is stored as its fields
-abbrev pub running_code : Coded Running
-running_code =
+abbrev pub timetable_state_code : Coded TimetableState
+timetable_state_code =
     code_by (Network × (State × (ℕ × List Node))) (coded× network_row.coded (coded× state_row.coded (coded× coded_ℕ (coded_list coded_node)))) (λ r. (r.network, (r.state, (r.count, r.changed)))) (λ p. record { network = p.0; state = p.1.0; count = p.1.1.0; changed = p.1.1.1 }) (λ _. refl)
 
 -- one message more, as far as 64 bits count
@@ -30,7 +30,7 @@ abbrev pub counted : ℕ → ℕ
 counted n = min (n + 1) (2 ^ 64 - 1)
 
 -- the timetable after an accepted message
-abbrev pub stepped : Running → Message → Running
+abbrev pub stepped : TimetableState → Message → TimetableState
 stepped r m =
     record {
       network = r.network;

@@ -4,7 +4,7 @@ use Rattle.edge_rules.specs.Found.{AreNames, AreWaitsAt, HaveEvents}
 use Rattle.edge_rules.specs.declared.transfers.PlannedEdges.TheInside.{Inside}
 
 -- the waits are those of the event, and the index and the names are those of events
-pub record IsHeldPlanned (a : Inside) : Type 0 where
+pub record IsConsistentPlanned (a : Inside) : Type 0 where
   pub waits : AreWaitsAt a.graph.now a.at a.wanted
   pub entries : HaveEvents a.graph.now.state a.index.now.entries
   pub near : AreNames a.graph.now.state (unwrap_or a.near [])

@@ -6,7 +6,7 @@ ghost use Rattle.train_nodes.specs.Kinds.{HasFewCalls};
 
 use delay_model::messages::Message;
 use mt_base::memory::{OutOfMemory, copy_with_room};
-use mt_base::plans::NewCall;
+use mt_base::new_calls::NewCall;
 use mt_base::rows::Rows;
 use std::alloc::Global;
 use std::marker::Model;

@@ -9,7 +9,7 @@ use Rattle.change_times.specs.ChangeTables.{ChangeTables}
 use Rattle.waiting_rules.specs.WaitTable.{WaitTable, parent_station}
 use Rattle.edge_rules.specs.AtStops.{AreAtStops}
 use Rattle.edge_rules.specs.Indexing.{IsIndexOf}
-use Rattle.edge_rules.specs.Timetabled.{Timetabled}
+use Rattle.edge_rules.specs.GraphState.{GraphState}
 use Rattle.edge_rules.specs.declared.graph.Graph.TheInside.{Inside}
 
 -- what no message changes: the stops with the change times between them, the waiting rules and the
@@ -22,7 +22,7 @@ network_of changes waits o = record {
   opts = o;
 }
 
-abbrev pub seen : Inside → Timetabled
+abbrev pub seen : Inside → GraphState
 seen a = record { network = network_of a.changes a.waits a.opts; state = a.trains }
 
 -- no two calls of the train have one label
@@ -32,7 +32,7 @@ HasOwnLabels t = HasDistinctLabels t.calls
 -- no two calls of a train have one label, and all are at stops; the index is that of the trains;
 -- the change times and the waits are of the same stops, and the change time where no row says one
 -- is the options'
-pub record IsHeld (a : Inside) : Type 0 where
+pub record IsConsistent (a : Inside) : Type 0 where
   pub options : IsInRange a.opts
   pub default : a.changes.default ≡ a.opts.change
   pub parents : a.waits.parents ≡ map parent_station a.changes.stops
