@@ -9,7 +9,7 @@ ghost use Rattle.delay_model.specs.Edges.{edges_along};
 ghost use Rattle.delay_model.specs.Effect.{begin_run, effect, end_run, new_calls};
 ghost use Rattle.delay_model.specs.Events.{events_at, train_events};
 ghost use Rattle.delay_model.specs.Refusals.{calls_short, first_against_rank, refusal, refused_if};
-ghost use Rattle.graph_edit.specs.Values.{Answers};
+ghost use Rattle.graph_edit.specs.Values.{Gives};
 
 use crate::new_calls::{are_at_stops, check_spare_calls};
 use crate::rank::RankCheck;
@@ -29,7 +29,7 @@ pub(crate) fn check_extra(
 ) -> Result<(), Refusal>
     requires two { 2 ≤ length calls.now }
     requires few { length calls.now < 2 ^ 31 }
-    ensures { (day : ℕ) → Answers result (refusal g.now.network g.now.state
+    ensures { (day : ℕ) → Gives result (refusal g.now.network g.now.state
         (Extra train day route calls.now)) }
 {
     let trains = g.trains();
@@ -45,7 +45,7 @@ pub(crate) fn check_extra(
 
 /// Whether a train is spare, and so many calls.
 fn check_room(g: &Graph, calls: &[NewCall]) -> Result<(), Refusal>
-    ensures { Answers result (option_or (refused_if (nat_eq g.now.state.spare_trains 0)
+    ensures { Gives result (option_or (refused_if (nat_eq g.now.state.spare_trains 0)
         (Full Trains)) (calls_short g.now.state (length calls.now))) }
 {
     if g.trains().spare_trains() == 0 {
@@ -61,7 +61,7 @@ fn check_room(g: &Graph, calls: &[NewCall]) -> Result<(), Refusal>
 fn check_run(g: &Graph, train: TrainNo, route: RouteNo, calls: &[NewCall]) -> Result<(), Refusal>
     requires two { 2 ≤ length calls.now }
     requires few { length calls.now < 2 ^ 31 }
-    ensures { Answers result (first_against_rank (edges_along g.now.network.opts
+    ensures { Gives result (first_against_rank (edges_along g.now.network.opts
         (events_at train route (begin_run (end_run (new_calls 0 calls.now)))))) }
 {
     let [first, between @ .., last] = calls else {

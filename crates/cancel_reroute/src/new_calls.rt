@@ -3,7 +3,7 @@
 ghost use Rattle.std.specs.Prelude.{◌≡◌, length};
 ghost use Rattle.delay_model.specs.Changes.{is_stop};
 ghost use Rattle.delay_model.specs.Refusals.{are_at_stops, calls_short};
-ghost use Rattle.graph_edit.specs.Values.{Answers};
+ghost use Rattle.graph_edit.specs.Values.{Gives};
 
 use delay_model::messages::{Refusal, Short};
 use edge_rules::Graph;
@@ -34,7 +34,7 @@ fn is_stop(g: &Graph, stop: StopNo) -> bool
 
 /// Whether so many calls are spare.
 pub(crate) fn check_spare_calls(g: &Graph, calls: &[NewCall]) -> Result<(), Refusal>
-    ensures { Answers result (calls_short g.now.state (length calls.now)) }
+    ensures { Gives result (calls_short g.now.state (length calls.now)) }
 {
     if (g.trains().spare_calls() as usize) < calls.len() {
         Err(Refusal::Full { what: Short::Calls })

@@ -3,7 +3,7 @@
 ghost use Rattle.std.specs.Prelude.{◌≡◌, ◌+◌, ◌<◌, ◌^◌, [], ◌∷◌, Some, OnOk, length};
 ghost use Rattle.delay_model.specs.Effect.{new_calls};
 ghost use Rattle.delay_model.specs.Events.{events_at};
-ghost use Rattle.graph_edit.specs.Values.{Answers};
+ghost use Rattle.graph_edit.specs.Values.{Gives};
 ghost use Rattle.cancel_reroute.specs.Ranks.{rank_to, rank_along, last_of};
 
 use delay_model::messages::Refusal;
@@ -26,7 +26,7 @@ pub(crate) struct RankCheck {
 impl RankCheck {
     /// Goes on to the next event.
     pub(crate) fn next(&mut self, g: &Graph, event: &Event) -> Result<(), Refusal>
-        ensures answer { Answers result (rank_to g.now.network.opts self.old.last event.now) }
+        ensures answer { Gives result (rank_to g.now.network.opts self.old.last event.now) }
         ensures last { OnOk result (self.new.last ≡ Some event.now) }
     {
         check_edge(g, &self.last, event)?;
@@ -42,7 +42,7 @@ impl RankCheck {
         route: RouteNo,
         call: &Call,
     ) -> Result<(), Refusal>
-        ensures answer { Answers result (rank_along g.now.network.opts self.old.last
+        ensures answer { Gives result (rank_along g.now.network.opts self.old.last
             (events_at train route (call.now ∷ []))) }
         ensures last { OnOk result (self.new.last ≡ last_of self.old.last
             (events_at train route (call.now ∷ []))) }
@@ -61,7 +61,7 @@ impl RankCheck {
         calls: &[NewCall],
     ) -> Result<(), Refusal>
         requires labels { label + length calls.now < 2 ^ 32 }
-        ensures answer { Answers result (rank_along g.now.network.opts self.old.last
+        ensures answer { Gives result (rank_along g.now.network.opts self.old.last
             (events_at train route (new_calls label calls.now))) }
         ensures last { OnOk result (self.new.last ≡ last_of self.old.last
             (events_at train route (new_calls label calls.now))) }
@@ -78,7 +78,7 @@ impl RankCheck {
 /// Whether the edge from the last event, if there is one, to the next one of the train leads to a
 /// later key, in time enough.
 fn check_edge(g: &Graph, last: &Option<Event>, event: &Event) -> Result<(), Refusal>
-    ensures { Answers result (rank_to g.now.network.opts last.now event.now) }
+    ensures { Gives result (rank_to g.now.network.opts last.now event.now) }
 {
     let Some(last) = last else {
         return Ok(());

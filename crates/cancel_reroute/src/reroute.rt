@@ -9,7 +9,7 @@ ghost use Rattle.delay_model.specs.Effect.{effect};
 ghost use Rattle.delay_model.specs.Events.{calls_of, is_event, train_events};
 ghost use Rattle.delay_model.specs.Refusals.{any_reported, first_against_rank, refusal, stands_before};
 ghost use Rattle.delay_model.specs.Touched.{new_events};
-ghost use Rattle.graph_edit.specs.Values.{Answers};
+ghost use Rattle.graph_edit.specs.Values.{Gives};
 ghost use Rattle.cancel_reroute.specs.Ranks.{rank_along, last_of};
 
 use crate::new_calls::{are_at_stops, check_spare_calls};
@@ -31,7 +31,7 @@ pub(crate) fn check_reroute(
     via: &[NewCall],
 ) -> Result<(), Refusal>
     requires few { length via.now < 2 ^ 31 }
-    ensures { Answers result (refusal g.now.network g.now.state (Reroute train from to via.now)) }
+    ensures { Gives result (refusal g.now.network g.now.state (Reroute train from to via.now)) }
 {
     let trains = g.trains();
     if !trains.stands_before(train, from, to) {
@@ -50,7 +50,7 @@ pub(crate) fn check_reroute(
 /// Whether no live event of the train behind this one is reported. The first that is, in the
 /// train's order, is shown.
 fn check_behind(g: &Graph, n: &Node) -> Result<(), Refusal>
-    ensures { Answers result
+    ensures { Gives result
         (any_reported (after (is_event n.now) (train_events g.now.state n.now.train))) }
 {
     let mut passed = false;
@@ -74,7 +74,7 @@ fn check_rerouted(
 ) -> Result<(), Refusal>
     requires stand { stands_before from to (calls_of g.now.state train) ≡ true }
     requires few { length via.now < 2 ^ 31 }
-    ensures { Answers result (first_against_rank (edges_along g.now.network.opts
+    ensures { Gives result (first_against_rank (edges_along g.now.network.opts
         (train_events (effect g.now.state (Reroute train from to via.now)) train))) }
 {
     let mut check = RankCheck { last: None };
@@ -87,7 +87,7 @@ fn check_rerouted(
 
 /// Goes on through the events of the train up to a departure.
 fn check_front(g: &Graph, check: &mut RankCheck, departure: &Node) -> Result<(), Refusal>
-    ensures answer { Answers result (rank_along g.now.network.opts check.old.last
+    ensures answer { Gives result (rank_along g.now.network.opts check.old.last
         (up_to (is_event departure.now) (train_events g.now.state departure.now.train))) }
     ensures last { OnOk result (check.new.last ≡ last_of check.old.last
         (up_to (is_event departure.now) (train_events g.now.state departure.now.train))) }
@@ -110,7 +110,7 @@ fn check_new(
 ) -> Result<(), Refusal>
     requires there { train < length g.now.state.trains }
     requires few { length via.now < 2 ^ 31 }
-    ensures answer { Answers result (rank_along g.now.network.opts check.old.last
+    ensures answer { Gives result (rank_along g.now.network.opts check.old.last
         (new_events g.now.state train via.now)) }
     ensures last { OnOk result (check.new.last ≡ last_of check.old.last
         (new_events g.now.state train via.now)) }
@@ -122,7 +122,7 @@ fn check_new(
 
 /// Goes on through the events of the train from an arrival on.
 fn check_back(g: &Graph, check: &mut RankCheck, arrival: &Node) -> Result<(), Refusal>
-    ensures { Answers result (rank_along g.now.network.opts check.old.last
+    ensures { Gives result (rank_along g.now.network.opts check.old.last
         (Cuts.from (is_event arrival.now) (train_events g.now.state arrival.now.train))) }
 {
     let mut arrived = false;

@@ -4,7 +4,7 @@ ghost use Rattle.std.specs.Prelude.{◌≡◌, None};
 ghost use Rattle.delay_model.specs.Effect.{effect};
 ghost use Rattle.delay_model.specs.Messages.{IsWellFormed};
 ghost use Rattle.delay_model.specs.Refusals.{refusal};
-ghost use Rattle.graph_edit.specs.Values.{Answers};
+ghost use Rattle.graph_edit.specs.Values.{Gives};
 ghost use Rattle.train_nodes.specs.Kinds.{HasFewCalls, message_of_shape};
 
 use crate::cancel::check_cancel;
@@ -18,7 +18,7 @@ use train_nodes::kinds::Shape;
 pub fn check_shape(g: &Graph, s: &Shape<'_>) -> Result<(), Refusal>
     requires well_formed { IsWellFormed (message_of_shape s.now) }
     requires few { HasFewCalls (message_of_shape s.now) }
-    ensures { Answers result (refusal g.now.network g.now.state (message_of_shape s.now)) }
+    ensures { Gives result (refusal g.now.network g.now.state (message_of_shape s.now)) }
 {
     match s {
         Shape::Cancel { train, from, to } => check_cancel(g, *train, *from, *to),

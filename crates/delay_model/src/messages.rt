@@ -31,8 +31,8 @@ pub enum Message {
         to: Label,
         via: Rows<NewCall>,
     },
-    /// One more train runs. Its number is the number of trains so far, or that of the train which
-    /// has its name already.
+    /// One more train runs. Its number is the number of trains so far; with that of a train which is
+    /// there it is known already.
     Extra {
         train: TrainNo,
         day: Day,

@@ -5,9 +5,9 @@ use Rattle.std.specs.declared.cmp.Ordering.TheVariants.{Less, Equal, Greater}
 use Rattle.delay_model.specs.declared.messages.Refusal.{Refusal}
 
 -- the answer is the refusal, or Ok exactly where there is none
-abbrev pub Answers : Result (Unit {0}) Refusal → Option Refusal → Type 0
-Answers (Ok done) refusal = refusal ≡ None
-Answers (Err r) refusal = refusal ≡ Some r
+abbrev pub Gives : Result (Unit {0}) Refusal → Option Refusal → Type 0
+Gives (Ok done) refusal = refusal ≡ None
+Gives (Err r) refusal = refusal ≡ Some r
 
 -- a report contradicts that an event of the same train takes place at t: the report of an event
 -- before that one, if it is after t, its own report, if it is another time, and the report of an

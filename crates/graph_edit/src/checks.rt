@@ -2,14 +2,14 @@
 
 ghost use Rattle.std.specs.Prelude.{[], ◌∷◌};
 ghost use Rattle.delay_model.specs.Refusals.{any_reported, first_against_rank};
-ghost use Rattle.graph_edit.specs.Values.{Answers};
+ghost use Rattle.graph_edit.specs.Values.{Gives};
 
 use delay_model::messages::Refusal;
 use delay_model::state::{Edge, Event};
 
 /// Whether an event is not reported, where it is live.
 pub fn check_unreported(event: &Event) -> Result<(), Refusal>
-    ensures { Answers result (any_reported (event.now ∷ [])) }
+    ensures { Gives result (any_reported (event.now ∷ [])) }
 {
     match event.report {
         Some(reported) if event.live => Err(Refusal::Contradiction {
@@ -23,7 +23,7 @@ pub fn check_unreported(event: &Event) -> Result<(), Refusal>
 /// Whether the edge leads to an event that is later by key, and the schedule leaves time enough for
 /// it.
 pub fn check_rank(edge: &Edge) -> Result<(), Refusal>
-    ensures { Answers result (first_against_rank (edge.now ∷ [])) }
+    ensures { Gives result (first_against_rank (edge.now ∷ [])) }
 {
     let earliest = u64::from(edge.from.time.seconds()) + u64::from(edge.weight);
     if edge.from.is_before(&edge.to) && earliest <= u64::from(edge.to.time.seconds()) {

@@ -7,7 +7,7 @@ ghost use Rattle.delay_model.specs.Events.{is_live};
 ghost use Rattle.delay_model.specs.Messages.{IsWellFormed};
 ghost use Rattle.delay_model.specs.Refusals.{refusal, kept_edge, itself_reported, overrides_short};
 ghost use Rattle.train_nodes.specs.Kinds.{message_of_choice};
-ghost use Rattle.graph_edit.specs.Values.{Answers};
+ghost use Rattle.graph_edit.specs.Values.{Gives};
 ghost use Rattle.graph_edit.specs.Choices.{no_edge};
 
 use crate::checks::{check_rank, check_unreported};
@@ -23,7 +23,7 @@ use train_nodes::kinds::Choice;
 #[tactic(auto, unfolding(delay_model::specs::Refusals::refusal), using(crate::proofs::ChoiceLemmas::refused_first, crate::proofs::ChoiceLemmas::accepted_first))]
 pub fn check_choice(g: &Graph, c: &Choice) -> Result<(), Refusal>
     requires well_formed { IsWellFormed (message_of_choice c.now) }
-    ensures { Answers result (refusal g.now.network g.now.state (message_of_choice c.now)) }
+    ensures { Gives result (refusal g.now.network g.now.state (message_of_choice c.now)) }
 {
     let edge = kept_edge(g, c)?;
     match c.choice {
@@ -85,7 +85,7 @@ fn kept_edge(g: &Graph, c: &Choice) -> Result<Edge, Refusal>
 /// Whether a live departure is not reported.
 fn check_departure(g: &Graph, n: &Node) -> Result<(), Refusal>
     requires { IsTrue (is_live g.now.state n.now) }
-    ensures { Answers result (itself_reported g.now.state n.now) }
+    ensures { Gives result (itself_reported g.now.state n.now) }
 {
     let event = g.trains().event(*n);
     check_unreported(&event)
@@ -93,7 +93,7 @@ fn check_departure(g: &Graph, n: &Node) -> Result<(), Refusal>
 
 /// Whether there is room for what is chosen for the connection.
 fn check_room(g: &Graph, c: &Choice) -> Result<(), Refusal>
-    ensures { Answers result (overrides_short g.now.state c.now.feeder c.now.train) }
+    ensures { Gives result (overrides_short g.now.state c.now.feeder c.now.train) }
 {
     let trains = g.trains();
     if trains.override_of(c.feeder, c.train).is_none() && trains.spare_overrides() == 0 {

@@ -7,7 +7,7 @@ ghost use Rattle.delay_model.specs.Effect.{effect};
 ghost use Rattle.delay_model.specs.Events.{is_live, train_events};
 ghost use Rattle.delay_model.specs.Refusals.{refusal, refused_if, first_reported, contradicted_at};
 ghost use Rattle.train_nodes.specs.Kinds.{message_of_value};
-ghost use Rattle.graph_edit.specs.Values.{Answers, contradicts};
+ghost use Rattle.graph_edit.specs.Values.{Gives, contradicts};
 
 use delay_model::messages::Refusal;
 use delay_model::state::Event;
@@ -20,7 +20,7 @@ use train_nodes::kinds::{Value, ValueKind};
 /// Whether a report or a forecast is accepted, or why it is refused.
 #[tactic(auto, using(crate::proofs::ValueLemmas::refusal_of_value))]
 pub fn check_value(g: &Graph, v: &Value) -> Result<(), Refusal>
-    ensures { Answers result (refusal g.now.network g.now.state (message_of_value v.now)) }
+    ensures { Gives result (refusal g.now.network g.now.state (message_of_value v.now)) }
 {
     check_time(g, &v.node, v.time)
 }
@@ -40,7 +40,7 @@ pub fn apply_value(g: &mut Graph, v: &Value)
 /// Whether an event may be given this time: it is live, and no report of its train contradicts it.
 /// The first that does, in the train's order, is shown.
 fn check_time(g: &Graph, n: &Node, t: Time) -> Result<(), Refusal>
-    ensures { Answers result (option_or (refused_if (not (is_live g.now.state n.now)) Unknown)
+    ensures { Gives result (option_or (refused_if (not (is_live g.now.state n.now)) Unknown)
         (contradicted_at t n.now (train_events g.now.state n.now.train))) }
 {
     let trains = g.trains();
@@ -66,7 +66,7 @@ fn check_time(g: &Graph, n: &Node, t: Time) -> Result<(), Refusal>
 /// of the same train. `place` says where the reported event stands: before that one, at it, or
 /// behind it.
 fn check_report(event: &Event, place: Ordering, t: Time) -> Result<(), Refusal>
-    ensures { Answers result (first_reported (contradicts place t) (event.now ∷ [])) }
+    ensures { Gives result (first_reported (contradicts place t) (event.now ∷ [])) }
 {
     let Some(reported) = event.report else {
         return Ok(());

@@ -1,7 +1,7 @@
 //! Which messages are refused.
 
 ghost use Rattle.delay_model.specs.Refusals.{refusal};
-ghost use Rattle.graph_edit.specs.Values.{Answers};
+ghost use Rattle.graph_edit.specs.Values.{Gives};
 
 use cancel_reroute::check_shape;
 use delay_model::messages::Refusal;
@@ -12,7 +12,7 @@ use train_nodes::kinds::Kind;
 
 /// Whether a message is accepted, or why it is refused.
 pub(crate) fn check(g: &Graph, m: &Msg) -> Result<(), Refusal>
-    ensures { Answers result (refusal g.now.network g.now.state m.now) }
+    ensures { Gives result (refusal g.now.network g.now.state m.now) }
 {
     match m.kind() {
         Kind::Value(value) => check_value(g, &value),

@@ -7,7 +7,7 @@ ghost use Rattle.delay_model.specs.Touched.{changed_count};
 ghost use Rattle.delay_model.specs.Valid.{IsValid};
 ghost use Rattle.waiting_rules.specs.WaitTable.{parent_station};
 ghost use Rattle.edge_rules.specs.Inside.{network_of};
-ghost use Rattle.graph_edit.specs.Values.{Answers};
+ghost use Rattle.graph_edit.specs.Values.{Gives};
 ghost use Rattle.edge_rules.specs.AtStops.{AreAtStops};
 ghost use Rattle.propagate.specs.Reads.{reads_of};
 ghost use Rattle.timetable.specs.Departures.{departures_from};
@@ -161,7 +161,7 @@ impl Timetable {
 
     /// Whether a message is accepted, or why it is refused. It changes nothing.
     pub fn check(&self, m: &Msg) -> Result<(), Refusal>
-        ensures { Answers result (refusal self.now.network self.now.state m.now) }
+        ensures { Gives result (refusal self.now.network self.now.state m.now) }
     {
         check(&self.graph, m)
     }
