@@ -31,8 +31,8 @@ pub enum Message {
         to: Label,
         via: Rows<NewCall>,
     },
-    /// One more train runs. Its number is the number of trains so far; with that of a train which is
-    /// there it is known already.
+    /// One more train runs. Its number is the number of trains so far; with that of a train which
+    /// is there it is known already.
     Extra {
         train: TrainNo,
         day: Day,

@@ -11,8 +11,8 @@ use mt_base::numbers::{Label, TrainNo};
 use std::alloc::{AllocError, Global};
 use std::marker::Model;
 
-/// The slots of a train. The calls that it was loaded with have the labels 0, 1, .. and the slots from `first`
-/// on.
+/// The slots of a train. The calls that it was loaded with have the labels 0, 1, .. and the slots
+/// from `first` on.
 #[derive(Clone, Copy)]
 pub(crate) struct TrainSlots {
     first: u32,

@@ -22,5 +22,6 @@ pub fn outputs_differ_in_journeys_alone()
 /// Names and trains that are in step are in step after any lines.
 pub fn lines_keep_names_in_step()
     ensures { (nw : Network) (names : Names) (st : State) (lines : List Line) → AreInStep names st
-        → AreInStep (names_after nw names st lines) (after_messages st (accepted_of nw names st lines)) }
+        → AreInStep (names_after nw names st lines)
+        (after_messages st (accepted_of nw names st lines)) }
 {}
