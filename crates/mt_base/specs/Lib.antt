@@ -3,3 +3,4 @@ pub mod Options
 pub mod Civil
 pub mod Places
 pub mod Sorted
+pub mod Texts

@@ -7,7 +7,7 @@ ghost use Rattle.mt_base.specs.Civil.{IsCivil, is_civil};
 use jiff_core::civil::Date;
 
 /// The date that the number YYYYMMDD names.
-fn date_of(date: u32) -> Option<Date>
+pub fn date_of(date: u32) -> Option<Date>
     ensures some { IsSome result ↔ IsCivil date }
     ensures value { IfSome result (IsYmd (pos (date / 10000)) (pos (date / 100 % 100))
         (pos (date % 100))) }

@@ -1,4 +1,5 @@
-//! Plain data of the service: numbers, keys, options, queries, rows of tables, and civil dates.
+//! Plain data of the service: numbers, keys, options, queries, rows of tables, civil dates and
+//! times of day.
 #![tactic(auto)]
 
 pub mod calendar;
@@ -13,6 +14,7 @@ pub mod options;
 pub mod places;
 pub mod rows;
 pub mod tables;
+pub mod texts;
 
 pub use calendar::civil;
 pub use index_entries::Entry;
