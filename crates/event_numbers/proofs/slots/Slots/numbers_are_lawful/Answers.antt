@@ -8,5 +8,5 @@ returns-clause-taken c = rw (← c.self.view_is) c.self.invariant.numbering.take
 pub returns-clause-loaded : goal.returns-clause-loaded
 returns-clause-loaded c = rw (← c.self.view_is) (λ t n. train-loaded c.self.inside t n c.self.invariant)
 
-pub returns-clause-rows : goal.returns-clause-rows
-returns-clause-rows c = rw (← c.self.view_is) (omega (arith, numbered-length c.self.inside.added.items 0 c.self.inside.records.items, c.self.invariant.records_small))
+pub returns-clause-records : goal.returns-clause-records
+returns-clause-records c = rw (← c.self.view_is) (omega (arith, numbered-length c.self.inside.added.items 0 c.self.inside.records.items, c.self.invariant.records_small))
