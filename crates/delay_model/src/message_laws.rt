@@ -22,7 +22,8 @@ pub fn accepted_messages_decide<X, N>(nw: &Network, st: &State)
     ensures more { (reading : Reading X N) (names : N) (lines others : List X) →
         accepted nw.now reading st.now names (lines ++ others)
         ≡ accepted nw.now reading st.now names lines
-        ++ accepted nw.now reading (after_messages st.now (accepted nw.now reading st.now names lines))
+        ++ accepted nw.now reading
+        (after_messages st.now (accepted nw.now reading st.now names lines))
         (known_after nw.now reading st.now names lines) others }
 {}
 

@@ -142,7 +142,8 @@ pub fn touched_events()
         (touched (network opts) (start opts) (Report (arrival 0 2) (clock 8 50 0)))
         ≡ departure 0 0 ∷ arrival 0 1 ∷ departure 0 1 ∷ arrival 0 2 ∷ [] }
     ensures after_a_report { map (λ (v : AnEvent). node_of v.key)
-        (touched (network opts) (after_messages (start opts) (Report (departure 0 0) (clock 8 5 0) ∷ []))
+        (touched (network opts)
+        (after_messages (start opts) (Report (departure 0 0) (clock 8 5 0) ∷ []))
         (Report (arrival 0 2) (clock 9 10 0))) ≡ arrival 0 1 ∷ departure 0 1 ∷ arrival 0 2
         ∷ [] }
     ensures rerouted { map (λ (v : AnEvent). node_of v.key)
