@@ -9,8 +9,8 @@ ghost use Rattle.call_lines.specs.declared.stored_call.StoredCall.{StoredCall as
 
 use crate::stored_call::StoredCall;
 use delay_model::state::{Call, EventValues};
-use mt_base::numbers::{Label, StopNo, Time, TrainNo};
 use mt_base::new_calls::NewCall;
+use mt_base::numbers::{Label, StopNo, Time, TrainNo};
 
 /// A train's call as the timetable has it.
 #[derive(Clone, Copy, Debug, PartialEq, Eq)]

@@ -81,7 +81,8 @@ impl<'a> Model for TrainEvents<'a> {
 
     ghost Value = { List Event };
 
-    ghost view = { λ s. drop (if s.departs then 1 else 0) (events_at s.train s.route (map call_of (walk s.calls.now s.left s.slot))) };
+    ghost view = { λ s. drop (if s.departs then 1 else 0)
+        (events_at s.train s.route (map call_of (walk s.calls.now s.left s.slot))) };
 }
 
 impl<'a> TrainEvents<'a> {

@@ -8,8 +8,8 @@ use crate::calls::{Edit, new_call};
 use crate::line::current_slot;
 use crate::stored_call::StoredCall;
 use event_numbers::Slots;
-use mt_base::numbers::{Label, TrainNo};
 use mt_base::new_calls::NewCall;
+use mt_base::numbers::{Label, TrainNo};
 
 /// A part of a train: from the call in the slot `from`, at the place `first`, to the call in the
 /// slot `to`, at the place `last`.
@@ -75,12 +75,15 @@ pub fn kill(calls: &mut Vec<StoredCall>, part: &Part)
 /// Replaces the calls strictly within a part by others, which get the next slots and are labelled
 /// from this label on.
 pub fn replace(calls: &mut Vec<StoredCall>, part: &Part, label: Label, via: &[NewCall])
+    // the part of the train, and room for the new calls and their numbers
     requires part { IsPart calls.old.items part.now.train part.now.from part.now.to part.now.first
         part.now.last }
     requires room { vec_len calls.old + length via.now ≤ vec_capacity calls.old }
     requires small { vec_len calls.old + length via.now < 2 ^ 31 }
     requires labels { label + length via.now < 2 ^ 31 }
     requires places { part.now.last + length via.now < 2 ^ 31 }
+
+    // what became of the calls
     ensures replaced { AreReplaced part.now.train part.now.from part.now.to part.now.first
         part.now.last label via.now calls.old.items calls.new.items }
     ensures capacity { vec_capacity calls.new ≡ vec_capacity calls.old }

@@ -43,7 +43,8 @@ impl Model for Changes {
 impl Changes {
     /// The change times of a feed. `default` is the seconds of a change within a station, and of
     /// one whose row gives no seconds. `TooMany` exactly where more than 4,000,000 pairs of a stop
-    /// or station and a stop have a change from the first to the second.
+    /// or station and a stop have a change from the first to the second. `OutOfMemory` where there
+    /// is no memory.
     pub fn build(alloc: Global, t: &FeedTables, default: u32) -> Result<Changes, BuildFault>
         requires default_least { 1 ≤ default }
         requires default_most { default ≤ 3600 }
@@ -63,7 +64,7 @@ impl Changes {
         })
     }
 
-    /// The same change times once more.
+    /// The same change times once more. `OutOfMemory` where there is no memory.
     pub fn copy(&self) -> Result<Changes, OutOfMemory>
         ensures { IfOk result (λ changes. changes ≡ self.now) }
     {

@@ -87,12 +87,16 @@ fn values_ask<'a>(given: &ArgMatches<'a>) -> Option<Asked<'a>>
     })
 }
 
-/// What the words after the program's name ask for, of which the first is the command.
-/// `Usage` comes exactly where they ask for nothing that the program does, but for want of memory.
+/// What the words after the program's name ask for, of which the first is the command. `Usage` only
+/// where they ask for nothing that the program does, and then always, unless there is no memory;
+/// `Memory` where there is no memory.
 #[tactic(auto, unfolding(crate::specs::Words::asked_of))]
 pub fn read_words<'a>(alloc: Global, words: &'a [String]) -> Result<Asked<'a>, WordsFault>
+    // what is asked for, and when an error comes
     ensures ok { IfOk result (λ a. asked_of (map string_bytes words.now) ≡ Some (asked_view a)) }
     ensures usage { IsErrOf result WordsFault.Usage → asked_of (map string_bytes words.now) ≡ None }
+
+    // the range of each value that was read
     ensures civil { IfOk result (λ a. IsCivil a.first) }
     ensures year { IfOk result (λ a. a.first < 21010000) }
     ensures days { IfOk result (λ a. (1 ≤ a.days) × (a.days ≤ 31)) }

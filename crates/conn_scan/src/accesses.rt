@@ -7,8 +7,8 @@ ghost use Rattle.conn_scan.specs.Lowered.{lowered};
 
 use crate::query_table::QueryTable;
 use change_times::Change;
-use mt_base::numbers::{StopNo, Time};
 use mt_base::journeys::PlanRide;
+use mt_base::numbers::{StopNo, Time};
 
 /// How a passenger gets to a stop.
 #[derive(Clone, Copy)]

@@ -7,9 +7,9 @@ use crate::accesses::Access;
 use crate::known::{Known, ask, is_at_once};
 use crate::query_table::QueryTable;
 use crate::search::{search, trace};
+use mt_base::journeys::{PlanRide, Query};
 use mt_base::memory::OutOfMemory;
 use mt_base::numbers::{Label, Time};
-use mt_base::journeys::{PlanRide, Query};
 use std::alloc::Global;
 use std::marker::Model;
 use std::sync::ledger::Ledger;
@@ -42,7 +42,7 @@ impl Model for Scratch {
 /// The answer to a query.
 #[derive(Clone, Copy, Debug, PartialEq, Eq)]
 pub enum Found {
-    /// There is one.
+    /// There is a journey.
     Arrives {
         /// The time of the earliest arrival.
         at: Time,
@@ -55,7 +55,7 @@ pub enum Found {
 impl Scratch {
     /// Room for queries over so many stops. No ride is shown. For so many trains, by number, it is
     /// noted from which call on their rides were taken, so that these are not taken again; a train
-    /// past that number is only slower.
+    /// past that number is only slower. `OutOfMemory` where there is no memory.
     pub fn build(alloc: Global, stops: u32, trains: u32) -> Result<Scratch, OutOfMemory>
         ensures { IfOk result (λ scratch. scratch ≡ record { stops = stops; rides = [] }) }
     {

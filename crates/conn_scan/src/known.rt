@@ -14,8 +14,8 @@ ghost use Rattle.conn_scan.specs.Stations.{HasStations};
 use crate::accesses::{Access, lower};
 use crate::query_table::QueryTable;
 use change_times::Change;
-use mt_base::numbers::{StopNo, Time};
 use mt_base::journeys::{PlanRide, Query};
+use mt_base::numbers::{StopNo, Time};
 use timetable::Timetable;
 
 /// A query, with the stations of its origin and its destination.

@@ -2,11 +2,11 @@
 #![tactic(auto)]
 
 pub mod accesses;
+pub mod earliest_arrival;
 mod known;
 pub mod laws;
 mod query_table;
 mod scan;
-pub mod earliest_arrival;
 mod search;
 mod walk;
 

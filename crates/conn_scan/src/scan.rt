@@ -39,11 +39,16 @@ fn board<L: Ledger>(
     known: &mut Known,
     steps: &mut Steps<L>,
 ) -> bool
+    // a valid timetable, and the stations of the query
     requires valid { IsValid t.now.network t.now.state }
     requires stations { HasStations t.now.network asked.now }
+
+    // a departure not before the query's time, and room for each stop
     requires there { IsDeparture t.now.network t.now.state d.now }
     requires begun { asked.now.query.time ≤ d.now.time }
     requires room { length t.now.network.stops ≤ length known.old.accesses }
+
+    // what is known afterwards, and when the rides from this call on change nothing
     ensures departed { known.new ≡ departed t.now.network t.now.state asked.now.query d.now
         known.old }
     ensures passed { IsTrue result → IsPassed t.now.network t.now.state asked.now.query known.new
@@ -88,13 +93,20 @@ fn depart<L: Ledger>(
     passed: &mut QueryTable<Label>,
     steps: &mut Steps<L>,
 )
+    // a valid timetable, and the stations of the query
     requires valid { IsValid t.now.network t.now.state }
     requires stations { HasStations t.now.network asked.now }
+
+    // a departure not before the query's time, and room for each stop
     requires there { IsDeparture t.now.network t.now.state d.now }
     requires begun { asked.now.query.time ≤ d.now.time }
     requires room { length t.now.network.stops ≤ length known.old.accesses }
+
+    // what was passed so far
     requires passed { ArePassed t.now.network t.now.state asked.now.query known.old
         passed.old }
+
+    // what is known and noted as passed afterwards
     ensures departed { known.new ≡ departed t.now.network t.now.state asked.now.query d.now
         known.old }
     ensures passed { ArePassed t.now.network t.now.state asked.now.query known.new

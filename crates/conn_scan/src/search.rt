@@ -12,8 +12,8 @@ use crate::accesses::{Access, lower};
 use crate::known::{Asked, Known, access, onward};
 use crate::query_table::QueryTable;
 use crate::scan::scan;
-use mt_base::numbers::Label;
 use mt_base::journeys::PlanRide;
+use mt_base::numbers::Label;
 use std::sync::ledger::Ledger;
 use timetable::Timetable;
 use train_nodes::Steps;
@@ -69,14 +69,21 @@ pub(crate) fn trace(
     last: &PlanRide,
     rides: &mut Vec<PlanRide>,
 )
+    // a valid timetable, and the stations of the query
     requires valid { IsValid t.now.network t.now.state }
     requires at_stops { AreAtStops t.now.network t.now.state }
     requires stations { HasStations t.now.network asked.now }
+
+    // how each stop was reached, and a last ride that is possible
     requires explained { AreExplained t.now.network t.now.state asked.now.query
         (access_of t.now.network asked.now.query accesses.now) }
     requires possible { IsPossible t.now.network t.now.state
         (access_of t.now.network asked.now.query accesses.now) last.now }
+
+    // room for the rides
     requires room { length t.now.network.stops ≤ vec_capacity rides.old }
+
+    // the rides that were found
     ensures rides { LeadsTo (access_of t.now.network asked.now.query accesses.now) last.now
         rides.new.items }
     ensures capacity { vec_capacity rides.new ≡ vec_capacity rides.old }

@@ -12,9 +12,9 @@ ghost use Rattle.conn_scan.specs.Scanned.{boarding_of, ride_to, rides_on, took_a
 ghost use Rattle.conn_scan.specs.Stations.{HasStations};
 
 use crate::known::{Asked, Known, take_ride};
+use mt_base::journeys::PlanRide;
 use mt_base::keys::Node;
 use mt_base::numbers::{Label, StopNo, Time, TrainNo};
-use mt_base::journeys::PlanRide;
 use std::sync::ledger::Ledger;
 use timetable::{Departure, Timetable};
 use train_nodes::Steps;
@@ -161,11 +161,16 @@ pub(crate) fn take_rides<L: Ledger>(
     known: &mut Known,
     steps: &mut Steps<L>,
 )
+    // a valid timetable, and the stations of the query
     requires valid { IsValid t.now.network t.now.state }
     requires stations { HasStations t.now.network asked.now }
+
+    // a departure where passengers may board, and room for each stop
     requires there { IsDeparture t.now.network t.now.state d.now }
     requires boards { IsTrue d.now.board }
     requires room { length t.now.network.stops ≤ length known.old.accesses }
+
+    // what is known afterwards
     ensures taken { known.new ≡ took_all t.now.network asked.now.query
         (rides_from t.now.network t.now.state (node_of d.now.key)) known.old }
     ensures passed { IsPassed t.now.network t.now.state asked.now.query known.new d.now.key.train

@@ -16,7 +16,9 @@ pub record Overrides : Type 0 where
 
 abbrev pub coded_overrides : Coded Overrides
 coded_overrides =
-    code_by (FinMap connection_cmp Override × ℕ) (coded× (code coded_connection coded_override) coded_ℕ) (λ o. (o.choices, o.spare)) (λ p. record { choices = p.0; spare = p.1 }) (λ _. refl)
+    code_by (FinMap connection_cmp Override × ℕ)
+    (coded× (code coded_connection coded_override) coded_ℕ) (λ o. (o.choices, o.spare))
+    (λ p. record { choices = p.0; spare = p.1 }) (λ _. refl)
 
 abbrev pub seen : Inside → Overrides
 seen a = record { choices = from_sorted a.by_arrival.items; spare = a.spare }

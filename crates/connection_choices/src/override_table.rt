@@ -39,7 +39,8 @@ impl Model for OverrideTable {
 }
 
 impl OverrideTable {
-    /// Nothing is chosen yet, and there is room for so many choices.
+    /// Nothing is chosen yet, and there is room for so many choices. `OutOfMemory` where there is
+    /// no memory.
     pub fn with_room(alloc: Global, spare: u32) -> Result<OverrideTable, OutOfMemory>
         ensures { IfOk result (λ table. table ≡ record { choices = map.empty; spare = spare }) }
     {
@@ -50,7 +51,7 @@ impl OverrideTable {
         })
     }
 
-    /// The same choices once more, with the same room.
+    /// The same choices once more, with the same room. `OutOfMemory` where there is no memory.
     pub fn copy(&self, alloc: Global) -> Result<OverrideTable, OutOfMemory>
         ensures { IfOk result (λ copy. copy ≡ self.now) }
     {

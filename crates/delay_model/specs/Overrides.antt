@@ -20,7 +20,8 @@ connection_cmp a b = ordering_then (node_cmp a.arrival b.arrival) (node_cmp a.de
 -- a connection as a pair of events
 abbrev pub coded_connection : Coded Connection
 coded_connection =
-    code_by (Node × Node) (coded× coded_node coded_node) (λ c. (c.arrival, c.departure)) (λ p. record { arrival = p.0; departure = p.1 }) (λ _. refl)
+    code_by (Node × Node) (coded× coded_node coded_node) (λ c. (c.arrival, c.departure))
+    (λ p. record { arrival = p.0; departure = p.1 }) (λ _. refl)
 
 abbrev pub is_keep : Override → Bool
 is_keep Keep = true

@@ -163,7 +163,7 @@ fn push_transfers(
 }
 
 #[tactic(auto, unfolding(crate::specs::Edges::edges))]
-/// The edges of a state, whose events these are.
+/// The edges of a state, whose events these are. `OutOfMemory` where there is no memory.
 pub fn list_edges(
     alloc: Global,
     nw: &Network,

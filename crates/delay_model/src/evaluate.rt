@@ -184,7 +184,8 @@ fn keep_live(alloc: Global, events: &[Event], times: &[Timed]) -> Result<Vec<Tim
     Ok(all)
 }
 
-/// The times of the live events of a state, by trains and along each train.
+/// The times of the live events of a state, by trains and along each train. `OutOfMemory` where
+/// there is no memory.
 pub fn event_times(alloc: Global, nw: &Network, st: &State) -> Result<Vec<Timed>, OutOfMemory>
     requires few { length st.now.trains < 2 ^ 32 }
     requires valid { IsValid nw.now st.now }

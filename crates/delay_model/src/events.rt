@@ -42,7 +42,7 @@ fn push_events(
     Ok(())
 }
 
-/// The events of one train, in its order.
+/// The events of one train, in its order. `OutOfMemory` where there is no memory.
 pub fn list_train_events(
     alloc: Global,
     number: TrainNo,
@@ -55,7 +55,7 @@ pub fn list_train_events(
     Ok(all)
 }
 
-/// The events of all trains, in their order.
+/// The events of all trains, in their order. `OutOfMemory` where there is no memory.
 pub fn list_events(alloc: Global, trains: &[Train]) -> Result<Vec<Event>, OutOfMemory>
     requires { length trains.now < 2 ^ 32 }
     ensures { IfOk result (λ all. all.items ≡ events_from 0 trains.now) }

@@ -8,8 +8,12 @@ use mt_base::tables::{RuleRow, StopRow, TransferRow};
 /// any of them.
 #[derive(Drop)]
 pub struct Network {
+    /// The stops and stations, by number.
     pub stops: Rows<StopRow>,
+    /// The rows of `transfers.txt`, in their order.
     pub transfers: Rows<TransferRow>,
+    /// The rows of `waiting_rules.txt`, in their order.
     pub rules: Rows<RuleRow>,
+    /// The options of the command.
     pub opts: Opts,
 }

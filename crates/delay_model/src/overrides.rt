@@ -14,14 +14,18 @@ use std::marker::Model;
 /// An arrival, and a departure of another train that it may feed.
 #[derive(Clone, Copy, Debug, PartialEq, Eq, PartialOrd, Ord)]
 pub struct Connection {
+    /// The arrival of the train that brings passengers.
     pub arrival: Node,
+    /// The departure of the train that may wait for them.
     pub departure: Node,
 }
 
 /// What a dispatcher chose for a connection.
 #[derive(Clone, Copy, Debug, PartialEq, Eq)]
 pub enum Override {
+    /// The departure waits for the arrival, without the limit of a waiting rule.
     Keep,
+    /// The departure does not wait for the arrival.
     Drop,
 }
 
@@ -53,7 +57,7 @@ impl Overrides {
         }
     }
 
-    /// The same overrides once more.
+    /// The same overrides once more. `OutOfMemory` where there is no memory.
     pub fn copy(&self) -> Result<Overrides, OutOfMemory>
         ensures { IfOk result (λ copy. copy ≡ self.now) }
     {
@@ -69,7 +73,8 @@ impl Overrides {
         self.rows.get(connection).copied()
     }
 
-    /// Keeps or drops a connection, in place of what was chosen before.
+    /// Keeps or drops a connection, in place of what was chosen before. `OutOfMemory` where there
+    /// is no memory; then nothing changes.
     pub fn set(&mut self, connection: Connection, choice: Override) -> Result<(), OutOfMemory>
         ensures ok { OnOk result (self.new ≡ map.insert self.old connection choice) }
         ensures err { OnErr result (self.new ≡ self.old) }

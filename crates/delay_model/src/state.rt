@@ -8,20 +8,27 @@ use mt_base::rows::Rows;
 /// What is known of one arrival or departure.
 #[derive(Clone, Copy, Debug)]
 pub struct EventValues {
+    /// When it is scheduled.
     pub scheduled: Time,
     /// Whether it takes place. A train does not arrive at its first call nor depart from its last,
     /// and what is cancelled does not take place.
     pub live: bool,
+    /// When it is expected, if a forecast says so.
     pub forecast: Option<Time>,
+    /// When it took place, if a report says so.
     pub report: Option<Time>,
 }
 
 /// A train's call at a stop.
 #[derive(Clone, Copy, Debug)]
 pub struct Call {
+    /// Its label, by which messages name it.
     pub label: Label,
+    /// Where the train calls.
     pub stop: StopNo,
+    /// What is known of its arrival.
     pub arrival: EventValues,
+    /// What is known of its departure.
     pub departure: EventValues,
     /// Whether passengers may board.
     pub board: bool,
@@ -32,17 +39,22 @@ pub struct Call {
 /// A train on its service day. Its number is its place among the trains.
 #[derive(Drop)]
 pub struct Train {
+    /// Its service day.
     pub day: Day,
+    /// Its route.
     pub route: RouteNo,
     /// The label of the next call that a rerouting makes.
     pub next_label: Label,
+    /// Its calls, in their order.
     pub calls: Rows<Call>,
 }
 
 /// The trains, the overrides, and how much room is left for messages to come.
 #[derive(Drop)]
 pub struct State {
+    /// The trains, by number.
     pub trains: Rows<Train>,
+    /// What dispatchers chose for connections.
     pub overrides: Overrides,
     /// How many more extra trains may be accepted.
     pub spare_trains: u32,
@@ -57,10 +69,15 @@ pub struct State {
 pub struct Event {
     /// The event's train, call and kind, and its scheduled time.
     pub key: Key,
+    /// The stop of its call.
     pub stop: StopNo,
+    /// The route of its train.
     pub route: RouteNo,
+    /// Whether it takes place.
     pub live: bool,
+    /// When it is expected, if a forecast says so.
     pub forecast: Option<Time>,
+    /// When it took place, if a report says so.
     pub report: Option<Time>,
 }
 
@@ -80,15 +97,21 @@ pub enum EdgeKind {
 /// later, as far as its kind says.
 #[derive(Clone, Copy, Debug)]
 pub struct Edge {
+    /// The event that the edge leaves.
     pub from: Key,
+    /// The event to which it leads.
     pub to: Key,
+    /// The least time from the one to the other, in seconds.
     pub weight: u32,
+    /// What it stands for.
     pub kind: EdgeKind,
 }
 
 /// An event's time.
 #[derive(Clone, Copy, Debug)]
 pub struct Timed {
+    /// Which event it is, with its scheduled time.
     pub key: Key,
+    /// When it takes place.
     pub time: Time,
 }

@@ -6,9 +6,9 @@ ghost use Rattle.serde_json.specs.View.{view};
 ghost use Rattle.delay_report.specs.Journeys.{call_of_ride_object, ride_object, ride_objects, journey_object, no_journey_object};
 
 use crate::objects::{clock_value, date_value, seconds_after, seconds_on_day};
+use mt_base::journeys::PlanRide;
 use mt_base::memory::OutOfMemory;
 use mt_base::numbers::{Day, Label, StopNo, Time, TrainNo};
-use mt_base::journeys::PlanRide;
 use schedule_build::Directory;
 use serde_json::{Value, json};
 use std::alloc::Global;

@@ -10,11 +10,11 @@ use crate::objects::{bad_value, flush_value, refusal_value, refused_extra_value}
 use delay_model::messages::Refusal;
 use itoa::Buffer;
 use message_reader::BadLine;
+use mt_base::journeys::PlanRide;
 use mt_base::keys::Node;
 use mt_base::memory::OutOfMemory;
 use mt_base::names::Name;
 use mt_base::numbers::{Day, Time};
-use mt_base::journeys::PlanRide;
 use mt_base::rows::Rows;
 use schedule_build::Directory;
 use serde_json::Value;
@@ -109,7 +109,8 @@ fn object_text(alloc: Global, value: &Value) -> Result<Vec<u8>, OutOfMemory>
     Ok(text)
 }
 
-/// The bytes of a reply: a JSON object without blanks, and an LF.
+/// The bytes of a reply: a JSON object without blanks, and an LF. `OutOfMemory` where there is no
+/// memory.
 #[tactic(auto, using(crate::proofs::ReplyTexts::rides_are_whole), unfolding(crate::specs::Replies::text_of_reply))]
 pub fn reply_text(alloc: Global, reply: &Reply, dir: &Directory) -> Result<Vec<u8>, OutOfMemory>
     ensures { IfOk result (λ b. b.items ≡ text_of_reply dir.now reply.now) }

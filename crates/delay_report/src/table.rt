@@ -178,7 +178,7 @@ fn push_train<L: Ledger>(
 }
 
 /// The rows of a train in the table of times: one for each live event, in the train's order. None
-/// where there is no such train.
+/// where there is no such train. `OutOfMemory` where there is no memory.
 pub fn times_rows(
     alloc: Global,
     t: &Timetable,

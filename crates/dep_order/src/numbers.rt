@@ -104,13 +104,18 @@ impl Numbers {
 
     /// The number of a key, which is given the next number if it has none. It takes no memory.
     pub(crate) fn number_of(&mut self, numbered: &NumberedDepartures, key: &Key) -> u32
+        // numbers with room for one more key
         requires numbers { AreNumbers (loaded_keys numbered.now self.old) self.old }
         requires room { length self.old.added.items < self.old.room }
+
+        // the key has the number, and every other key keeps its own
         ensures numbers { AreNumbers (loaded_keys numbered.now self.new) self.new }
         ensures has { HasNumber (loaded_keys numbered.now self.new) self.new key.now result }
         ensures others { (k : AKey) (n : ℕ)
             → HasNumber (loaded_keys numbered.now self.old) self.old k n
             → HasNumber (loaded_keys numbered.now self.new) self.new k n }
+
+        // at most one key was added, and the room stays
         ensures loaded { self.new.loaded ≡ self.old.loaded }
         ensures added { length self.new.added.items ≤ length self.old.added.items + 1 }
         ensures room { self.new.room ≡ self.old.room }

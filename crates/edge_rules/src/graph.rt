@@ -43,9 +43,9 @@ use delay_model::overrides::Override;
 use delay_model::state::{Edge, EdgeKind, Event};
 use mt_base::keys::Node;
 use mt_base::memory::OutOfMemory;
+use mt_base::new_calls::NewCall;
 use mt_base::numbers::{Day, Label, RouteNo, StopNo, Time, TrainNo};
 use mt_base::options::Opts;
-use mt_base::new_calls::NewCall;
 use station_index::StationIndex;
 use std::alloc::Global;
 use std::marker::Model;
@@ -81,7 +81,8 @@ impl Model for Graph {
 
 impl Graph {
     /// The graph over these trains, by these change times, waiting rules and options. The index of
-    /// live events takes its memory here.
+    /// live events takes its memory here. `OutOfMemory` where there is no memory, and where more
+    /// than 2^32 - 1 events are live or can be added.
     pub fn build(
         alloc: Global,
         trains: Trains,
@@ -107,7 +108,7 @@ impl Graph {
         })
     }
 
-    /// The same graph once more.
+    /// The same graph once more. `OutOfMemory` where there is no memory.
     pub fn copy(&self, alloc: Global) -> Result<Graph, OutOfMemory>
         ensures { IfOk result (λ copy. copy ≡ self.now) }
     {

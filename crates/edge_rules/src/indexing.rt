@@ -8,11 +8,11 @@ ghost use Rattle.edge_rules.specs.Indexing.{AreNew, AreThere, IsIndexOf, entries
 ghost use Rattle.edge_rules.specs.Indexing.{new_entries, with_entries, without_entries};
 
 use delay_model::state::Event;
+use mt_base::index_entries::Entry;
 use mt_base::keys::Node;
 use mt_base::memory::OutOfMemory;
-use mt_base::numbers::{Label, TrainNo};
-use mt_base::index_entries::Entry;
 use mt_base::new_calls::NewCall;
+use mt_base::numbers::{Label, TrainNo};
 use station_index::StationIndex;
 use std::alloc::{AllocError, Global};
 use train_nodes::Trains;

@@ -85,10 +85,13 @@ fn jump_from(added: &[AddedCall], place: u32) -> u32
 
 /// The entry of one more call, after all others, of the train whose row this is.
 fn next_entry(added: &[AddedCall], t: TrainNo, row: &TrainSlots, slot: u32) -> AddedCall
+    // the entries so far, and the last one of the train
     requires linked { AreLinked added.now }
     requires last { (n : ℕ) → row.now.added ≡ suc n → IsEntry added.now row.now.last t n }
     requires count { length (added_slots t added.now) ≡ row.now.added }
     requires small { length added.now < 2 ^ 31 }
+
+    // the fields of the new entry, and where it leads
     ensures train { result.train ≡ t }
     ensures nth { result.nth ≡ row.now.added }
     ensures slot { result.slot ≡ slot }
@@ -114,9 +117,12 @@ fn next_entry(added: &[AddedCall], t: TrainNo, row: &TrainSlots, slot: u32) -> A
 
 /// An earlier entry of the same train, and none before the one wanted.
 fn earlier(added: &[AddedCall], from: &AddedCall, nth: u32) -> AddedCall
+    // linked entries, and one of them after the one that is wanted
     requires linked { AreLinked added.now }
     requires link { IsLink added.now from.now }
     requires wanted { nth < from.now.nth }
+
+    // an earlier entry of the same train, not before the one that is wanted
     ensures link { IsLink added.now result }
     ensures train { result.train ≡ from.now.train }
     ensures not_before { nth ≤ result.nth }
@@ -146,8 +152,8 @@ fn find(added: &[AddedCall], from: AddedCall, nth: u32) -> u32
 }
 
 impl Slots {
-    /// No trains, with room for so many, and for so many calls of all trains together. Room for
-    /// 2^31 calls or more is answered as want of memory.
+    /// No trains, with room for so many, and for so many calls of all trains together.
+    /// `OutOfMemory` where there is no memory, and for 2^31 calls or more.
     pub fn with_room(alloc: Global, trains: u32, calls: u32) -> Result<Slots, OutOfMemory>
         ensures { IfOk result (λ slots.
             slots ≡ record { trains = []; used = 0; spare_trains = trains; spare_calls = calls }) }
@@ -164,7 +170,7 @@ impl Slots {
         })
     }
 
-    /// The same slots once more, with the same room.
+    /// The same slots once more, with the same room. `OutOfMemory` where there is no memory.
     pub fn copy(&self, alloc: Global) -> Result<Slots, OutOfMemory>
         ensures { IfOk result (λ copy. copy ≡ self.now) }
     {

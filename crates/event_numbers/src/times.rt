@@ -67,7 +67,7 @@ fn number_of(slots: &Slots, n: Node) -> usize
 
 impl NodeTimes {
     /// No times, with room for those of so many trains, and of so many calls of all trains
-    /// together. Room for 2^31 calls or more is answered as want of memory.
+    /// together. `OutOfMemory` where there is no memory, and for 2^31 calls or more.
     pub fn with_room(alloc: Global, trains: u32, calls: u32) -> Result<NodeTimes, OutOfMemory>
         ensures { IfOk result (λ times.
             times ≡ record { trains = []; spare_trains = trains; spare_calls = calls }) }
@@ -80,6 +80,7 @@ impl NodeTimes {
     }
 
     /// Times for the events of all calls that have slots, 2^25 - 1 for each, with the same room.
+    /// `OutOfMemory` where there is no memory.
     pub fn blank(alloc: Global, slots: &Slots) -> Result<NodeTimes, OutOfMemory>
         ensures { IfOk result (λ times. times ≡ blank_trains slots.now) }
     {
@@ -90,7 +91,7 @@ impl NodeTimes {
         })
     }
 
-    /// The same times once more, with the same room.
+    /// The same times once more, with the same room. `OutOfMemory` where there is no memory.
     pub fn copy(&self, alloc: Global) -> Result<NodeTimes, OutOfMemory>
         ensures { IfOk result (λ copy. copy ≡ self.now) }
     {

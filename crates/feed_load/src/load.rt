@@ -87,12 +87,17 @@ fn load_days(
     days: u32,
     opts: &Opts,
 ) -> Result<(Trains, Directory), FeedError>
+    // the days and the options
     requires civil { IsCivil first }
     requires year { first < 21010000 }
     requires days { (1 ≤ days) × (days ≤ 31) }
     requires options { IsInRange opts.now }
+
+    // the trains and names, and the error that does not come
     ensures found { Gives (λ r. r) result (days_loaded t.now first days opts.now) }
     ensures failed { IsErrOf result FeedError.ReadFault → ⊥ }
+
+    // what holds of the trains and names
     ensures valid { IfOk result (λ r. (nw : ANetwork) → nw.opts ≡ opts.now → IsValid nw r.0) }
     ensures in_step { IfOk result (λ r. AreInStep r.1 r.0) }
     ensures stops { IfOk result (λ r. AreAtStops t.now.stops r.0) }
@@ -114,21 +119,30 @@ fn load_tables(
     days: u32,
     opts: &Opts,
 ) -> Result<Loaded, FeedError>
+    // the days and the options
     requires civil { IsCivil first }
     requires year { first < 21010000 }
     requires days { (1 ≤ days) × (days ≤ 31) }
     requires options { IsInRange opts.now }
+
+    // what the tables make
     ensures found { Gives (λ r. (r.trains, r.directory)) result
         (tables_loaded t.now first days opts.now) }
+
+    // the change times and waiting rules
     ensures network { IfOk result (λ r. HaveSameChanges (tables_of t.now opts.now.change) r.changes
         × (r.waits ≡ wait_table t.now.stops t.now.rules)) }
     ensures default { IfOk result (λ r. r.changes.default ≡ opts.now.change) }
     ensures parents { IfOk result (λ r. r.waits.parents ≡ map parent_station r.changes.stops) }
+
+    // what holds of the trains and names
     ensures valid { IfOk result (λ r. IsValid (network_of r.changes r.waits opts.now) r.trains) }
     ensures in_step { IfOk result (λ r. AreInStep r.directory r.trains) }
     ensures stops { IfOk result (λ r. AreAtStops r.changes.stops r.trains) }
     ensures nodes { IfOk result (λ r. length (events r.trains) + 2 * r.trains.spare_calls
         ≤ 2097152) }
+
+    // the error that does not come
     ensures failed { IsErrOf result FeedError.ReadFault → ⊥ }
 {
     let changes = load_changes(alloc, t, opts.change)?;
@@ -146,7 +160,8 @@ fn load_tables(
 /// of a year up to 2100. There is room for what the options spare. `Refused` has the first cause to
 /// refuse the feed: a fault of its tables; more than 4,000,000 pairs of a stop or station and a
 /// stop with a change from the first to the second; more than 200,000 trains; or more than
-/// 2,000,000 nodes, two for each call. `ReadFault` comes only where the feed failed.
+/// 2,000,000 nodes, two for each call. `ReadFault` comes only where the feed failed. `OutOfMemory`
+/// where there is no memory, or where the rows of a table cannot be numbered with 32 bits.
 pub fn load_feed<F: Feed>(
     alloc: Global,
     feed: &mut F,
@@ -155,13 +170,18 @@ pub fn load_feed<F: Feed>(
     days: u32,
     opts: &Opts,
 ) -> Result<Loaded, FeedError>
+    // the days and the options
     requires civil { IsCivil first }
     requires year { first < 21010000 }
     requires days { (1 ≤ days) × (days ≤ 31) }
     requires options { IsInRange opts.now }
+
+    // what the feed makes
     ensures exact { (files : List ℕ → List ℕ → Option (List ℕ)) → F.tables feed.old ≡ Some files
         → Gives (λ r. (r.trains, r.directory)) result
         (loaded (contents_of files folder.now) first days opts.now) }
+
+    // the change times and waiting rules
     ensures network { IfOk result (λ r. (files : List ℕ → List ℕ → Option (List ℕ)) (t : ATables)
         → F.tables feed.old ≡ Some files
         → tables_in (contents_of files folder.now) ≡ Ok t
@@ -169,11 +189,15 @@ pub fn load_feed<F: Feed>(
         × (r.waits ≡ wait_table t.stops t.rules)) }
     ensures default { IfOk result (λ r. r.changes.default ≡ opts.now.change) }
     ensures parents { IfOk result (λ r. r.waits.parents ≡ map parent_station r.changes.stops) }
+
+    // what holds of the trains and names
     ensures valid { IfOk result (λ r. IsValid (network_of r.changes r.waits opts.now) r.trains) }
     ensures in_step { IfOk result (λ r. AreInStep r.directory r.trains) }
     ensures stops { IfOk result (λ r. AreAtStops r.changes.stops r.trains) }
     ensures nodes { IfOk result (λ r. length (events r.trains) + 2 * r.trains.spare_calls
         ≤ 2097152) }
+
+    // the faults of the feed that are counted
     ensures failed { IsErrOf result FeedError.ReadFault
         → Rose (F.faults feed.old) (F.faults feed.new) }
     ensures later { F.faults feed.old ≤ F.faults feed.new }

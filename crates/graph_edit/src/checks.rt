@@ -7,7 +7,7 @@ ghost use Rattle.graph_edit.specs.Values.{Gives};
 use delay_model::messages::Refusal;
 use delay_model::state::{Edge, Event};
 
-/// Whether an event is not reported, where it is live.
+/// Whether an event is not reported, where it is live; if it is, `Contradiction`.
 pub fn check_unreported(event: &Event) -> Result<(), Refusal>
     ensures { Gives result (any_reported (event.now ∷ [])) }
 {
@@ -21,7 +21,7 @@ pub fn check_unreported(event: &Event) -> Result<(), Refusal>
 }
 
 /// Whether the edge leads to an event that is later by key, and the schedule leaves time enough for
-/// it.
+/// it; if not, `AgainstRank`.
 pub fn check_rank(edge: &Edge) -> Result<(), Refusal>
     ensures { Gives result (first_against_rank (edge.now ∷ [])) }
 {

@@ -115,7 +115,8 @@ is_absent (holds records) = false
 unfoldable pub dates_in : Contents → List (List ℕ) → Result Dates FeedRefusal
 dates_in contents services =
     read_content table.CalendarDates
-    (if is_absent (contents table.Calendar) then Err (Missing table.Calendar) else Ok (record { services = services; rows = [] }))
+    (if is_absent (contents table.Calendar) then Err (Missing table.Calendar)
+    else Ok (record { services = services; rows = [] }))
     (calendar_dates_of services) (contents table.CalendarDates)
 
 -- the changes: at most 1,000,000 rows, those that are not listed among them

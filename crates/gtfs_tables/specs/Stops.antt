@@ -23,7 +23,8 @@ other_stop_columns = LocationType ∷ ParentStation ∷ []
 
 -- a row by itself from its texts, or the fault in it: only the `location_type` can be wrong
 abbrev pub stop_of : ℕ → List ℕ → List ℕ → List ℕ → Result StopLine Fault
-stop_of row id kind parent = need (fault row BadNumber) (location_kind kind) >>= λ k. Ok (record { id = id; kind = k; parent = parent })
+stop_of row id kind parent = need (fault row BadNumber) (location_kind kind) >>= λ k.
+    Ok (record { id = id; kind = k; parent = parent })
 
 -- the ids of rows
 abbrev pub line_ids : List StopLine → List (List ℕ)

@@ -75,4 +75,5 @@ transfer_step stops row field s =
 
 -- the table, by the ids of stops.txt and all its records
 abbrev pub transfers_of : List (List ℕ) → List (List (List ℕ)) → Result Transfers Fault
-transfers_of stops all = table_from needed_transfer_columns (transfer_step stops) (record { rows = []; count = 0 }) all
+transfers_of stops all = table_from needed_transfer_columns (transfer_step stops)
+    (record { rows = []; count = 0 }) all

@@ -75,4 +75,5 @@ rule_step stops row field s = do
 -- that earlier tables gave
 abbrev pub waiting_rules_of : List StopRow → List (List ℕ) → List (List (List ℕ))
     → Result Rules Fault
-waiting_rules_of stops names all = table_from rule_columns (rule_step stops) (record { routes = names; rows = [] }) all
+waiting_rules_of stops names all = table_from rule_columns (rule_step stops)
+    (record { routes = names; rows = [] }) all

@@ -20,7 +20,8 @@ pub(crate) struct Guess {
 }
 
 impl Guess {
-    /// The first trip and the first stop, where there are so many stops.
+    /// The first trip and the first stop, where there are so many stops. `OutOfMemory` where there
+    /// is no memory.
     pub fn build(alloc: Global, stops: usize) -> Result<Guess, TableError>
         ensures memory { IfErr result (λ e. e ≡ OutOfMemory) }
     {

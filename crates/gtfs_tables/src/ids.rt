@@ -25,7 +25,8 @@ impl Ids {
     }
 
     /// Adds the id of the row with this number, which is the number of rows before it. False where
-    /// an earlier row has it.
+    /// an earlier row has it. `OutOfMemory` where there is no memory, or the number does not fit in
+    /// 32 bits.
     pub fn add(&mut self, alloc: Global, id: &str, number: usize) -> Result<bool, TableError>
         ensures { (names : List (List ℕ)) → AreIds self.old names → number ≡ length names
             → AddsId result id.now names self.new }

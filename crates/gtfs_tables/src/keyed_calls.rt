@@ -78,8 +78,8 @@ impl KeyedCalls {
         }
     }
 
-    /// Puts in the times of a call. False where an earlier call has its key. OutOfMemory where
-    /// there is no room for them.
+    /// Puts in the times of a call. False where an earlier call has its key. `OutOfMemory`
+    /// where there is no memory for them.
     pub fn insert(&mut self, key: (u32, u32), times: CallTimes) -> Result<bool, TableError>
         ensures fresh { IfOk result (λ b. b ≡ is_none (lookup (is_at (key_cmp key)) self.old)) }
         ensures entries { OnOk result (self.new ≡ insert_entry key_cmp self.old key times) }
@@ -93,7 +93,8 @@ impl KeyedCalls {
         Ok(self.sorted.insert(key, times)?.is_none())
     }
 
-    /// The keys and times in the order of the keys. OutOfMemory where there is no room for them.
+    /// The keys and times in the order of the keys. `OutOfMemory` where there is no memory
+    /// for them.
     pub fn into_entries(self) -> Result<Vec<((u32, u32), CallTimes)>, TableError>
         ensures entries { IfOk result (λ calls. calls.items ≡ self) }
         ensures memory { IfErr result (λ e. e ≡ OutOfMemory) }

@@ -45,7 +45,8 @@ impl Numbering {
         }
     }
 
-    /// The number of a name. A new name gets the next number.
+    /// The number of a name. A new name gets the next number. `OutOfMemory` where there is no
+    /// memory, or the number does not fit in 32 bits.
     pub fn number(&mut self, alloc: Global, name: &str) -> Result<u32, TableError>
         requires { IsNumbered self.old }
         ensures number { IfOk result (λ n. n ≡ number_in name.now (names_of self.old)) }

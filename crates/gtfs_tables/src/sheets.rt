@@ -168,7 +168,9 @@ pub(crate) fn make_reader(alloc: Global, text: &[u8]) -> Reader<&[u8]>
 }
 
 impl<'a> Sheet<'a> {
-    /// A table with its header read, by the columns that it needs and those that it may have.
+    /// A table with its header read, by the columns that it needs and those that it may have. `Bad`
+    /// for row 1 where the header is not there or lacks a column that is needed, `NoColumn`, or is
+    /// not UTF-8, `NotUtf8`. `OutOfMemory` where there is no memory.
     pub fn open(
         alloc: Global,
         text: &'a [u8],
@@ -203,7 +205,8 @@ impl<'a> Sheet<'a> {
     }
 
     /// Whether there is a next row, which then is the current one. It gets the number that is given
-    /// for it.
+    /// for it. `Bad` for that row where it has another number of fields than the header,
+    /// `FieldCount`, or is not UTF-8, `NotUtf8`. `OutOfMemory` where there is no memory.
     pub fn advance(&mut self, row: u64) -> Result<bool, TableError>
         requires { Rests self.old.reader }
         ensures rests { OnOk result (Rests self.new.reader) }

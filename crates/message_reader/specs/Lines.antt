@@ -1,7 +1,9 @@
--- What a line says, or its first fault. A line is one object of JSON, as
+-- What a line says, or its first fault. A line is one object of JSON, as these three, of which the
+-- last is broken here:
 -- {"v":1,"type":"forecast","trip":"T1","date":"20260105","call":1,"event":"arr","time":"08:36:00"}
 -- {"v":1,"type":"query","client":"c1","from":"A","to":"D","date":"20260105","time":"08:00:00"}
--- {"v":1,"type":"keep","feeder":{"trip":"T1","date":"20260105","call":1},"train":{"trip":"T2","date":"20260105","call":0}}
+-- {"v":1,"type":"keep","feeder":{"trip":"T1","date":"20260105","call":1},
+--   "train":{"trip":"T2","date":"20260105","call":0}}
 -- Members that are not named here are passed over, and of two members of one name the last counts.
 -- The faults, in order: `Utf8`, the bytes are no text; `Json`, the text is no JSON, or nests deeper
 -- than `serde_json` reads; `Shape`, the value is no object with `v` and `type`, or a member that

@@ -1,6 +1,7 @@
 -- The message by number that a message by name stands for, or the refusal that the names decide.
--- The refusals, in order: `Unknown`, a train, a stop, a route or a service day of the message has no
--- number (the new train of an extra needs none); `Known`, the new train of an extra is there already.
+-- The refusals, in order: `Unknown`, a train, a stop, a route or a service day of the message has
+-- no number (the new train of an extra needs none); `Known`, the new train of an extra is there
+-- already.
 use Rattle.std.specs.Prelude.{ℕ, ◌+◌, List, [], ◌∷◌, Bool, true, false, if◌then◌else◌, length, Some, None, is_none, option_and_then, Result, Ok}
 use Rattle.std.specs.declared.option.Option.{Option}
 use Rattle.std.specs.Option.{option_map_or}

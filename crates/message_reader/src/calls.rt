@@ -50,7 +50,7 @@ fn call_at(alloc: Global, value: &Value) -> Result<WireCall, LineError>
     })
 }
 
-/// Whether each value names a call.
+/// Whether each value names a call: `Shape` where one does not have its members.
 pub fn check_calls(values: &[Value]) -> Result<(), BadLine>
     ensures { result ≡ calls_shape (items_view values.now) }
 {
@@ -60,7 +60,8 @@ pub fn check_calls(values: &[Value]) -> Result<(), BadLine>
     Ok(())
 }
 
-/// The calls that the values name.
+/// The calls that the values name, or the first fault in them. `OutOfMemory` where there is no
+/// memory.
 pub fn read_calls(alloc: Global, values: &[Value]) -> Result<Rows<WireCall>, LineError>
     ensures exact { Gives bad_in result (calls_of (items_view values.now)) }
     ensures kept { IfOk result (λ calls. All IsWireCall calls) }

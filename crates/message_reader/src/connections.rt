@@ -55,7 +55,8 @@ fn reference(alloc: Global, texts: &RefTexts) -> Result<WireRef, LineError>
     })
 }
 
-/// A connection that is kept or dropped, or to which the rules apply again.
+/// A connection that is kept or dropped, or to which the rules apply again. `Bad` has the first
+/// fault: `Shape` or else `Time`. `OutOfMemory` where there is no memory.
 #[tactic(auto, unfolding(crate::specs::Messages::connect_of))]
 pub fn connect(alloc: Global, kind: Connect, value: &Value) -> Result<Wire, LineError>
     ensures exact { Gives bad_in result (connect_of kind (view value.now)) }

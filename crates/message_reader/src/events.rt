@@ -14,7 +14,8 @@ use serde_json::Value;
 use std::alloc::Global;
 use train_nodes::kinds::ValueKind;
 
-/// A report or a forecast.
+/// A report or a forecast. `Bad` has the first fault: `Shape` or else `Time`. `OutOfMemory` where
+/// there is no memory.
 #[tactic(auto, unfolding(crate::specs::Messages::event_of))]
 pub fn event(alloc: Global, kind: ValueKind, value: &Value) -> Result<Wire, LineError>
     ensures exact { Gives bad_in result (event_of kind (view value.now)) }
@@ -38,7 +39,8 @@ pub fn event(alloc: Global, kind: ValueKind, value: &Value) -> Result<Wire, Line
     })
 }
 
-/// A cancelled stretch.
+/// A cancelled stretch. `Bad` has the first fault: `Shape` or else `Time`. `OutOfMemory` where
+/// there is no memory.
 #[tactic(auto, unfolding(crate::specs::Messages::cancel_of))]
 pub fn cancel(alloc: Global, value: &Value) -> Result<Wire, LineError>
     ensures exact { Gives bad_in result (cancel_of (view value.now)) }

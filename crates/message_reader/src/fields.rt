@@ -9,21 +9,21 @@ use mt_base::calendar::civil;
 use mt_base::numbers::Label;
 use serde_json::Value;
 
-/// The text of a member.
+/// The text of a member. None where it is absent or no text.
 pub fn text_at<'v>(value: &'v Value, key: &str) -> Option<&'v str>
     ensures { option_map (λ s. s.now) result ≡ text_at key.now (view value.now) }
 {
     value.get(key).and_then(Value::as_str)
 }
 
-/// The whole number of a member.
+/// The whole number of a member, below 2^64. None where it is absent or no such number.
 pub fn number_at(value: &Value, key: &str) -> Option<u64>
     ensures { result ≡ number_at key.now (view value.now) }
 {
     value.get(key).and_then(Value::as_u64)
 }
 
-/// The label of a member.
+/// The label of a member. None where it is absent or no whole number below 2^32.
 pub fn label_at(value: &Value, key: &str) -> Option<Label>
     ensures { result ≡ label_at key.now (view value.now) }
 {
@@ -32,7 +32,7 @@ pub fn label_at(value: &Value, key: &str) -> Option<Label>
     Some(Label::new(label))
 }
 
-/// The list of a member.
+/// The list of a member. None where it is absent or no list.
 pub fn items_at<'v>(value: &'v Value, key: &str) -> Option<&'v [Value]>
     ensures { option_map (λ s. items_view s.now) result ≡ items_at key.now (view value.now) }
 {
@@ -40,7 +40,7 @@ pub fn items_at<'v>(value: &'v Value, key: &str) -> Option<&'v [Value]>
     Some(list.as_slice())
 }
 
-/// Whether an event is a departure.
+/// Whether an event is a departure, `dep`, and not an arrival, `arr`. None for any other text.
 pub fn departure(text: &str) -> Option<bool>
     ensures { result ≡ departure_of text.now }
 {

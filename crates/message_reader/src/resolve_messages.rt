@@ -195,7 +195,8 @@ fn message(alloc: Global, wire: &Wire, dir: &Directory) -> Result<Message, Resol
 /// The message with the numbers for which its names stand. It is refused as `Unknown` exactly where
 /// a train of it, other than the new train of an extra, or a stop, a route or a service day of it
 /// is not there; and as `Known` exactly where an extra's train is there already and the message is
-/// not `Unknown`. Times are in seconds from the base of day 0. Memory may be wanted for new calls.
+/// not `Unknown`. Times are in seconds from the base of day 0. `OutOfMemory` where there is no
+/// memory for new calls.
 pub fn resolve(alloc: Global, wire: &Wire, dir: &Directory) -> Result<Msg, ResolveError>
     requires kept { IsWire wire.now }
     ensures { Gives refusal_in result (resolved dir.now wire.now) }

@@ -7,8 +7,8 @@ ghost use Rattle.message_reader.specs.Wires.{IsWireQuery};
 use crate::bad_line::BadLine;
 use crate::numbers::time_on;
 use crate::wire::WireQuery;
-use mt_base::numbers::{Day, StopNo};
 use mt_base::journeys::Query;
+use mt_base::numbers::{Day, StopNo};
 use schedule_build::Directory;
 
 /// A query by number.

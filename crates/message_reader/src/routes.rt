@@ -14,7 +14,8 @@ use mt_base::names::Name;
 use serde_json::Value;
 use std::alloc::Global;
 
-/// A train that takes another way between two of its calls.
+/// A train that takes another way between two of its calls. `Bad` has the first fault: `Shape` or
+/// else `Time`. `OutOfMemory` where there is no memory.
 #[tactic(auto, unfolding(crate::specs::Messages::reroute_of))]
 pub fn reroute(alloc: Global, value: &Value) -> Result<Wire, LineError>
     ensures exact { Gives bad_in result (reroute_of (view value.now)) }
@@ -45,7 +46,8 @@ fn count(values: &[Value]) -> usize
     values.len()
 }
 
-/// A train that is not in the schedule.
+/// A train that is not in the schedule. `Bad` has the first fault: `Shape` or else `Time`.
+/// `OutOfMemory` where there is no memory.
 #[tactic(auto, unfolding(crate::specs::Messages::extra_of))]
 pub fn extra(alloc: Global, value: &Value) -> Result<Wire, LineError>
     ensures exact { Gives bad_in result (extra_of (view value.now)) }

@@ -63,7 +63,7 @@ fn list_stops(alloc: Global) -> Result<Vec<StopRow>, OutOfMemory>
     Ok(rows)
 }
 
-/// The stops and the one waiting rule.
+/// The stops and the one waiting rule. `OutOfMemory` where there is no memory.
 pub fn build_network(alloc: Global) -> Result<Network, OutOfMemory>
     ensures { IfOk result (λ built. built ≡ network opts) }
 {
@@ -151,7 +151,7 @@ fn second_train(alloc: Global) -> Result<Train, OutOfMemory>
     })
 }
 
-/// The two trains before any message.
+/// The two trains before any message. `OutOfMemory` where there is no memory.
 pub fn build_schedule(alloc: Global) -> Result<State, OutOfMemory>
     ensures { IfOk result (λ built. built ≡ start opts) }
 {
@@ -173,7 +173,7 @@ pub fn build_schedule(alloc: Global) -> Result<State, OutOfMemory>
     })
 }
 
-/// The edges before any message, by the plain program.
+/// The edges before any message, by the plain program. `OutOfMemory` where there is no memory.
 pub fn schedule_edges(alloc: Global) -> Result<Vec<Edge>, OutOfMemory>
     ensures { IfOk result (λ all. all.items ≡ edges (network opts) (start opts)) }
 {
@@ -183,7 +183,8 @@ pub fn schedule_edges(alloc: Global) -> Result<Vec<Edge>, OutOfMemory>
     list_edges(alloc, &network, &schedule, &events)
 }
 
-/// The event times before any message, by the plain program.
+/// The event times before any message, by the plain program. `OutOfMemory` where there is no
+/// memory.
 pub fn schedule_times(alloc: Global) -> Result<Vec<Timed>, OutOfMemory>
     ensures { IfOk result (λ all. all.items ≡ live_times (network opts) (start opts)) }
 {

@@ -131,8 +131,7 @@ pub fn change_rows_and_holds()
     ensures platforms { times (network_by opts (row station_b station_b 3 None
         ∷ row platform_b1 platform_b2 2 (Some 120) ∷ []) (waits_for 300 ∷ []))
         (after_messages (start opts) (at_b1 (clock 8 36 0) ∷ [])) ≡ clock 8 0 0 ∷ clock 8 36 0
-        ∷ clock 8 37 0
-        ∷ clock 9 5 0 ∷ clock 8 38 0 ∷ clock 9 12 0 ∷ [] }
+        ∷ clock 8 37 0 ∷ clock 9 5 0 ∷ clock 8 38 0 ∷ clock 9 12 0 ∷ [] }
     ensures forbidden_changed { changed_counts
         (network_by opts (row platform_b1 platform_b2 3 None ∷ []) (waits_for 300 ∷ []))
         (start opts) (at_b1 (clock 8 36 0) ∷ []) ≡ 3 ∷ [] }

@@ -56,8 +56,8 @@ pub fn boarding_and_alighting()
 /// A ride does not cross a cancelled stretch: who boards at A, where the train calls at D and then
 /// does not run to B, alights at D.
 pub fn no_ride_across_a_gap()
-    ensures { (r : Ride) → IsRide (network opts)
-        (after_messages (start opts) (and_d ∷ Cancel 0 3 1 ∷ [])) r
+    ensures { (r : Ride)
+        → IsRide (network opts) (after_messages (start opts) (and_d ∷ Cancel 0 3 1 ∷ [])) r
         → r.train ≡ 0 → r.board ≡ 0 → r.alight_stop ≡ stop_d }
 {}
 

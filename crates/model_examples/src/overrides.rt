@@ -59,8 +59,7 @@ pub fn kept_without_a_rule()
         ≡ 3 ∷ 2 ∷ [] }
     ensures kept { times (network_by opts [] [])
         (after_messages (start opts) (at_b1 (clock 8 50 0) ∷ keep_at_b ∷ [])) ≡ clock 8 0 0
-        ∷ clock 8 50 0
-        ∷ clock 8 51 0 ∷ clock 9 19 0 ∷ clock 8 53 0 ∷ clock 9 27 0 ∷ [] }
+        ∷ clock 8 50 0 ∷ clock 8 51 0 ∷ clock 9 19 0 ∷ clock 8 53 0 ∷ clock 9 27 0 ∷ [] }
 {}
 
 /// A connection is not kept where the schedule leaves too little time for the change.
@@ -97,9 +96,8 @@ pub fn no_spare_override()
         (keep_at_b ∷ drop_at_b ∷ rule_at_b ∷ rule_at_b ∷ []) }
     ensures another { answer (record opts { overrides = 1 }) (extra 2 ∷ keep_at_b ∷ [])
         (KeepIt (arrival 1 1) (departure 2 0)) ≡ Some (Full OverridesShort) }
-    ensures left {
-        (after_messages (start (record opts { overrides = 1 })) (keep_at_b ∷ [])).spare_overrides
-        ≡ 0 }
+    ensures left { (after_messages (start (record opts { overrides = 1 }))
+        (keep_at_b ∷ [])).spare_overrides ≡ 0 }
     ensures same { (after_messages (start (record opts { overrides = 1 }))
         (keep_at_b ∷ drop_at_b ∷ [])).spare_overrides ≡ 0 }
     ensures back { (after_messages (start (record opts { overrides = 1 }))
@@ -112,13 +110,12 @@ pub fn override_of_what_is_gone()
     ensures left { (after_messages (start opts) (keep_at_b ∷ [])).spare_overrides ≡ 9999 }
     ensures cancelled { (after_messages (start opts) (keep_at_b ∷ Cancel 0 0 1 ∷ [])).overrides
         ≡ (start opts).overrides }
-    ensures cancelled_back {
-        (after_messages (start opts) (keep_at_b ∷ Cancel 0 0 1 ∷ [])).spare_overrides
-        ≡ 10000 }
+    ensures cancelled_back { (after_messages (start opts)
+        (keep_at_b ∷ Cancel 0 0 1 ∷ [])).spare_overrides ≡ 10000 }
     ensures rerouted { (after_messages (start opts) (keep_at_b ∷ over_d ∷ [])).overrides
         ≡ (start opts).overrides }
-    ensures rerouted_back {
-        (after_messages (start opts) (keep_at_b ∷ over_d ∷ [])).spare_overrides ≡ 10000 }
+    ensures rerouted_back { (after_messages (start opts)
+        (keep_at_b ∷ over_d ∷ [])).spare_overrides ≡ 10000 }
     ensures elsewhere { (after_messages (start opts) (keep_at_b ∷ Cancel 0 1 2 ∷ [])).overrides
         ≡ (after_messages (start opts) (keep_at_b ∷ [])).overrides }
 {}

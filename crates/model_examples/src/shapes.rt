@@ -55,11 +55,10 @@ pub fn labels_are_never_used_again()
     ensures accepted { Accepts opts (over_d ∷ over_d ∷ Reroute 0 0 2 [] ∷ over_d ∷ []) }
     ensures changed { counts_of opts (over_d ∷ over_d ∷ Reroute 0 0 2 [] ∷ over_d ∷ [])
         ≡ 4 ∷ 4 ∷ 2 ∷ 2 ∷ [] }
-    ensures second { labels
-        (after_messages (start opts) (over_d ∷ over_d ∷ [])) 0 ≡ 0 ∷ 4 ∷ 2 ∷ [] }
-    ensures third { labels
-        (after_messages (start opts) (over_d ∷ over_d ∷ Reroute 0 0 2 [] ∷ over_d ∷ [])) 0
-        ≡ 0 ∷ 5 ∷ 2 ∷ [] }
+    ensures second { labels (after_messages (start opts) (over_d ∷ over_d ∷ [])) 0
+        ≡ 0 ∷ 4 ∷ 2 ∷ [] }
+    ensures third { labels (after_messages (start opts)
+        (over_d ∷ over_d ∷ Reroute 0 0 2 [] ∷ over_d ∷ [])) 0 ≡ 0 ∷ 5 ∷ 2 ∷ [] }
 {}
 
 /// A reroute between neighbours with no new call is accepted and changes nothing.

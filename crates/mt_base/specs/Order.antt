@@ -46,7 +46,9 @@ node_cmp a b = ordering_then (nat_cmp a.train b.train)
 -- events as keys
 abbrev pub coded_node : Coded Node
 coded_node =
-    code_by (ℕ × (ℕ × Bool)) (coded× coded_ℕ (coded× coded_ℕ coded_bool)) (λ s. (s.train, (s.label, s.dep))) (λ p. record { train = p.0; label = p.1.0; dep = p.1.1 }) (λ _. refl)
+    code_by (ℕ × (ℕ × Bool)) (coded× coded_ℕ (coded× coded_ℕ coded_bool))
+    (λ s. (s.train, (s.label, s.dep))) (λ p. record { train = p.0; label = p.1.0; dep = p.1.1 })
+    (λ _. refl)
 
 -- entries of the index of events: by stop, the arrivals before the departures, by scheduled time,
 -- then by event

@@ -7,7 +7,7 @@ use std::alloc::Global;
 /// There was no memory for what was to be made.
 pub type OutOfMemory = std::alloc::AllocError;
 
-/// A copy of these items, with room for so many more.
+/// A copy of these items, with room for so many more. `OutOfMemory` where there is no memory.
 pub fn copy_with_room<T: Copy>(
     alloc: Global,
     items: &[T],

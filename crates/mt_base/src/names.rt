@@ -19,7 +19,7 @@ impl Model for Name {
 }
 
 impl Name {
-    /// The name with this text.
+    /// The name with this text. `OutOfMemory` where there is no memory.
     pub fn build(alloc: Global, t: &str) -> Result<Name, OutOfMemory>
         ensures { IfOk result (λ n. n ≡ t.now) }
     {
@@ -43,7 +43,7 @@ impl Name {
         self.text() == other.text()
     }
 
-    /// A second name with the same text.
+    /// A second name with the same text. `OutOfMemory` where there is no memory.
     pub fn copy(&self, alloc: Global) -> Result<Name, OutOfMemory>
         ensures { IfOk result (λ n. n ≡ self.now) }
     {

@@ -72,8 +72,8 @@ impl Model for LineReader {
       line = slice_range r.buf.items r.from r.to;
     } };
 
-    ghost invariant = { λ r. Buffer r.buf.items r.start r.searched r.end × (r.from ≤ r.to) × (r.to ≤ 131072)
-        × (vec_len r.buf ≡ 131072) × (r.taken ≤ r.budget) };
+    ghost invariant = { λ r. Buffer r.buf.items r.start r.searched r.end × (r.from ≤ r.to)
+        × (r.to ≤ 131072) × (vec_len r.buf ≡ 131072) × (r.taken ≤ r.budget) };
 }
 
 impl LineReader {
@@ -82,7 +82,8 @@ impl LineReader {
     ghost use Rattle.mt_io.specs.Answers.{answers, next_lines, IsLine, Leaves, LeavesNext};
     ghost use Rattle.mt_io.specs.contracts.lines.LineReader.{the_row};
 
-    /// A reader that takes at most `budget` bytes in all. Its buffer is taken here.
+    /// A reader that takes at most `budget` bytes in all. Its buffer is taken here. `OutOfMemory`
+    /// where there is no memory.
     pub fn build(alloc: Global, budget: u64) -> Result<LineReader, OutOfMemory>
         ensures { IfOk result (λ r. r ≡ record {
           held = [];
@@ -138,12 +139,17 @@ impl LineReader {
 
     // Finds the next line, and reads only where none is held.
     fn advance<S: Source>(&mut self, source: &mut S) -> Found
+        // what is read, and what is left to do
         ensures gives { GivesNext self.old self.new (S.left source.old) (S.left source.new)
             (answers result self.new.line) }
         ensures leaves { Leaves result self.old self.new }
+
+        // the faults of the source
         ensures read_fault { result ≡ Found.ReadFault
             → Rose (S.faults source.old) (S.faults source.new) }
         ensures later { S.faults source.old ≤ S.faults source.new }
+
+        // when the source is not read
         ensures holds { ¬ (HoldsNoLine self.old) → source.new ≡ source.old }
         ensures ended { self.old.ended ≡ true → source.new ≡ source.old }
         ensures spent { self.old.taken ≡ self.old.budget → source.new ≡ source.old }
@@ -156,13 +162,20 @@ impl LineReader {
 
     // Reads until a line is found.
     fn read_on<S: Source>(&mut self, source: &mut S) -> Found
+        // the reader needs more bytes
         requires { Waits self.old }
+
+        // what is read, and what is left to do
         ensures gives { GivesNext self.old self.new (S.left source.old) (S.left source.new)
             (answers result self.new.line) }
         ensures leaves { Leaves result self.old self.new }
+
+        // the faults of the source
         ensures read_fault { result ≡ Found.ReadFault
             → Rose (S.faults source.old) (S.faults source.new) }
         ensures later { S.faults source.old ≤ S.faults source.new }
+
+        // when the source is not read
         ensures ended { self.old.ended ≡ true → source.new ≡ source.old }
         ensures spent { self.old.taken ≡ self.old.budget → source.new ≡ source.old }
     {

@@ -69,12 +69,17 @@ impl Source for MemSource {
     ghost faults = { λ s. s.faults };
 
     fn read(&mut self, buf: &mut [u8]) -> Result<usize, Failed>
+        // what every source promises
         ensures bound { ReadsAtMost result buf.new }
         ensures bytes { ReadConsumes (Some self.old.left) (Some self.new.left) result buf.new }
         ensures cause { HasCause self.old.faults self.new.faults result }
+
+        // when it fails, and how many bytes it gives
         ensures fails { IsErr result ↔ Contains self.old.failing self.old.calls }
         ensures gives { IfOk result (λ n. n ≡ min (min (length self.old.left) self.old.piece)
             (length buf.old)) }
+
+        // the source afterwards
         ensures ok { IfOk result (λ n. self.new ≡ after_read self.old n) }
         ensures err { OnErr result (self.new ≡ after_read_fault self.old) }
     {
@@ -116,6 +121,7 @@ impl Model for MemSink {
 
 impl MemSink {
     /// A sink that takes at most `room` bytes. The writes whose numbers are listed fail.
+    /// `OutOfMemory` where there is no memory.
     pub fn build(alloc: Global, room: usize, failing: Vec<u64>) -> Result<MemSink, OutOfMemory>
         ensures { IfOk result (λ s. s ≡ record {
           held = [];
@@ -148,14 +154,19 @@ impl Sink for MemSink {
     ghost faults = { λ s. s.faults };
 
     fn write(&mut self, bytes: &[u8]) -> Result<usize, Failed>
+        // what every sink promises
         ensures bound { WritesAtMost result bytes.now }
         ensures bytes { WriteAppends (Some self.old.held) (Some self.new.held) result bytes.now }
         ensures progress { IfOk result (λ n. 0 < length bytes.now → 0 < n) }
         ensures cause { HasCause self.old.faults self.new.faults result }
+
+        // when it fails, and how many bytes it takes
         ensures fails { IsErr result ↔ (Contains self.old.failing self.old.calls
             ⊎ ((0 < length bytes.now) × (self.old.room ≤ length self.old.held))) }
         ensures takes { IfOk result (λ n. n ≡ min (length bytes.now)
             (self.old.room - length self.old.held)) }
+
+        // the sink afterwards
         ensures ok { IfOk result (λ n. self.new ≡ after_write self.old (take n bytes.now)) }
         ensures err { OnErr result (self.new ≡ after_write_fault self.old) }
     {
@@ -210,7 +221,8 @@ impl MemFeed {
         }
     }
 
-    /// Makes `bytes` the table of this folder and name.
+    /// Makes `bytes` the table of this folder and name. `OutOfMemory` where there is no memory;
+    /// then nothing changes.
     pub fn add(&mut self, folder: &str, name: &str, bytes: Vec<u8>) -> Result<(), OutOfMemory>
         ensures ok { OnOk result (self.new ≡
             record self.old { tables = (folder.now, name.now, bytes.items) ∷ self.old.tables }) }
@@ -226,6 +238,7 @@ impl Feed for MemFeed {
     ghost faults = { λ s. s.faults };
 
     fn table(&mut self, folder: &str, name: &str) -> Result<Option<Vec<u8>>, FeedFault>
+        // what every feed promises
         ensures bytes { IfOk result (λ table.
             table_in self.old.tables folder.now name.now ≡ option_map (λ v. v.items) table) }
         ensures small { IfOk result (λ table. IfSome table (λ v. length v.items ≤ 268435456)) }
@@ -234,6 +247,8 @@ impl Feed for MemFeed {
         ensures failed { IsErrOf result FeedFault.Failed → Rose self.old.faults self.new.faults }
         ensures later { self.old.faults ≤ self.new.faults }
         ensures same { Some (table_in self.new.tables) ≡ Some (table_in self.old.tables) }
+
+        // when it fails, and the feed afterwards
         ensures listed { Contains self.old.failing self.old.calls
             → IsErrOf result FeedFault.Failed × (self.new ≡ after_table_fault self.old) }
         ensures answered { ¬ (Contains self.old.failing self.old.calls)

@@ -3,10 +3,15 @@ ghost use Rattle.std.specs.Prelude.{◌≡◌, ◌↔◌, ◌<◌, ◌≤◌, �
 
 // Moves the bytes from a place on to the front of `buf`, at most `piece` of them.
 pub(crate) fn give(bytes: &[u8], at: usize, piece: usize, buf: &mut [u8]) -> usize
+    // a place in the bytes, and at least one byte at a time
     requires within { at ≤ length bytes.now }
     requires piece { 1 ≤ piece }
+
+    // how many bytes are moved
     ensures count { result ≡ min (min (length bytes.now - at) piece) (length buf.old) }
     ensures within { at + result ≤ length bytes.now }
+
+    // which bytes they are, and when none is left
     ensures len { length buf.new ≡ length buf.old }
     ensures moved { drop at bytes.now ≡ take result buf.new ++ drop (at + result) bytes.now }
     ensures end { result ≡ 0 → 0 < length buf.old → drop (at + result) bytes.now ≡ [] }

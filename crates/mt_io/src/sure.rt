@@ -119,7 +119,8 @@ impl SureFeed {
         }
     }
 
-    /// Makes `bytes` the table of this folder and name.
+    /// Makes `bytes` the table of this folder and name. `OutOfMemory` where there is no memory;
+    /// then nothing changes.
     pub fn add(&mut self, folder: &str, name: &str, bytes: Vec<u8>) -> Result<(), OutOfMemory>
         ensures ok { OnOk result (self.new ≡ (folder.now, name.now, bytes.items) ∷ self.old) }
         ensures err { OnErr result (self.new ≡ self.old) }

@@ -73,7 +73,8 @@ pub trait Feed {
         ensures same { tables self.new ≡ tables self.old };
 }
 
-/// Appends all of `bytes`. After a fault a front of them was appended, and not all.
+/// Appends all of `bytes`. `Failed` where the sink failed: then a front of them was appended, and
+/// not all.
 pub fn put<K: Sink>(sink: &mut K, bytes: &[u8]) -> Result<(), Failed>
     ensures ok { OnOk result (Appends (K.written sink.old) (K.written sink.new) bytes.now) }
     ensures failed { OnErr result (AppendsPart (K.written sink.old)

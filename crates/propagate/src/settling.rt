@@ -30,18 +30,27 @@ fn settle_one<L: Ledger>(
     times: &mut NodeTimes,
     steps: &mut Steps<L>,
 ) -> (Time, Time)
+    // a live event that has a time
     requires live { IsTrue (is_live graph.now.state n.now) }
     requires has { IsTrue (has_time times.old n.now) }
+
+    // the times of the events that feed it
     requires held { All (λ e. IsTrue (has_time times.old (node_of e.from)))
         (edges_to graph.now n.now) }
     requires fits { All (λ e. stored_time times.old e.from + e.weight < 2 ^ 25)
         (edges_to graph.now n.now) }
+
+    // the time by the rule, and the one before
     ensures rule { local_at graph.now times.old n.now ≡ Some result.1 }
     ensures before { time_of times.old n.now ≡ Some result.0 }
     ensures after { time_of times.new n.now ≡ Some result.1 }
+
+    // what stays as it was
     ensures others { (m : ANode) → is_same_node n.now m ≡ false → time_of times.new m
         ≡ time_of times.old m }
     ensures has_times { (st : AState) → HasTimesFor st times.old → HasTimesFor st times.new }
+
+    // the steps that are counted
     ensures cost { steps.new ≡ steps.old + (1 + length (edges_to graph.now n.now)) }
 {
     let is = graph.local(*n, times, steps);
@@ -54,9 +63,10 @@ fn settle_one<L: Ledger>(
 }
 
 /// Computes again the times of the marked events, in the order of their keys, and of those that are
-/// fed by an event whose time differs then; nothing is marked afterwards. Before, each event that is
-/// not marked has the time that the rule gives it from the stored ones. The events that get another
-/// time are added to a list, in the order of their keys, with both times. It takes no memory.
+/// fed by an event whose time differs then; nothing is marked afterwards. Before, each event that
+/// is not marked has the time that the rule gives it from the stored ones. The events that get
+/// another time are added to a list, in the order of their keys, with both times. It takes no
+/// memory.
 pub fn settle<L: Ledger>(
     graph: &Graph,
     times: &mut NodeTimes,
@@ -64,23 +74,34 @@ pub fn settle<L: Ledger>(
     changed: &mut Vec<TimeChange>,
     steps: &mut Steps<L>,
 )
+    // a valid timetable, with a stored time for each live event
     requires valid { IsValid graph.now.network graph.now.state }
     requires held { All (λ k. IsTrue (has_time times.old (node_of k)))
         (live_keys (events graph.now.state)) }
+
+    // only live events are marked, and each other one has the time of its rule
     requires marked { All (Contains (live_keys (events graph.now.state))) marks.old.keys }
     requires settled { All (λ k. is_marked marks.old k ≡ false → FollowsRule graph.now times.old k)
         (live_keys (events graph.now.state)) }
+
+    // room for a change of each live event
     requires room { vec_len changed.old + length (live_keys (events graph.now.state))
         ≤ vec_capacity changed.old }
     requires marks_room { length (live_keys (events graph.now.state)) ≤ marks.old.room }
+
+    // the times and the marks afterwards
     ensures times { All (HasItsTime graph.now.network graph.now.state times.new)
         (live_keys (events graph.now.state)) }
     ensures marks { marks.new ≡ record marks.old { keys = [] } }
+
+    // the events that got another time
     ensures changed { changed.new.items ≡ changed.old.items
         ++ map (time_change_at graph.now.network graph.now.state times.old)
         (filter (has_another graph.now.network graph.now.state times.old)
         (key_order (events graph.now.state))) }
     ensures capacity { vec_capacity changed.new ≡ vec_capacity changed.old }
+
+    // the labels that have times, and the steps that are counted
     ensures has_times { (st : AState) → HasTimesFor st times.old → HasTimesFor st times.new }
     ensures cost { steps.new ≤ steps.old
         + sum_by (reads_at graph.now) (filter (is_due graph.now marks.old times.old)

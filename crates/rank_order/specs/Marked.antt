@@ -14,7 +14,8 @@ pub record Marked : Type 0 where
 
 abbrev pub marked_code : Coded Marked
 marked_code =
-    code_by (List Key × ℕ) (coded× (coded_list key_row.coded) coded_ℕ) (λ m. (m.keys, m.room)) (λ p. record { keys = p.0; room = p.1 }) (λ _. refl)
+    code_by (List Key × ℕ) (coded× (coded_list key_row.coded) coded_ℕ) (λ m. (m.keys, m.room))
+    (λ p. record { keys = p.0; room = p.1 }) (λ _. refl)
 
 -- one of these keys is this one
 abbrev pub has_key : List Key → Key → Bool

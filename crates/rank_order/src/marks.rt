@@ -36,7 +36,7 @@ impl Model for Marks {
 }
 
 impl Marks {
-    /// No marks, with room for so many at once.
+    /// No marks, with room for so many at once. `OutOfMemory` where there is no memory.
     pub fn build(alloc: Global, room: u32) -> Result<Marks, OutOfMemory>
         ensures { IfOk result (λ marks. marks ≡ record { keys = []; room = room }) }
     {
@@ -46,7 +46,7 @@ impl Marks {
         })
     }
 
-    /// The same marks once more, with the same room.
+    /// The same marks once more, with the same room. `OutOfMemory` where there is no memory.
     pub fn copy(&self, alloc: Global) -> Result<Marks, OutOfMemory>
         ensures { IfOk result (λ copy. copy ≡ self.now) }
     {

@@ -47,8 +47,11 @@ impl Directory {
         trains: TrainNames,
         extras: ExtraTrains,
     ) -> Directory
+        // at most 31 days and 200,000 trains
         requires days { length dates.items ≤ 31 }
         requires few { length trains ≤ 200000 }
+
+        // each part of the directory
         ensures dates { result.dates ≡ dates.items }
         ensures places { result.places ≡ places }
         ensures routes { result.routes ≡ routes }
@@ -64,7 +67,8 @@ impl Directory {
         }
     }
 
-    /// The name of an extra train on a loaded service day, ready to be added.
+    /// The name of an extra train on a loaded service day, ready to be added. `OutOfMemory` where
+    /// there is no memory.
     pub fn extra_name(&self, alloc: Global, trip: &str, day: Day) -> Result<ExtraName, OutOfMemory>
         requires loaded { day < 31 }
         ensures { IfOk result (λ name. name ≡ record { trip = trip.now; day = day }) }

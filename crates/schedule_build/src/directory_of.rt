@@ -80,13 +80,18 @@ pub(crate) fn directory_of(
     days: u32,
     opts: &Opts,
 ) -> Result<Directory, OutOfMemory>
+    // the days and the options
     requires civil { IsCivil first }
     requires year { first < 21010000 }
     requires few_days { days ≤ 31 }
     requires options { IsInRange opts.now }
+
+    // the runs of these days
     requires runs { runs.now ≡ all_runs t.now first days }
     requires few_runs { length runs.now ≤ 200000 }
     requires loaded { All (λ (r : Run). r.day < 31) runs.now }
+
+    // the names, where there is memory
     ensures { IfOk result (λ directory. directory ≡ names_of t.now first days opts.now) }
 {
     let places = Places::build(alloc, t.stops.as_slice())?;

@@ -60,10 +60,15 @@ fn add_day(
     all: &[CallRow],
     day: u32,
 ) -> Result<(), ExpandFault>
+    // the trips and their calls, in order
     requires services { All (HasService (length active.now)) trips.now }
     requires grouped { IsNonDecreasingBy trip_of all.now }
+
+    // how many trips and runs there may be
     requires few_trips { length trips.now < 2 ^ 32 }
     requires few_runs { length runs.old.items ≤ 200000 }
+
+    // the runs of the day, and when there are too many
     ensures runs { IfOk result (λ _. runs.new.items ≡ runs.old.items
         ++ day_runs (is_set active.now) all.now day 0 trips.now) }
     ensures few { IfOk result (λ _. length runs.new.items ≤ 200000) }
@@ -94,12 +99,17 @@ fn add_date(
     first: u32,
     day: u32,
 ) -> Result<(), ExpandFault>
+    // lawful tables, and a civil date
     requires lawful { IsLawful t.now }
     requires civil { IsCivil first }
     requires year { first < 21010000 }
     requires day { day ≤ 31 }
+
+    // the calls trip by trip, and the runs so far
     requires grouped { IsGrouped t.now.calls all.now }
     requires few_runs { length runs.old.items ≤ 200000 }
+
+    // the runs of the day, and when there are too many
     ensures runs { IfOk result (λ _. runs.new.items ≡ runs.old.items ++ runs_on t.now first day) }
     ensures few { IfOk result (λ _. length runs.new.items ≤ 200000) }
     ensures fault { IfErr result
@@ -117,11 +127,16 @@ pub(crate) fn all_runs(
     first: u32,
     days: u32,
 ) -> Result<Vec<Run>, ExpandFault>
+    // lawful tables, and the days
     requires lawful { IsLawful t.now }
     requires civil { IsCivil first }
     requires year { first < 21010000 }
     requires few { days ≤ 31 }
+
+    // the calls trip by trip
     requires grouped { IsGrouped t.now.calls all.now }
+
+    // the runs of the days, and when there are too many
     ensures runs { IfOk result (λ runs. runs.items ≡ all_runs t.now first days) }
     ensures few { IfOk result (λ runs. length runs.items ≤ 200000) }
     ensures fault { IfErr result (IsTrainsFault (length (all_runs t.now first days))) }

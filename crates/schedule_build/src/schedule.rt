@@ -66,12 +66,17 @@ fn push_run(
     all: &[CallRow],
     run: &Run,
 ) -> Result<(), OutOfMemory>
+    // the calls trip by trip, with times of at most 99:59:59
     requires grouped { IsNonDecreasingBy trip_of all.now }
     requires few { length all.now < 2 ^ 32 }
     requires timely { All IsTimely all.now }
+
+    // a run that fits, and room for its train and calls
     requires fit { IsFit all.now run.now }
     requires train_spare { 0 < trains.old.spare_trains }
     requires calls_spare { length (run_calls all.now run.now) ≤ trains.old.spare_calls }
+
+    // the trains with one more, where there is memory
     ensures { IfOk result (λ _. trains.new ≡ pushed all.now (run.now ∷ []) trains.old) }
 {
     let calls = trip_calls(alloc, run.day, rows_of(all, run.trip))?;
@@ -86,12 +91,17 @@ fn push_runs(
     all: &[CallRow],
     runs: &[Run],
 ) -> Result<(), OutOfMemory>
+    // the calls trip by trip, with times of at most 99:59:59
     requires grouped { IsNonDecreasingBy trip_of all.now }
     requires few { length all.now < 2 ^ 32 }
     requires timely { All IsTimely all.now }
+
+    // runs that fit, and room for their trains and calls
     requires fit { All (IsFit all.now) runs.now }
     requires trains_spare { length runs.now ≤ trains.old.spare_trains }
     requires calls_spare { count_calls all.now runs.now ≤ trains.old.spare_calls }
+
+    // the trains with those of the runs, where there is memory
     ensures { IfOk result (λ _. trains.new ≡ pushed all.now runs.now trains.old) }
 {
     for run in runs {
@@ -108,14 +118,21 @@ fn load(
     calls: u32,
     opts: &Opts,
 ) -> Result<Trains, OutOfMemory>
+    // the calls trip by trip, with times of at most 99:59:59
     requires grouped { IsNonDecreasingBy trip_of all.now }
     requires few { length all.now < 2 ^ 32 }
     requires timely { All IsTimely all.now }
+
+    // runs that fit, and the options
     requires fit { All (IsFit all.now) runs.now }
     requires options { IsInRange opts.now }
+
+    // how many runs and calls there are
     requires few_runs { length runs.now ≤ 200000 }
     requires few_calls { calls ≤ 1000000 }
     requires count { calls ≡ count_calls all.now runs.now }
+
+    // the trains, where there is memory
     ensures { IfOk result (λ trains. trains ≡ schedule_of all.now runs.now opts.now) }
 {
     let train_room = runs.len() as u32 + opts.spare_trains;
@@ -132,8 +149,8 @@ fn load(
 /// The trains of so many service days from the date `first` on, a number YYYYMMDD of a year up to
 /// 2100, and the names of the feed's timetable of these days. There is a train for each day and, in
 /// the order of `trips.txt`, each trip whose service is active on that day and which has calls.
-/// There is room for what the options spare. Too many are more than 200,000 trains, or else more
-/// than 2,000,000 events, two for each call.
+/// There is room for what the options spare. `TooMany` where there are more than 200,000 trains, or
+/// else more than 2,000,000 events, two for each call. `OutOfMemory` where there is no memory.
 pub fn expand(
     alloc: Global,
     t: &FeedTables,
@@ -141,13 +158,18 @@ pub fn expand(
     days: u32,
     opts: &Opts,
 ) -> Result<(Trains, Directory), ExpandFault>
+    // the days and the options
     requires civil { IsCivil first }
     requires year { first < 21010000 }
     requires few_days { days ≤ 31 }
     requires options { IsInRange opts.now }
+
+    // the trains and the names of these days
     ensures schedule { IfOk result (λ r. r.0 ≡ schedule t.now first days opts.now) }
     ensures names { IfOk result (λ r. r.1 ≡ names_of t.now first days opts.now) }
     ensures in_step { IfOk result (λ r. AreInStep r.1 r.0) }
+
+    // when there are too many
     ensures fits { IfOk result (λ _. too_many t.now.calls (all_runs t.now first days) ≡ None) }
     ensures fault { IfErr result (IsFault (too_many t.now.calls (all_runs t.now first days))) }
 {

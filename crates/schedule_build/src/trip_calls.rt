@@ -94,6 +94,7 @@ fn sorted(alloc: Global, rows: &[CallRow]) -> Result<Vec<CallRow>, OutOfMemory>
 
 /// The calls of a trip on a service day, from the trip's rows of `stop_times.txt` in any order:
 /// those with a time, by `stop_sequence`. Their times are in seconds from the base of day 0.
+/// `OutOfMemory` where there is no memory.
 pub fn trip_calls(alloc: Global, day: u32, rows: &[CallRow]) -> Result<Vec<TableCall>, OutOfMemory>
     requires day { day < 31 }
     requires few { length rows.now < 2 ^ 32 }

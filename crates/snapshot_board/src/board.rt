@@ -61,10 +61,15 @@ pub(crate) fn open_board_in<S: Replay, H: Opening<S::State>, A: Allocator + Clon
     second: S,
     readers: u32,
 ) -> Result<(Publisher<S, H, A>, Vec<Viewer<S, H, A>, A>), OutOfMemory>
+    // the history of the board, and two values with its first meaning
     requires book { history ≡ H.book }
     requires opening { H.opening ≡ Some (S.meaning first) }
     requires alike { S.meaning first ≡ S.meaning second }
+
+    // one to sixteen viewers
     requires readers { (0 < readers) × (readers ≤ 16) }
+
+    // nothing was posted, and no viewer has seen anything
     ensures publisher { IfOk result (λ b. b.0 ≡ []) }
     ensures count { IfOk result (λ b. vec_len b.1 ≡ readers) }
     ensures viewers { IfOk result (λ b. All (λ v. v ≡ newcomer) b.1.items) }
@@ -95,7 +100,7 @@ pub(crate) fn open_board_in<S: Replay, H: Opening<S::State>, A: Allocator + Clon
 }
 
 /// Opens a board of two values with one meaning, for so many viewers. All room that posts need is
-/// taken here.
+/// taken here. `OutOfMemory` where there is no memory.
 pub fn open_board<S: Replay, H: Opening<S::State>, R: Wait>(
     rt: &R,
     alloc: Global,
@@ -104,10 +109,15 @@ pub fn open_board<S: Replay, H: Opening<S::State>, R: Wait>(
     second: S,
     readers: u32,
 ) -> Result<(Publisher<S, H>, Vec<Viewer<S, H>>), OutOfMemory>
+    // the history of the board, and two values with its first meaning
     requires book { history ≡ H.book }
     requires opening { H.opening ≡ Some (S.meaning first) }
     requires alike { S.meaning first ≡ S.meaning second }
+
+    // one to sixteen viewers
     requires readers { (0 < readers) × (readers ≤ 16) }
+
+    // nothing was posted, and no viewer has seen anything
     ensures publisher { IfOk result (λ b. b.0 ≡ []) }
     ensures count { IfOk result (λ b. vec_len b.1 ≡ readers) }
     ensures viewers { IfOk result (λ b. All (λ v. v ≡ newcomer) b.1.items) }

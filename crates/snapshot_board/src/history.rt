@@ -162,7 +162,7 @@ impl<M, H: History> Prefix<M, H> {
         self.count
     }
 
-    /// The same once more.
+    /// A second value of this beginning.
     pub fn copy(&self) -> Prefix<M, H>
         ensures { result ≡ self.now }
     {

@@ -40,7 +40,8 @@ impl<M> Model for Machine<M> {
 }
 
 impl<M> Machine<M> {
-    /// Nothing is posted or noted, and so many viewers are newcomers.
+    /// Nothing is posted or noted, and so many viewers are newcomers. `OutOfMemory` where there is
+    /// no memory.
     pub fn build(alloc: Global, viewers: u32) -> Result<Machine<M>, OutOfMemory>
         ensures { IfOk result (λ m. m ≡ at_opening viewers) }
     {
@@ -76,8 +77,9 @@ impl<M> Machine<M> {
         counts.seen <= count && counts.least <= count && count <= self.posted.len() as u64
     }
 
-    /// Takes an event. It is accepted exactly where it is a step and there is memory for what is
-    /// posted or noted.
+    /// Takes an event. `NotAStep` exactly where it is no step of the machine; `OutOfMemory` only
+    /// where it is one, and there is no memory for what is posted or noted. After an error the
+    /// machine is as before.
     pub fn apply(&mut self, e: Event<M>) -> Result<(), ApplyFault<M>>
         ensures { MatchResult result
             (λ _. (is_step self.old e ≡ true) × (self.new ≡ after_event self.old e))

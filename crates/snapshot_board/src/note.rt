@@ -26,7 +26,7 @@ impl<M, H: History> Note<M, H> {
         Note { prefix }
     }
 
-    /// The same once more, for another viewer.
+    /// A second note of the same messages, for another viewer.
     pub fn copy(&self) -> Note<M, H>
         ensures { result ≡ self.now }
     {

@@ -73,8 +73,8 @@ impl<S: Replay, H: Opening<S::State>, A: Allocator> PublisherOver<BoardWriter<S,
     }
 
     /// Posts a message: the value after it is published. It waits for viewers that look at the
-    /// older copy. After an error the message is handed back and the board is unchanged; later
-    /// posts may then find no memory either.
+    /// older copy. `OutOfMemory` where there is no memory: the message is then handed back and the
+    /// board is unchanged; later posts may then find no memory either.
     pub fn post<R: Wait>(&mut self, rt: &R, m: S::Msg) -> Result<(), (S::Msg, OutOfMemory)>
         requires { length self.old + 1 < 2 ^ 64 }
         ensures { MatchResult result (λ _. self.new ≡ self.old ++ m ∷ [])

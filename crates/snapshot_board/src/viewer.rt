@@ -20,7 +20,8 @@ use std::sync::Wait;
 /// A reader of the published copies.
 pub type BoardReader<S, H, A = Global> = Reader<Published<S, H>, (), Unruled, A>;
 
-/// One that looks. It is seen as the list that it saw and the list that it learnt.
+/// A viewer of a board. It is seen as the list of messages whose value it saw last, and the list
+/// that it learnt.
 #[derive(Drop)]
 pub struct Viewer<S: Replay, H: Opening<S::State>, A: Allocator = Global> {
     reader: BoardReader<S, H, A>,

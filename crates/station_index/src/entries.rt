@@ -7,8 +7,8 @@ ghost use Rattle.mt_base.specs.Order.{is_before_entry};
 ghost use Rattle.station_index.specs.Indexed.{AreInOrder, is_in_range, with_entry, without_entry};
 ghost use Rattle.station_index.specs.Places.{IsRangeAt, is_before_range, is_past_range};
 
-use mt_base::numbers::StopNo;
 use mt_base::index_entries::Entry;
+use mt_base::numbers::StopNo;
 
 /// How many of these entries stand before an entry.
 fn place(entries: &[Entry], entry: &Entry) -> usize

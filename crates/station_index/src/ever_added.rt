@@ -8,9 +8,9 @@ ghost use Rattle.station_index.specs.Slots as slots;
 use crate::entries::part;
 use crate::loaded::last_slot;
 use crate::loaded_event::slot_number;
+use mt_base::index_entries::Entry;
 use mt_base::memory::OutOfMemory;
 use mt_base::numbers::StopNo;
-use mt_base::index_entries::Entry;
 use std::alloc::Global;
 
 /// A flag for each stop and kind of event up to the last that has one of these entries, which are

@@ -12,10 +12,10 @@ use crate::live::{all_live, clear};
 use crate::loaded::LoadedEntries;
 use crate::range::Range;
 use crate::sorting::sort_entries;
+use mt_base::index_entries::Entry;
 use mt_base::keys::Node;
 use mt_base::memory::{OutOfMemory, copy_with_room};
 use mt_base::numbers::{StopNo, Time};
-use mt_base::index_entries::Entry;
 use std::alloc::Global;
 use std::marker::Model;
 
@@ -50,7 +50,8 @@ impl Model for StationIndex {
 }
 
 impl StationIndex {
-    /// The index of these entries, in any order, with room for so many more.
+    /// The index of these entries, in any order, with room for so many more. `OutOfMemory` where
+    /// there is no memory.
     pub fn build(alloc: Global, entries: Vec<Entry>, room: u32) -> Result<StationIndex, OutOfMemory>
         requires distinct { AllPairs (λ a b. a ≢ b) entries.items }
         requires few { length entries.items < 2 ^ 32 }
@@ -70,7 +71,7 @@ impl StationIndex {
         })
     }
 
-    /// The same entries once more, with the same room.
+    /// The same entries once more, with the same room. `OutOfMemory` where there is no memory.
     pub fn copy(&self, alloc: Global) -> Result<StationIndex, OutOfMemory>
         ensures { IfOk result (λ copy. copy ≡ self.now) }
     {

@@ -5,8 +5,8 @@ ghost use Rattle.station_index.specs.Indexed.{without_entry};
 ghost use Rattle.station_index.specs.Merged.{kept};
 
 use crate::loaded::LoadedEntries;
-use mt_base::memory::OutOfMemory;
 use mt_base::index_entries::Entry;
+use mt_base::memory::OutOfMemory;
 use std::alloc::Global;
 
 /// So many flags, each of them set.

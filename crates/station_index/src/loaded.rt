@@ -11,9 +11,9 @@ ghost use Rattle.station_index.specs.Places.{IsRangeAt};
 ghost use Rattle.station_index.specs.Slots as slots;
 
 use crate::loaded_event::{LoadedEvent, entry_of, event_in, slot_number};
+use mt_base::index_entries::Entry;
 use mt_base::memory::OutOfMemory;
 use mt_base::numbers::StopNo;
-use mt_base::index_entries::Entry;
 use std::alloc::Global;
 use std::marker::Model;
 

@@ -3,9 +3,9 @@
 ghost use Rattle.std.specs.Prelude.{◌≡◌};
 ghost use Rattle.station_index.specs.Slots as slots;
 
+use mt_base::index_entries::Entry;
 use mt_base::keys::Node;
 use mt_base::numbers::{Label, StopNo, Time, TrainNo};
-use mt_base::index_entries::Entry;
 
 /// An event that was given when the index was built, in twelve bytes.
 #[derive(Clone, Copy, Debug, PartialEq, Eq)]

@@ -5,9 +5,9 @@ ghost use Rattle.std.specs.Iterator.{YieldsFirst, item_count};
 ghost use Rattle.station_index.specs.Merged.{comes_first};
 
 use crate::loaded_event::{LoadedEvent, entry_of};
+use mt_base::index_entries::Entry;
 use mt_base::keys::Node;
 use mt_base::numbers::StopNo;
-use mt_base::index_entries::Entry;
 use std::marker::Model;
 
 /// The arrivals or the departures at a stop that are scheduled in a range of times, in the order

@@ -8,9 +8,9 @@ ghost use Rattle.station_index.specs.Indexed.{AreInOrder};
 ghost use Rattle.station_index.specs.Numbers.{entry_of_number};
 
 use crate::loaded_event::{LoadedEvent, entry_of};
+use mt_base::index_entries::Entry;
 use mt_base::memory::OutOfMemory;
 use mt_base::numbers::{Label, StopNo, Time, TrainNo};
-use mt_base::index_entries::Entry;
 use std::alloc::Global;
 
 /// How many stops there are numbers for.

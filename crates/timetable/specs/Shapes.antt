@@ -46,9 +46,9 @@ AreCallsKept old new = (train label : ℕ) → has_call old train label ≡ true
 
 -- an accepted message was applied: the state is valid, there are times for its labels, the time
 -- before the message is stored for each event that was live, and a time that no event has for each
--- that is live only now. An event of the old state and a live one of the new that have one name have
--- one key. Calls are kept. No more events can be live than before, and for each that is live only
--- now a spare call is used, one for two
+-- that is live only now. An event of the old state and a live one of the new that have one name
+-- have one key. Calls are kept. No more events can be live than before, and for each that is live
+-- only now a spare call is used, one for two
 pub record IsPrepared (nw : Network) (old new : State) (times : StoredTimes) : Type 0 where
   pub valid : IsValid nw new
   pub has_times : HasTimesFor new times

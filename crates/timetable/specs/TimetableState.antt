@@ -23,7 +23,10 @@ pub record TimetableState : Type 0 where
 -- a timetable is stored as its fields
 abbrev pub timetable_state_code : Coded TimetableState
 timetable_state_code =
-    code_by (Network × (State × (ℕ × List Node))) (coded× network_row.coded (coded× state_row.coded (coded× coded_ℕ (coded_list coded_node)))) (λ r. (r.network, (r.state, (r.count, r.changed)))) (λ p. record { network = p.0; state = p.1.0; count = p.1.1.0; changed = p.1.1.1 }) (λ _. refl)
+    code_by (Network × (State × (ℕ × List Node)))
+    (coded× network_row.coded (coded× state_row.coded (coded× coded_ℕ (coded_list coded_node))))
+    (λ r. (r.network, (r.state, (r.count, r.changed))))
+    (λ p. record { network = p.0; state = p.1.0; count = p.1.1.0; changed = p.1.1.1 }) (λ _. refl)
 
 -- one message more, as far as 64 bits count
 abbrev pub counted : ℕ → ℕ

@@ -4,6 +4,7 @@
 //! nowhere else.
 #![tactic(auto)]
 
+mod check;
 mod departures;
 mod events;
 pub mod laws;
@@ -11,7 +12,6 @@ mod leaving;
 mod lists;
 mod loading;
 mod marking;
-mod check;
 mod prepare;
 mod scheduled;
 pub mod timetable;

@@ -72,16 +72,23 @@ fn time_all<L: Ledger>(
     time_changes: &mut Vec<TimeChange>,
     steps: &mut Steps<L>,
 ) -> Result<(), OutOfMemory>
+    // a valid timetable, with a stored time for each live event
     requires valid { IsValid graph.now.network graph.now.state }
     requires held { All (λ k. IsTrue (has_time times.old (node_of k)))
         (live_keys (events graph.now.state)) }
+
+    // an empty list and no mark, with room for each live event
     requires unmarked { marks.old.keys ≡ [] }
     requires empty { time_changes.old.items ≡ [] }
     requires room { length (live_keys (events graph.now.state)) ≤ vec_capacity time_changes.old }
     requires marks_room { length (live_keys (events graph.now.state)) ≤ marks.old.room }
+
+    // the times, where there is memory
     ensures times { OnOk result (All (HasItsTime graph.now.network graph.now.state times.new)
         (live_keys (events graph.now.state))) }
     ensures has_times { (st : AState) → HasTimesFor st times.old → HasTimesFor st times.new }
+
+    // the marks and the list afterwards
     ensures unmarked { OnOk result (marks.new.keys ≡ []) }
     ensures marks_room { marks.new.room ≡ marks.old.room }
     ensures capacity { vec_capacity time_changes.new ≡ vec_capacity time_changes.old }
@@ -103,23 +110,32 @@ pub(crate) fn settle_all<L: Ledger>(
     time_changes: &mut Vec<TimeChange>,
     blank: Blank,
 ) -> Result<DepartureOrder, OutOfMemory>
+    // the blank has the name and the parts of the ledger
     requires name { blank.name ≡ L.name }
     requires parts { blank.parts ≡ L.parts }
     requires some { 0 < blank.parts }
+
+    // a valid timetable of few events, and stored times for its labels
     requires valid { IsValid graph.now.network graph.now.state }
     requires few { length (live_keys (events graph.now.state)) + 2 * graph.now.state.spare_calls
         ≤ 2097152 }
     requires has_times { HasTimesFor graph.now.state times.old }
+
+    // an empty list and no mark, with room for each live event
     requires unmarked { marks.old.keys ≡ [] }
     requires empty { time_changes.old.items ≡ [] }
     requires marks_room { length (live_keys (events graph.now.state)) ≤ marks.old.room }
     requires time_changes_room { length (live_keys (events graph.now.state))
         ≤ vec_capacity time_changes.old }
+
+    // the times and the departures, where there is memory
     ensures settled { OnOk result (IsSettled graph.now.network graph.now.state times.new) }
     ensures departures { IfOk result (λ order. order ≡ record {
       departures = live_departures graph.now.network graph.now.state;
       spare = 2 * graph.now.state.spare_calls;
     }) }
+
+    // the list and the marks afterwards
     ensures time_changes_capacity { vec_capacity time_changes.new ≡ vec_capacity time_changes.old }
     ensures unmarked { OnOk result (marks.new.keys ≡ []) }
     ensures marks_room { marks.new.room ≡ marks.old.room }

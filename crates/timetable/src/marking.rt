@@ -148,15 +148,22 @@ fn keep_live(trains: &Trains, marks: &mut Marks)
 /// Marks the events that a report or forecast names. The list has room to work with, and is empty
 /// before and after.
 fn mark_value(trains: &Trains, v: &Value, list: &mut Vec<Node>, marks: &mut Marks)
+    // the trains, and a live event of them
     requires trains { All IsTrain trains.now.trains }
     requires live { IsTrue (is_live trains.now v.now.node) }
+
+    // an empty list with room, and marks of these events
     requires empty { list.old.items ≡ [] }
     requires room { length (live_keys (events trains.now)) ≤ vec_capacity list.old }
     requires fit { AreMarksOf (events trains.now) marks.old }
+
+    // what is marked
     ensures fit { AreMarksOf (events trains.now) marks.new }
     ensures marked { (q : AKey) → Contains (live_keys (events trains.now)) q
         → is_marked marks.new q ≡ (is_marked marks.old q
         || list_any (is_same_node (node_of q)) (named trains.now (message_of_value v.now))) }
+
+    // the room and the list afterwards
     ensures room { marks.new.room ≡ marks.old.room }
     ensures empty { list.new.items ≡ [] }
     ensures capacity { vec_capacity list.new ≡ vec_capacity list.old }
@@ -173,14 +180,21 @@ fn mark_value(trains: &Trains, v: &Value, list: &mut Vec<Node>, marks: &mut Mark
 /// order, in place of those that were listed, and marks each event that is fed by one of these, and
 /// those that a report, a forecast or a choice names. Nothing is marked before. It takes no memory.
 pub(crate) fn mark_before(graph: &Graph, m: &Msg, changed: &mut Vec<Node>, marks: &mut Marks)
+    // a valid timetable, and a message that it accepts
     requires valid { IsValid graph.now.network graph.now.state }
     requires accepted { refusal graph.now.network graph.now.state m.now ≡ None }
+
+    // no mark, and room for each live event
     requires unmarked { marks.old.keys ≡ [] }
     requires room { length (live_keys (events graph.now.state)) ≤ vec_capacity changed.old }
     requires marks_room { length (live_keys (events graph.now.state)) ≤ marks.old.room }
+
+    // the events that are taken away
     ensures leaving { changed.new.items ≡ names_of (live_only (events graph.now.state)
         (events (effect graph.now.state m.now))) }
     ensures capacity { vec_capacity changed.new ≡ vec_capacity changed.old }
+
+    // what is marked
     ensures marked { IsMarkedBefore graph.now.network graph.now.state m.now marks.new }
     ensures marks_room { marks.new.room ≡ marks.old.room }
 {
@@ -220,9 +234,9 @@ fn mark_shape(graph: &Graph, s: &Shape<'_>, marks: &mut Marks)
 
 /// After a message was applied, before which the events were marked that it names, and those that
 /// are fed by an event that it takes away: takes the marks off events that it took away, and marks
-/// the events that it made, the arrival to which a rerouting leads, and each event whose time a made
-/// one may change. Then the events are marked that may have another value, and no others. It takes
-/// no memory.
+/// the events that it made, the arrival to which a rerouting leads, and each event whose time a
+/// made one may change. Then the events are marked that may have another value, and no others. It
+/// takes no memory.
 pub(crate) fn mark_after(graph: &Graph, m: &Msg, marks: &mut Marks)
     requires stepped { IsMarkedAndApplied graph.now m.now marks.old }
     requires room { length (live_keys (events graph.now.state)) ≤ marks.old.room }

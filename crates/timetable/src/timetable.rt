@@ -16,12 +16,12 @@ ghost use Rattle.timetable.specs.LiveTimes.{live_time};
 ghost use Rattle.timetable.specs.TimetableState.{stepped};
 ghost use Rattle.timetable.specs.Settled.{HasTimesFor, most_live};
 
+use crate::check::check;
 use crate::departures::{move_departures, take_departures};
 use crate::events::count_live;
 use crate::lists::{Lists, copy_lists, empty_lists};
 use crate::loading::settle_all;
 use crate::marking::{mark_after, mark_before};
-use crate::check::check;
 use crate::prepare::{apply, push_names};
 use change_times::Changes;
 use delay_model::messages::Refusal;
@@ -49,7 +49,8 @@ pub struct Timetable {
     /// The events that the last accepted message changed. It has room for twice as many as can be
     /// live.
     changed: Vec<Node>,
-    /// The events that are to be settled: none between messages. All that can be live can be marked.
+    /// The events that are to be settled: none between messages. All that can be live can be
+    /// marked.
     marks: Marks,
     /// The events to which the last accepted message gave other times, with these. It has room for
     /// as many as can be live.
@@ -74,7 +75,7 @@ impl Model for Timetable {
 
 impl Timetable {
     /// The timetable of these trains, by these change times, waiting rules and options. No message
-    /// was accepted.
+    /// was accepted. `OutOfMemory` where there is no memory.
     pub fn build(
         alloc: Global,
         trains: Trains,
@@ -140,7 +141,7 @@ impl Timetable {
         })
     }
 
-    /// The same timetable once more, with the same room.
+    /// The same timetable once more, with the same room. `OutOfMemory` where there is no memory.
     pub fn copy(&self, alloc: Global) -> Result<Timetable, OutOfMemory>
         ensures { IfOk result (λ copy. copy ≡ self.now) }
     {
@@ -170,13 +171,18 @@ impl Timetable {
     /// and those whose time is another after it. A message that is refused changes nothing. It
     /// takes no memory.
     pub fn step<L: Ledger>(&mut self, m: &Msg, steps: &mut Steps<L>) -> Result<u64, Refusal>
+        // a message that is refused
         ensures refused { IfErr result (λ r. refusal self.old.network self.old.state m.now
             ≡ Some r) }
         ensures unchanged { IfErr result (λ _. self.new ≡ self.old) }
+
+        // a message that is accepted, and how many events it changes
         ensures accepted { IfOk result (λ _. refusal self.old.network self.old.state m.now ≡ None) }
         ensures effect { IfOk result (λ _. self.new ≡ stepped self.old m.now) }
         ensures changed { IfOk result (λ n. n ≡ changed_count self.old.network self.old.state
             m.now) }
+
+        // the steps that are counted
         ensures cost { IfOk result (λ _. steps.new ≤ steps.old
             + reads_of self.old.network self.old.state m.now) }
         ensures no_steps { IfErr result (λ _. steps.new ≡ steps.old) }

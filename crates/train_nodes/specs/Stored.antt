@@ -79,8 +79,8 @@ pub record IsStored (a : Inside) : Type 0 where
   pub numbered : (i : ℕ) (x : StoredCall) → slice_get a.calls.items i ≡ Some x
       → slot_of a.slots x.train x.label ≡ Some i
   pub named : (t l i : ℕ) → slot_of a.slots t l ≡ Some i → IsCallAt a.calls.items t l i
-  pub placed : (i : ℕ) (x : StoredCall) (r : TrainRecord) (n : NumberedTrain) → slice_get a.calls.items i
-      ≡ Some x → x.current ≡ true
+  pub placed : (i : ℕ) (x : StoredCall) (r : TrainRecord) (n : NumberedTrain)
+      → slice_get a.calls.items i ≡ Some x → x.current ≡ true
       → slice_get a.records.items x.train ≡ Some r → slice_get a.slots.trains x.train ≡ Some n
       → (x.place < r.len) × (slot_after a.calls.items x.place (first_slot n) ≡ i)
   pub records_count : length a.records.items ≡ length a.slots.trains

@@ -8,8 +8,8 @@ use crate::well_formed::Msg;
 use delay_model::messages::Message;
 use delay_model::overrides::Override;
 use mt_base::keys::Node;
-use mt_base::numbers::{Day, Label, RouteNo, Time, TrainNo};
 use mt_base::new_calls::NewCall;
+use mt_base::numbers::{Day, Label, RouteNo, Time, TrainNo};
 
 /// What a message changes.
 #[derive(Clone, Copy)]
@@ -27,22 +27,29 @@ pub enum Kind<'a> {
 /// Whether an event took place at a time, or is expected then.
 #[derive(Clone, Copy, Debug, PartialEq, Eq)]
 pub enum ValueKind {
+    /// It took place then.
     Report,
+    /// It is expected then.
     Forecast,
 }
 
 /// A report or a forecast of an event.
 #[derive(Clone, Copy, Debug, PartialEq, Eq)]
 pub struct Value {
+    /// Which of the two it is.
     pub kind: ValueKind,
+    /// The event.
     pub node: Node,
+    /// When it took place or is expected.
     pub time: Time,
 }
 
 /// What is chosen for the connection from an arrival to a departure of another train.
 #[derive(Clone, Copy, Debug, PartialEq, Eq)]
 pub struct Choice {
+    /// The arrival.
     pub feeder: Node,
+    /// The departure.
     pub train: Node,
 
     /// Whether it is kept or dropped. None leaves it to the waiting rules again.
@@ -54,24 +61,35 @@ pub struct Choice {
 pub enum Shape<'a> {
     /// The train does not run from the departure of one call to the arrival of a later one.
     Cancel {
+        /// The train.
         train: TrainNo,
+        /// The label of the call from whose departure on it does not run.
         from: Label,
+        /// The label of the later call, up to whose arrival it does not run.
         to: Label,
     },
 
     /// Between two of its calls the train makes these calls, and not those that it made so far.
     Reroute {
+        /// The train.
         train: TrainNo,
+        /// The label of the call before the new ones.
         from: Label,
+        /// The label of the call after them.
         to: Label,
+        /// The new calls, in their order.
         via: &'a [NewCall],
     },
 
     /// One more train runs.
     Extra {
+        /// The number of the train.
         train: TrainNo,
+        /// Its service day.
         day: Day,
+        /// Its route.
         route: RouteNo,
+        /// Its calls, in their order.
         calls: &'a [NewCall],
     },
 }

@@ -4,18 +4,18 @@
 
 mod edits;
 pub mod kinds;
-pub mod well_formed;
 mod removed;
-mod train_records;
 mod shapes;
+mod train_records;
 pub mod trains;
+pub mod well_formed;
 
 pub use call_lines::{TableCall, TrainEvents, calls, events};
 pub use connection_choices::Keeps;
 pub use event_numbers::{NodeTimes, Steps};
 pub use kinds::Kind;
-pub use well_formed::Msg;
 pub use trains::Trains;
+pub use well_formed::Msg;
 
 #[cfg(test)]
 mod message_tests;

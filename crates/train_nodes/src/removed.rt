@@ -26,7 +26,8 @@ pub(crate) struct RemovedEvents<'a> {
 }
 
 impl EventSet for RemovedEvents<'_> {
-    ghost holds = { λ s. is_removed s.train (is_between s.calls.now s.slots.now s.train s.first s.last) s.ends };
+    ghost holds = { λ s. is_removed s.train
+        (is_between s.calls.now s.slots.now s.train s.first s.last) s.ends };
 
     fn has(&self, n: &Node) -> bool {
         n.train == self.train && (self.is_end(n) || self.is_between(n.label))

@@ -16,8 +16,8 @@ use call_lines::parts::{find_part, kill, replace};
 use call_lines::{Part, StoredCall};
 use connection_choices::OverrideTable;
 use event_numbers::Slots;
-use mt_base::numbers::{Label, TrainNo};
 use mt_base::new_calls::NewCall;
+use mt_base::numbers::{Label, TrainNo};
 
 impl Trains {
     /// Whether both are calls of the train, and the one stands before the other.

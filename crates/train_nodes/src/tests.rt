@@ -4,8 +4,8 @@ use crate::{Keeps, TableCall, Trains};
 use delay_model::overrides::Override;
 use mt_base::keys::Node;
 use mt_base::memory::OutOfMemory;
-use mt_base::numbers::{Day, Label, RouteNo, StopNo, Time, TrainNo};
 use mt_base::new_calls::NewCall;
+use mt_base::numbers::{Day, Label, RouteNo, StopNo, Time, TrainNo};
 use std::alloc::Global;
 use std::test::Fail;
 

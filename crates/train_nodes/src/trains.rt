@@ -34,8 +34,8 @@ use delay_model::state::Event;
 use event_numbers::{NodeTimes, Slots};
 use mt_base::keys::{Key, Node};
 use mt_base::memory::{OutOfMemory, copy_with_room};
-use mt_base::numbers::{Day, Label, RouteNo, StopNo, Time, TrainNo};
 use mt_base::new_calls::NewCall;
+use mt_base::numbers::{Day, Label, RouteNo, StopNo, Time, TrainNo};
 use std::alloc::Global;
 use std::marker::Model;
 
@@ -66,8 +66,9 @@ impl Model for Trains {
 }
 
 impl Trains {
-    /// No trains, with room for so many trains, calls of all trains together, and overrides. Room
-    /// for 2^31 calls or more is answered as want of memory, so that each new call has a label.
+    /// No trains, with room for so many trains, calls of all trains together, and overrides.
+    /// `OutOfMemory` where there is no memory, and for 2^31 calls or more, so that each new call
+    /// has a label.
     pub fn with_room(
         alloc: Global,
         trains: u32,
@@ -91,7 +92,7 @@ impl Trains {
         })
     }
 
-    /// The same trains once more, with the same room.
+    /// The same trains once more, with the same room. `OutOfMemory` where there is no memory.
     pub fn copy(&self, alloc: Global) -> Result<Trains, OutOfMemory>
         ensures { IfOk result (λ copy. copy ≡ self.now) }
     {
@@ -105,7 +106,7 @@ impl Trains {
     }
 
     /// Times for the events of these trains, 2^25 - 1 for each, which no settled event has; with
-    /// room for those of spare trains and calls.
+    /// room for those of spare trains and calls. `OutOfMemory` where there is no memory.
     pub fn blank_times(&self, alloc: Global) -> Result<NodeTimes, OutOfMemory>
         ensures sized { IfOk result (λ times.
             AreSized (map (λ (t : ATrain). t.next_label) self.now.trains) times) }

@@ -50,7 +50,7 @@ impl Msg {
         &self.message
     }
 
-    /// The same message once more.
+    /// The same message once more. `OutOfMemory` where there is no memory.
     pub fn copy(&self, alloc: Global) -> Result<Msg, OutOfMemory>
         ensures { IfOk result (λ copy. copy ≡ self.now) }
     {

@@ -52,7 +52,7 @@ impl Model for Waits {
 }
 
 impl Waits {
-    /// The waits of a feed.
+    /// The waits of a feed. `OutOfMemory` where there is no memory.
     pub fn build(alloc: Global, t: &FeedTables) -> Result<Waits, OutOfMemory>
         ensures { IfOk result (λ waits. waits ≡ wait_table t.now.stops t.now.rules) }
     {
@@ -70,7 +70,7 @@ impl Waits {
         })
     }
 
-    /// The same waits once more.
+    /// The same waits once more. `OutOfMemory` where there is no memory.
     pub fn copy(&self) -> Result<Waits, OutOfMemory>
         ensures { IfOk result (λ copy. copy ≡ self.now) }
     {
