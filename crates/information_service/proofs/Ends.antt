@@ -1,10 +1,11 @@
 -- How answering ends: what was taken, and what the lines leave.
-use Rattle.std.proofs.Common.{◌≡◌, ◌∙◌, ℕ, List, [], ◌++◌, Option, Some, None, Result, Ok, Err, sym, ap, refl, true, false}
+use Rattle.std.proofs.Common.{◌≡◌, ◌∙◌, ℕ, List, [], ◌++◌, Option, Some, None, Result, Ok, Err, sym, ap, refl, subst, true, false}
 use Rattle.std.proofs.KnownBytes.{Appends-nil}
 use Rattle.std.proofs.lemmas.List.{append-nil}
-use Rattle.std.proofs.lemmas.Option.{none-some}
+use Rattle.std.proofs.lemmas.Option.{none-some, same_Some}
 use Rattle.std.specs.Io.KnownBytes.{Consumes, IsAtEnd}
-use Rattle.std.specs.Prelude.{IfErr, unwrap_or}
+use Rattle.std.specs.Prelude.{IfErr}
+use Rattle.std.specs.Result.{IsErrAnd}
 use Rattle.delay_model.specs.declared.network.Network.{Network}
 use Rattle.delay_model.specs.declared.state.State.{State}
 use Rattle.delay_report.specs.Table.{table}
@@ -14,26 +15,25 @@ use Rattle.mt_io.proofs.Gives.{consumes_none}
 use Rattle.mt_io.proofs.Runs.{ends}
 use Rattle.schedule_build.specs.Directory.{Names}
 use Rattle.information_service.specs.declared.fault.LinesFault.{LinesFault}
+use Rattle.information_service.specs.declared.fault.LinesFault.TheVariants.{ReadFault, WriteFault, Memory, TooLong}
+use Rattle.information_service.specs.Causes.{WhereLinesStop}
 use Rattle.information_service.specs.Fronts.{AreAnswered, AppendsReplies}
 use Rattle.information_service.specs.Output.{IsOutput}
 use Rattle.information_service.specs.ServiceState.{ServiceState}
-
-pub some-same : (a b : List ℕ) → Some a ≡ Some b → a ≡ b
-some-same a b e = ap (λ (o : Option (List ℕ)). unwrap_or o a) e
 
 -- all bytes were taken where the source is at its end
 pub all_taken : (left now : Option (List ℕ)) (bytes all : List ℕ) → Consumes left now all → IsAtEnd now → left ≡ Some bytes → all ≡ bytes
 all_taken None now bytes all source end is = absurd (none-some bytes is)
 all_taken (Some xs) None bytes all source end is = absurd source
 all_taken (Some xs) (Some ys) bytes all source end is =
-    sym (append-nil all) ∙ ap (λ (r : List ℕ). all ++ r) (sym end) ∙ sym source ∙ some-same xs bytes is
+    sym (append-nil all) ∙ ap (λ (r : List ℕ). all ++ r) (sym end) ∙ sym source ∙ same_Some xs bytes is
 
 -- at the end of the input the replies and the table are a whole output
 pub whole_output : {first now : ServiceState} {r : Reader} {left left_now written between : Option (List ℕ)} {all : List ℕ} {lines : List Line} (bytes : List ℕ)
     → IsDone r → (a : AreAnswered first now r left left_now written between all lines) → left ≡ Some bytes
     → IsOutput first.network first.names first.state (lines_of true bytes) (a.output.shown ++ table now.network now.names now.state)
 whole_output {first = first} {r = r} {left = left} {left_now = left_now} {all = all} {lines = lines} bytes done a told =
-    rw (ap (lines_of true) (sym (all_taken left left_now bytes all a.source (a.end done.ended) told)) ∙ ends all lines r a.lines_so_far done)
+    rw (ap (lines_of true) (sym (all_taken left left_now bytes all a.taken.source (a.taken.end done.ended) told)) ∙ ends all lines r a.taken.lines_so_far done)
     (record { shown = a.output.shown; replies = a.output.is; all = ap (λ (t : ServiceState). a.output.shown ++ table t.network t.names t.state) a.service })
 
 -- before the first line nothing was taken, and nothing is written
@@ -42,6 +42,18 @@ pub nothing_yet : (nw : Network) (names : Names) (st : State) (left written : Op
 unfolding lines_of
 nothing_yet nw names st left written = ([], consumes_none left, record { shown = []; is = refl; written = Appends-nil written })
 
-pub each_fault : (run : Result (Unit {0}) LinesFault) (P : LinesFault → Type 0) → ((f : LinesFault) → P f) → IfErr run P
+-- what holds of every error
+pub each_fault : {E : Type 0} (run : Result (Unit {0}) E) (P : E → Type 0) → ((f : E) → P f) → IfErr run P
 each_fault (Ok u) P all = tt
 each_fault (Err f) P all = all f
+
+-- what holds of the error that was handed on
+pub handed_on : {E : Type 0} (run : Result (Unit {0}) E) (f : E) (Q : E → Type 0) → IsErrAnd run (λ e. e ≡ f) → Q f → IfErr run Q
+handed_on (Ok u) f Q is q = tt
+handed_on (Err e) f Q is q = subst Q (sym is) q
+
+pub where_also : (T U : Type 0) (f : LinesFault) → (T → U) → WhereLinesStop T f → WhereLinesStop U f
+where_also T U ReadFault h t = h t
+where_also T U WriteFault h t = tt
+where_also T U Memory h t = tt
+where_also T U TooLong h t = h t

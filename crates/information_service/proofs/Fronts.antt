@@ -2,7 +2,7 @@
 use Rattle.std.proofs.Common.{◌≡◌, ◌∙◌, ◌+◌, ◌-◌, ◌≤◌, ℕ, zero, suc, List, [], ◌++◌, Option, Some, None, sym, subst, ap, refl, append_assoc, take, drop, arith, true, inr}
 use Rattle.std.proofs.KnownBytes.{Appends-nil, Appends-trans}
 use Rattle.std.proofs.lemmas.List.{append-nil, take-append-drop}
-use Rattle.std.proofs.lemmas.Option.{none-some}
+use Rattle.std.proofs.lemmas.Option.{none-some, same_Some}
 use Rattle.std.specs.Io.KnownBytes.{Appends, Consumes, IsAtEnd}
 use Rattle.delay_model.specs.declared.network.Network.{Network}
 use Rattle.delay_model.specs.declared.state.State.{State}
@@ -13,7 +13,6 @@ use Rattle.mt_io.specs.Reader.{Reader, ahead}
 use Rattle.schedule_build.specs.Directory.{Names}
 use Rattle.information_service.specs.Fronts.{AreAnswered, AppendsFirstReplies, AppendsFront, AppendsOutput, AppendsOutputFront, Begun}
 use Rattle.information_service.specs.ServiceState.{ServiceState}
-use Rattle.information_service.proofs.Ends.{some-same}
 
 pub front_none : (a : Option (List ℕ)) (bytes : List ℕ) → AppendsFront a a bytes
 front_none a bytes = record { front = []; rest = bytes; written = Appends-nil a; all = refl }
@@ -71,14 +70,14 @@ first_lines : (r : Reader) (left left_now : Option (List ℕ)) (taken bytes : Li
 first_lines r None now taken bytes lines source is end answered = absurd (none-some bytes is)
 first_lines r (Some xs) None taken bytes lines source is end answered = absurd source
 first_lines r (Some xs) (Some ys) taken bytes lines source is end answered =
-    (ahead r ys true, ap (lines_of true) (sym (some-same xs bytes is) ∙ source) ∙ answered.lines_ahead ys true (λ ended. (end ended, refl)))
+    (ahead r ys true, ap (lines_of true) (sym (same_Some xs bytes is) ∙ source) ∙ answered.lines_ahead ys true (λ ended. (end ended, refl)))
 
 -- what was written of the replies to the lines that were taken is a front of a whole output
 pub output_front : {first : ServiceState} {r : Reader} {left left_now written written_now : Option (List ℕ)} {taken : List ℕ} {lines : List Line} (bytes : List ℕ)
     → Begun first r left left_now written written_now taken lines → left ≡ Some bytes
     → AppendsFirstReplies first.network first.names first.state (lines_of true bytes) written written_now
 output_front {r = r} {left = left} {left_now = left_now} {taken = taken} {lines = lines} bytes b is =
-    let more = first_lines r left left_now taken bytes lines b.source is b.end b.lines_so_far in
+    let more = first_lines r left left_now taken bytes lines b.taken.source is b.taken.end b.taken.lines_so_far in
     let f = b.output in
     record {
       first = f.first;
@@ -100,9 +99,7 @@ pub begun_by : {first now : ServiceState} {r : Reader} {left left_now written wr
     → AreAnswered first now r left left_now written written_now bytes lines → Begun first r left left_now written written_now bytes lines
 begun_by {first = first} {written = written} {written_now = written_now} {lines = lines} a =
     record {
-      source = a.source;
-      lines_so_far = a.lines_so_far;
-      end = a.end;
+      taken = a.taken;
       output = subst (λ (ls : List Line). AppendsFirstReplies first.network first.names first.state ls written written_now) (append-nil lines) (first_replies [] a);
     }
 

@@ -3,16 +3,17 @@ use Rattle.std.proofs.Common.{◌≡◌, ◌≤◌, ℕ, ◌+◌, List, [], ◌�
 use Rattle.std.proofs.KnownBytes.{Appends-nil, Appends-trans}
 use Rattle.std.proofs.lemmas.Bool.{cases_Bool}
 use Rattle.std.proofs.lemmas.List.{append-nil}
+use Rattle.std.proofs.lemmas.List.Sums.{fold-append}
 use Rattle.std.proofs.lemmas.List.Elements.{filter_map-append}
 use Rattle.std.specs.Io.KnownBytes.{Appends, Consumes, IsAtEnd}
-use Rattle.std.specs.Option.{option_map_or}
+use Rattle.std.specs.List.{fold}
 use Rattle.delay_model.specs.declared.messages.Message.{Message}
 use Rattle.delay_model.specs.declared.messages.Refusal.{Refusal}
 use Rattle.delay_model.specs.declared.network.Network.{Network}
 use Rattle.delay_model.specs.declared.state.State.{State}
-use Rattle.delay_model.specs.After.{after_messages, accepted, accepted_message, known_after}
-use Rattle.delay_model.specs.Effect.{effect}
+use Rattle.delay_model.specs.After.{accepted_message, after_accepted, after_line as after_message_line, Progress}
 use Rattle.delay_model.specs.Refusals.{refusal}
+use Rattle.delay_model.proofs.WindowLemmas.{beginning, progress-all}
 use Rattle.delay_report.specs.declared.replies.Reply.{Reply}
 use Rattle.delay_report.specs.Replies.{text_of_reply}
 use Rattle.message_reader.specs.declared.wire.Wire.{Wire}
@@ -29,86 +30,52 @@ use Rattle.mt_io.specs.Runs.{fresh, HasAnswered}
 use Rattle.mt_io.proofs.Gives.{consumes_none, consumes_more, open_ended}
 use Rattle.mt_io.proofs.Runs.{begins, goes_on}
 use Rattle.schedule_build.specs.Directory.{Names}
-use Rattle.information_service.specs.Fronts.{AreAnswered, AppendsFirstReplies, AppendsFront, Begun}
+use Rattle.information_service.specs.Fronts.{AreAnswered, AppendsFirstReplies, AppendsFront, Begun, IsTaken}
 use Rattle.information_service.proofs.Fronts.{front_after}
 use Rattle.information_service.specs.Lines.{said_by, messages_of, names_with, by_names}
 use Rattle.information_service.specs.Output.{reply_by_refusal, reply_to_message, IsReply, IsReplyTo, IsTextAfter, AreReplies}
 use Rattle.information_service.specs.ServiceState.{ServiceState, after_said, after_message, after_answer, after_line, service_after}
 
--- the service after these messages, one after the other
-abbrev after_each : ServiceState → List Wire → ServiceState
-after_each t [] = t
-after_each t (w ∷ ws) = after_each (after_message t w (resolved t.names w)) ws
-
--- the service after these messages, by which of them are accepted
-abbrev after_all : ServiceState → List Wire → ServiceState
-after_all t ws =
-    let ms = accepted t.network by_names t.state t.names ws in
-    record { network = t.network; state = after_messages t.state ms; count = t.count + length ms; names = known_after t.network by_names t.state t.names ws }
-
--- the service after a message which is accepted as this or not at all, and after those behind it
-abbrev after_this : ServiceState → Wire → List Wire → Option Message → ServiceState
-after_this t w ws o =
-    let ms = option_map_or (λ m. m ∷ accepted t.network by_names (effect t.state m) (names_with t.names w) ws) o (accepted t.network by_names t.state t.names ws) in
-    record {
-      network = t.network;
-      state = after_messages t.state ms;
-      count = t.count + length ms;
-      names = option_map_or (λ m. known_after t.network by_names (effect t.state m) (names_with t.names w) ws) o (known_after t.network by_names t.state t.names ws);
-    }
-
-abbrev with_count : ServiceState → ℕ → ServiceState
-with_count t n = record { network = t.network; state = t.state; count = n; names = t.names }
-
-refusal-all : (t : ServiceState) (w : Wire) (ws : List Wire) (m : Message) (o : Option Refusal) → after_all (after_answer t w m o) ws ≡ after_this t w ws (cond (is_none o) (Some m) None)
-refusal-all t w ws m None =
-    let next = after_all (after_answer t w m None) ws in
-    ap (with_count next) (omega arith)
-refusal-all t w ws m (Some r) = refl
-
-message-all : (t : ServiceState) (w : Wire) (ws : List Wire) (read : Result Message Refusal) → after_all (after_message t w read) ws ≡ after_this t w ws (accepted_message t.network t.state read)
-message-all t w ws (Ok m) = refusal-all t w ws m (refusal t.network t.state m)
-message-all t w ws (Err r) = refl
-
-each-all : (t : ServiceState) (ws : List Wire) → after_each t ws ≡ after_all t ws
-each-all t [] = ap (with_count t) (omega arith)
-each-all t (w ∷ ws) = each-all (after_message t w (resolved t.names w)) ws ∙ message-all t w ws (resolved t.names w)
-
-each-append : (t : ServiceState) (ws vs : List Wire) → after_each t (ws ++ vs) ≡ after_each (after_each t ws) vs
-each-append t [] vs = refl
-each-append t (w ∷ ws) vs = each-append (after_message t w (resolved t.names w)) ws vs
+-- the service by what lines leave
+abbrev standing : Network → Progress Names → ServiceState
+standing nw p = record { network = nw; state = p.state; count = p.count; names = p.names }
 
 abbrev option_list : Option Wire → List Wire
 option_list None = []
 option_list (Some w) = w ∷ []
 
+answer-leaves : (nw : Network) (p : Progress Names) (w : Wire) (m : Message) (o : Option Refusal) → after_answer (standing nw p) w m o ≡ standing nw (after_accepted p (names_with p.names w) (cond (is_none o) (Some m) None))
+answer-leaves nw p w m None = refl
+answer-leaves nw p w m (Some r) = refl
+
+message-leaves : (nw : Network) (p : Progress Names) (w : Wire) (read : Result Message Refusal) → after_message (standing nw p) w read ≡ standing nw (after_accepted p (names_with p.names w) (accepted_message nw p.state read))
+message-leaves nw p w (Ok m) = answer-leaves nw p w m (refusal nw p.state m)
+message-leaves nw p w (Err r) = refl
+
+said-leaves : (nw : Network) (p : Progress Names) (said : Result Spoken BadLine) → after_said (standing nw p) said ≡ standing nw (fold (after_message_line nw by_names) p (option_list (message_in said)))
+said-leaves nw p (Ok (Says w)) = message-leaves nw p w (resolved p.names w)
+said-leaves nw p (Ok (Asks q)) = refl
+said-leaves nw p (Ok Flush) = refl
+said-leaves nw p (Err b) = refl
+
 last-message : (o : Option Wire) (x : Line) → message_in (said_by x) ≡ o → messages_of (x ∷ []) ≡ option_list o
 last-message None x e = rw e refl
 last-message (Some w) x e = rw e refl
 
-said-each : (t : ServiceState) (said : Result Spoken BadLine) → after_said t said ≡ after_each t (option_list (message_in said))
-said-each t (Ok (Says w)) = refl
-said-each t (Ok (Asks q)) = refl
-said-each t (Ok Flush) = refl
-said-each t (Err b) = refl
-
-abbrev start : Network → Names → State → ServiceState
-start nw names st = record { network = nw; state = st; count = 0; names = names }
-
-service-each : (nw : Network) (names : Names) (st : State) (lines : List Line) → service_after nw names st lines ≡ after_each (start nw names st) (messages_of lines)
-service-each nw names st lines = ap (with_count (service_after nw names st lines)) (omega arith) ∙ sym (each-all (start nw names st) (messages_of lines))
+lines-leave : (nw : Network) (names : Names) (st : State) (lines : List Line) → service_after nw names st lines ≡ standing nw (fold (after_message_line nw by_names) (beginning st names) (messages_of lines))
+lines-leave nw names st lines = ap (standing nw) (sym (progress-all nw by_names st names (messages_of lines)))
 
 -- one more line leaves the service as it is after all of them
 line-after : (nw : Network) (names : Names) (st : State) (lines : List Line) (x : Line) → after_line (service_after nw names st lines) x ≡ service_after nw names st (lines ++ x ∷ [])
 line-after nw names st lines x =
-    let t = start nw names st in
-    let then = after_each t (messages_of lines) in
-    ap (λ (s : ServiceState). after_line s x) (service-each nw names st lines)
-    ∙ said-each then (said_by x)
-    ∙ ap (after_each then) (sym (last-message (message_in (said_by x)) x refl))
-    ∙ sym (each-append t (messages_of lines) (messages_of (x ∷ [])))
-    ∙ ap (after_each t) (sym (filter_map-append (λ (y : Line). message_in (said_by y)) lines (x ∷ [])))
-    ∙ sym (service-each nw names st (lines ++ x ∷ []))
+    let next : Progress Names → Wire → Progress Names = after_message_line nw by_names in
+    let start : Progress Names = beginning st names in
+    ap (λ (s : ServiceState). after_line s x) (lines-leave nw names st lines)
+    ∙ said-leaves nw (fold next start (messages_of lines)) (said_by x)
+    ∙ ap (λ (ws : List Wire). standing nw (fold next (fold next start (messages_of lines)) ws)) (sym (last-message (message_in (said_by x)) x refl))
+    ∙ ap (standing nw) (sym (fold-append next start (messages_of lines) (messages_of (x ∷ []))))
+    ∙ ap (λ (ws : List Wire). standing nw (fold next start ws)) (sym (filter_map-append (λ (y : Line). message_in (said_by y)) lines (x ∷ [])))
+    ∙ sym (lines-leave nw names st (lines ++ x ∷ []))
 
 -- one more reply
 replies-more : (nw : Network) (names : Names) (st : State) (before lines : List Line) (x : Line) (bytes text : List ℕ)
@@ -155,22 +122,16 @@ reply_is first now next lines x number reply stood is_number is is_next =
       text = ap (λ (t : ServiceState). text_of_reply t.names reply) is_next ∙ said-text now number (said_by x) reply is ∙ ap (λ (t : ServiceState). text_of_reply t.names reply) stood;
     }
 
--- bytes that were taken, and the lines of them that were answered
-record IsTaken (r : Reader) (left left_now : Option (List ℕ)) (bytes : List ℕ) (lines : List Line) : Type 0 where
-  source : Consumes left left_now bytes
-  lines_so_far : HasAnswered bytes lines r
-  end : r.ended ≡ true → IsAtEnd left_now
-
--- a call takes more of them. The source is at its end where the end was read
+-- a call takes more bytes and lines. The source is at its end where the end was read
 taken-more : {first now : ServiceState} {old new : Reader} {left left_old left_new written written_old : Option (List ℕ)} {bytes : List ℕ} {lines more : List Line}
     → AreAnswered first now old left left_old written written_old bytes lines → (old.ended ≡ true → left_new ≡ left_old) → GivesNext old new left_old left_new more
     → (all : List ℕ) × IsTaken new left left_new all (lines ++ more)
 taken-more {old = old} {new = new} {left = left} {left_old = left_old} {left_new = left_new} {bytes = bytes} {lines = lines} {more = more} a same gives = (
   bytes ++ gives.0,
   record {
-    source = consumes_more left left_old left_new bytes gives.0 a.source gives.1.source;
-    lines_so_far = goes_on bytes gives.0 lines more old new left_old left_new a.lines_so_far gives.1;
-    end = λ ended. elim (cases_Bool old.ended) [ inl was ↦ subst IsAtEnd (sym (same was)) (a.end was) | inr not_yet ↦ gives.1.end not_yet ended ];
+    source = consumes_more left left_old left_new bytes gives.0 a.taken.source gives.1.source;
+    lines_so_far = goes_on bytes gives.0 lines more old new left_old left_new a.taken.lines_so_far gives.1;
+    end = λ ended. elim (cases_Bool old.ended) [ inl was ↦ subst IsAtEnd (sym (same was)) (a.taken.end was) | inr not_yet ↦ gives.1.end not_yet ended ];
   },
 )
 
@@ -178,11 +139,9 @@ taken-more {old = old} {new = new} {left = left} {left_old = left_old} {left_new
 pub nothing_answered : (t : ServiceState) (budget : ℕ) (r : Reader) (left written : Option (List ℕ)) → r ≡ fresh budget → t.count ≡ 0 → AreAnswered t t r left left written written [] []
 nothing_answered t budget r left written new none =
     rw new (record {
-      source = consumes_none left;
-      lines_so_far = begins budget;
-      end = λ is. open_ended false refl is;
+      taken = record { source = consumes_none left; lines_so_far = begins budget; end = λ is. open_ended false refl is };
       output = record { shown = []; is = refl; written = Appends-nil written };
-      service = ap (with_count t) none;
+      service = ap (λ (n : ℕ). record { network = t.network; state = t.state; count = n; names = t.names }) none;
     })
 
 -- a call that answers no line, and how it leaves the reader
@@ -190,10 +149,9 @@ pub none_more : {first now : ServiceState} {old new : Reader} {left left_old lef
     → AreAnswered first now old left left_old written written_now bytes lines → (old.ended ≡ true → left_new ≡ left_old) → GivesNext old new left_old left_new (next_lines n) × LeavesNext n old new
     → (all : List ℕ) × AreAnswered first now new left left_new written written_now all lines × LeavesNext m old new
 none_more {old = old} {new = new} {left = left} {left_old = left_old} {left_new = left_new} {lines = lines} n m is none a same gives =
-    let next = taken-more a same (subst (λ (ls : List Line). GivesNext old new left_old left_new ls) (ap next_lines is ∙ none) gives.0) in
-    let taken = subst (IsTaken new left left_new next.0) (append-nil lines) next.1 in (
+    let next = taken-more a same (subst (λ (ls : List Line). GivesNext old new left_old left_new ls) (ap next_lines is ∙ none) gives.0) in (
       next.0,
-      record { source = taken.source; lines_so_far = taken.lines_so_far; end = taken.end; output = a.output; service = a.service },
+      record { taken = subst (IsTaken new left left_new next.0) (append-nil lines) next.1; output = a.output; service = a.service },
       subst (λ (k : Next). LeavesNext k old new) is gives.1,
     )
 
@@ -207,9 +165,7 @@ one_line_more {first = first} {now = now} {written = written} {written_old = wri
     let text = text_of_reply next.names reply in (
       more.0,
       record {
-        source = more.1.source;
-        lines_so_far = more.1.lines_so_far;
-        end = more.1.end;
+        taken = more.1;
         output = record {
           shown = a.output.shown ++ text;
           is = replies-more first.network first.names first.state [] lines x a.output.shown text a.output.is (reply_is first now next lines x number reply a.service is_number is is_next);
@@ -259,4 +215,4 @@ pub one_line_begun : {first now : ServiceState} {old new : Reader} {left left_ol
     → (all : List ℕ) × (ls : List Line) × Begun first new left left_new written written_new all ls
 one_line_begun {lines = lines} x a same gives f =
     let more = taken-more a same gives in
-    (more.0, lines ++ x ∷ [], record { source = more.1.source; lines_so_far = more.1.lines_so_far; end = more.1.end; output = f })
+    (more.0, lines ++ x ∷ [], record { taken = more.1; output = f })

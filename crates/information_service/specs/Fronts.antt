@@ -65,21 +65,24 @@ abbrev pub AppendsOutputFront : Network → Names → State → List Line → Op
 AppendsOutputFront nw names st =
     AppendsWholeFront (IsOutput nw names st) (AreReplies nw names st [])
 
+-- these bytes were taken from the input, and these are the lines of them that were read
+pub record IsTaken (r : Reader) (left left_now : Option (List ℕ)) (bytes : List ℕ)
+    (lines : List Line) : Type 0 where
+  pub source : Consumes left left_now bytes
+  pub lines_so_far : HasAnswered bytes lines r
+  pub end : r.ended ≡ true → IsAtEnd left_now
+
 -- these lines were taken from the input and answered: their replies are written, and the service is
 -- as they leave it
 pub record AreAnswered (first now : ServiceState) (r : Reader)
     (left left_now written written_now : Option (List ℕ)) (bytes : List ℕ)
     (lines : List Line) : Type 0 where
-  pub source : Consumes left left_now bytes
-  pub lines_so_far : HasAnswered bytes lines r
-  pub end : r.ended ≡ true → IsAtEnd left_now
+  pub taken : IsTaken r left left_now bytes lines
   pub output : AppendsReplies first.network first.names first.state lines written written_now
   pub service : now ≡ service_after first.network first.names first.state lines
 
 -- these lines were taken from the input, and a front of replies to the first of them is written
 pub record Begun (first : ServiceState) (r : Reader) (left left_now written written_now : Option
     (List ℕ)) (bytes : List ℕ) (lines : List Line) : Type 0 where
-  pub source : Consumes left left_now bytes
-  pub lines_so_far : HasAnswered bytes lines r
-  pub end : r.ended ≡ true → IsAtEnd left_now
+  pub taken : IsTaken r left left_now bytes lines
   pub output : AppendsFirstReplies first.network first.names first.state lines written written_now

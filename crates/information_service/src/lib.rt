@@ -5,11 +5,11 @@ mod answer;
 mod fault;
 mod laws;
 mod lines;
+mod output;
 mod service;
 mod table;
 
 pub use fault::LinesFault;
 pub use laws::{lines_keep_names_in_step, outputs_differ_in_journeys_alone};
-pub use lines::answer_lines;
+pub use output::write_output;
 pub use service::InformationService;
-pub use table::write_table;

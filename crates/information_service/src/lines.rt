@@ -43,7 +43,7 @@ fn write_reply<K: Sink>(
 /// message. It fails with `ReadFault` or `TooLong` where the reader does, when all lines before are
 /// answered, with `WriteFault` where a write of the output failed, and with `Memory` where there was
 /// none, or behind line 2^64 - 2; then the last line may have no reply, or a part of one.
-pub fn answer_lines<S: Source, K: Sink>(
+pub(crate) fn answer_lines<S: Source, K: Sink>(
     alloc: Global,
     service: &mut InformationService,
     reader: &mut LineReader,

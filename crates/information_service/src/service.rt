@@ -60,15 +60,6 @@ impl InformationService {
         })
     }
 
-    /// The timetable, as the accepted messages left it.
-    pub fn timetable(&self) -> &Timetable
-        ensures network { result.now.network ≡ self.now.network }
-        ensures state { result.now.state ≡ self.now.state }
-        ensures count { result.now.count ≡ self.now.count }
-    {
-        &self.timetable
-    }
-
     /// The names of the trains, stops, routes and service days.
     pub fn directory(&self) -> &Directory
         ensures { result.now ≡ self.now.names }

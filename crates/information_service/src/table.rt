@@ -17,7 +17,7 @@ use std::alloc::Global;
 /// Writes the table of all times: its header, and the rows of each train in the order of their
 /// numbers. It fails with `WriteFault` where the output failed, or with `Memory`; then a part of
 /// the table may be written.
-pub fn write_table<K: Sink>(
+pub(crate) fn write_table<K: Sink>(
     alloc: Global,
     service: &InformationService,
     out: &mut K,

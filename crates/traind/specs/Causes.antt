@@ -14,12 +14,3 @@ HasFaultCause usage refused read write long ReadFault = read
 HasFaultCause usage refused read write long WriteFault = write
 HasFaultCause usage refused read write long Memory = Unit {0}
 HasFaultCause usage refused read write long TooLong = long
-
--- this holds where the run stopped because a read failed or the input is too long
-abbrev pub WhereLinesStop : Type 0 → Fault → Type 0
-WhereLinesStop holds Usage = Unit {0}
-WhereLinesStop holds (FeedRefused why) = Unit {0}
-WhereLinesStop holds ReadFault = holds
-WhereLinesStop holds WriteFault = Unit {0}
-WhereLinesStop holds Memory = Unit {0}
-WhereLinesStop holds TooLong = holds

@@ -25,54 +25,40 @@ pub record FeedSeen : Type 0 where
   pub faults : ℕ
   pub faults_after : ℕ
 
-abbrev pub feed_seen : Option Told → ℕ → ℕ → FeedSeen
-feed_seen tables faults faults_after =
-    record { tables = tables; faults = faults; faults_after = faults_after }
+-- a feed that was the first before the run and the second after it, by what it tells
+abbrev pub feed_seen : {F : Type 0} → (F → Option Told) → (F → ℕ) → F → F → FeedSeen
+feed_seen tables faults old new =
+    record { tables = tables old; faults = faults old; faults_after = faults new }
 
--- an input, as a run finds it and leaves it
-pub record InputSeen : Type 0 where
-  -- the bytes that were left to take before the run and after it, where the input tells them
-  pub left : Option (List ℕ)
-  pub left_after : Option (List ℕ)
-  -- how many of its reads had failed when the run began, and when it had ended
+-- the input, the output or the error stream, as a run finds it and leaves it
+pub record StreamSeen : Type 0 where
+  -- the bytes before the run and after it, where the stream tells them: those that are left to take
+  -- from an input, or those that were written to an output
+  pub bytes : Option (List ℕ)
+  pub bytes_after : Option (List ℕ)
+  -- how many of its reads or writes had failed when the run began, and when it had ended
   pub faults : ℕ
   pub faults_after : ℕ
 
-abbrev pub input_seen : Option (List ℕ) → Option (List ℕ) → ℕ → ℕ → InputSeen
-input_seen left left_after faults faults_after = record {
-  left = left;
-  left_after = left_after;
-  faults = faults;
-  faults_after = faults_after;
-}
-
--- an output or the error stream, as a run finds it and leaves it
-pub record OutputSeen : Type 0 where
-  -- the bytes that were written to it before the run and after it, where it tells them
-  pub written : Option (List ℕ)
-  pub written_after : Option (List ℕ)
-  -- how many of its writes had failed when the run began, and when it had ended
-  pub faults : ℕ
-  pub faults_after : ℕ
-
-abbrev pub output_seen : Option (List ℕ) → Option (List ℕ) → ℕ → ℕ → OutputSeen
-output_seen written written_after faults faults_after = record {
-  written = written;
-  written_after = written_after;
-  faults = faults;
-  faults_after = faults_after;
+-- a stream that was the first before the run and the second after it, by what it tells
+abbrev pub stream_seen : {S : Type 0} → (S → Option (List ℕ)) → (S → ℕ) → S → S → StreamSeen
+stream_seen bytes faults old new = record {
+  bytes = bytes old;
+  bytes_after = bytes new;
+  faults = faults old;
+  faults_after = faults new;
 }
 
 -- what is written to the error stream is this, unless a write to it fails
-abbrev pub Tells : OutputSeen → List ℕ → Type 0
+abbrev pub Tells : StreamSeen → List ℕ → Type 0
 Tells err line =
-    ¬ (Rose err.faults err.faults_after) → Appends err.written err.written_after line
+    ¬ (Rose err.faults err.faults_after) → Appends err.bytes err.bytes_after line
 
 -- The contract of a command, whose output may be another for other words. The run had these words;
--- it found the feed, the input and the output as the first of each pair and left them as the second;
--- and it ended with this status
+-- it found the feed, the input and the output as the first of each pair and left them as the
+-- second; and it ended with this status
 pub record MeetsContract {F S K : Type 0} (output : Asked → Output) (budget : ℕ)
-    (words : List (List ℕ)) (feed : FeedSeen) (input : InputSeen) (out err : OutputSeen)
+    (words : List (List ℕ)) (feed : FeedSeen) (input out err : StreamSeen)
     (feed_old feed_new : F) (input_old input_new : S) (out_old out_new : K)
     (status : Status) : Type 0 where
   -- ---- words
@@ -103,17 +89,16 @@ pub record MeetsContract {F S K : Type 0} (output : Asked → Output) (budget : 
   -- ---- the output
 
   -- all went well: the whole output of all lines of the input is written
-  pub ok : status ≡ Ok → WritesAll output words feed.tables input.left out.written
-      out.written_after
+  pub ok : status ≡ Ok → WritesAll output words feed.tables input.bytes out.bytes out.bytes_after
   -- and the input is at its end
-  pub ended : status ≡ Ok → IsAtEnd input.left_after
+  pub ended : status ≡ Ok → IsAtEnd input.bytes_after
   -- where a read failed or the input is too long, what is written is for the lines that are whole
   -- among the bytes taken
   pub stopped : (status ≡ ReadFault) ⊎ (status ≡ TooLong) → WritesReplies output words feed.tables
-      input.left input.left_after out.written out.written_after
-  -- however the run ended, what is written is a front of replies to the first lines of the input, or
-  -- of a whole output of all of them
-  pub front : WritesFront output words feed.tables input.left out.written out.written_after
+      input.bytes input.bytes_after out.bytes out.bytes_after
+  -- however the run ended, what is written is a front of replies to the first lines of the input,
+  -- or of a whole output of all of them
+  pub front : WritesFront output words feed.tables input.bytes out.bytes out.bytes_after
   -- ---- faults
 
   -- a read fault comes where a read of the feed failed, before anything was read of the input, or
@@ -123,10 +108,10 @@ pub record MeetsContract {F S K : Type 0} (output : Asked → Output) (budget : 
   -- a write fault comes where a write of the output failed
   pub write_fault : status ≡ WriteFault → Rose out.faults out.faults_after
   -- the input is too long where as many bytes were taken as may be
-  pub too_long : status ≡ TooLong → TookAll budget input.left input.left_after
+  pub too_long : status ≡ TooLong → TookAll budget input.bytes input.bytes_after
   -- words that ask for a feed that holds a timetable, an input with fewer bytes than may be taken,
   -- and no fault: all goes well, unless there is no memory
-  pub complete : CanEnd words feed.tables input.left budget
+  pub complete : CanEnd words feed.tables input.bytes budget
       → ¬ (Rose feed.faults feed.faults_after) → ¬ (Rose input.faults input.faults_after)
       → ¬ (Rose out.faults out.faults_after) → (status ≡ Ok) ⊎ (status ≡ Memory)
   -- the error stream has the line of the status

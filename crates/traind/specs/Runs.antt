@@ -49,8 +49,8 @@ times_output asked = record {
 }
 
 -- what was written is an output of all lines of the input
-abbrev pub WritesAll : (Asked → Output) → List (List ℕ) → Option Told → Option (List ℕ) → Option (List ℕ)
-    → Option (List ℕ) → Type 0
+abbrev pub WritesAll : (Asked → Output) → List (List ℕ) → Option Told → Option (List ℕ)
+    → Option (List ℕ) → Option (List ℕ) → Type 0
 WritesAll output words tables left written written_now =
     (nw : Network) (st : State) (names : Names) (bytes : List ℕ)
     → (loads : Loads words tables nw st names) → left ≡ Some bytes

@@ -1,16 +1,14 @@
 //! The program as a call: `times` over any feed, input and outputs.
 
-ghost use Rattle.std.specs.Prelude.{◌≡◌, ◌≢◌, ◌<◌, ◌≤◌, ◌⊎◌, List, ℕ, [], map, length, None, Some, Ok, Err, OnOk, IfOk, IfErr, true, false, string_bytes};
-ghost use Rattle.std.specs.Io.KnownBytes.{Appends, Consumes, IsAtEnd};
+ghost use Rattle.std.specs.Prelude.{◌≡◌, ◌≢◌, ◌≤◌, ◌⊎◌, map, None, Some, Err, OnOk, IfErr, string_bytes};
+ghost use Rattle.std.specs.Io.KnownBytes.{Appends, IsAtEnd};
 ghost use Rattle.command_words.specs.Words.{asked_of};
 ghost use Rattle.gtfs_tables.specs.declared.refusals.FeedRefusal.{FeedRefusal};
 ghost use Rattle.information_service.specs.Causes.{TookAll};
-ghost use Rattle.information_service.specs.Fronts.{AppendsReplies, AppendsOutput, AppendsOutputFront};
 ghost use Rattle.mt_io.specs.Causes.{Rose};
-ghost use Rattle.mt_io.specs.Lines.{lines_of};
-ghost use Rattle.traind.specs.Causes.{HasFaultCause, WhereLinesStop};
+ghost use Rattle.traind.specs.Causes.{HasFaultCause};
 ghost use Rattle.traind.specs.Feeds.{Told};
-ghost use Rattle.traind.specs.Contract.{MeetsContract, byte_budget, feed_seen, input_seen, output_seen};
+ghost use Rattle.traind.specs.Contract.{MeetsContract, byte_budget, feed_seen, stream_seen};
 ghost use Rattle.traind.specs.Runs.{IsRefused, WritesAll, WritesReplies, WritesFront, times_output};
 ghost use Rattle.traind.specs.Statuses.{error_line, refusal_line, status_of};
 ghost use Rattle.traind.specs.declared.status.Fault.TheVariants as faults;
@@ -20,42 +18,11 @@ use crate::refusal::refusal_line;
 use crate::status::{Fault, Status, status_of};
 use command_words::read_words;
 use gtfs_tables::FeedRefusal;
-use information_service::{InformationService, answer_lines, write_table};
-use mt_io::{Feed, Gate, LineReader, Sink, Source, put};
+use information_service::write_output;
+use mt_io::{Feed, Gate, Sink, Source, put};
 use std::alloc::Global;
 use std::sync::Wait;
 use std::thread::Threads;
-
-/// Answers all lines of the input, and writes the table.
-fn run_lines<S: Source, K: Sink>(
-    alloc: Global,
-    service: &mut InformationService,
-    input: &mut S,
-    out: &mut K,
-    budget: u64,
-) -> Result<(), Fault>
-    requires count { service.old.count ≡ 0 }
-    ensures ok { OnOk result ((bytes : List ℕ) → S.left input.old ≡ Some bytes
-        → AppendsOutput service.old.network service.old.names service.old.state
-        (lines_of true bytes) (K.written out.old) (K.written out.new)) }
-    ensures ended { OnOk result (IsAtEnd (S.left input.new)) }
-    ensures stopped { IfErr result (WhereLinesStop ((bytes : List ℕ)
-        × Consumes (S.left input.old) (S.left input.new) bytes
-        × AppendsReplies service.old.network service.old.names service.old.state
-        (lines_of false bytes) (K.written out.old) (K.written out.new))) }
-    ensures front { IfErr result (λ f. (bytes : List ℕ) → S.left input.old ≡ Some bytes
-        → AppendsOutputFront service.old.network service.old.names service.old.state
-        (lines_of true bytes) (K.written out.old) (K.written out.new)) }
-    ensures fault { IfErr result (HasFaultCause ⊥ (λ why. ⊥)
-        (Rose (S.faults input.old) (S.faults input.new))
-        (Rose (K.faults out.old) (K.faults out.new))
-        (TookAll budget (S.left input.old) (S.left input.new))) }
-{
-    let mut reader = LineReader::build(alloc, budget)?;
-    answer_lines(alloc, service, &mut reader, input, out)?;
-    write_table(alloc, service, out)?;
-    Ok(())
-}
 
 /// Reads the words, loads the feed that they ask for, and answers the input.
 fn run_words<F: Feed, S: Source, K: Sink>(
@@ -90,16 +57,16 @@ fn run_words<F: Feed, S: Source, K: Sink>(
         (S.faults input.new))
         (Rose (K.faults out.old) (K.faults out.new))
         (TookAll budget (S.left input.old) (S.left input.new))) }
-    ensures stopped { IfErr result
-        (WhereLinesStop (WritesReplies times_output (map string_bytes words.now) (F.tables feed.old)
-        (S.left input.old) (S.left input.new)
-        (K.written out.old) (K.written out.new))) }
+    ensures stopped { (result ≡ Err faults.ReadFault) ⊎ (result ≡ Err faults.TooLong)
+        → WritesReplies times_output (map string_bytes words.now) (F.tables feed.old)
+        (S.left input.old) (S.left input.new) (K.written out.old) (K.written out.new) }
     ensures front { WritesFront times_output (map string_bytes words.now) (F.tables feed.old)
         (S.left input.old) (K.written out.old) (K.written out.new) }
 {
     let asked = read_words(alloc, words)?;
     let mut service = load(alloc, &asked, feed)?;
-    run_lines(alloc, &mut service, input, out, budget)
+    write_output(alloc, &mut service, input, out, budget)?;
+    Ok(())
 }
 
 /// Writes why a feed is refused.
@@ -158,13 +125,10 @@ pub fn run_times<F: Feed, S: Source, K: Sink, E: Sink>(
 ) -> Status
     requires budget { 1 ≤ budget }
     ensures contract { MeetsContract times_output budget (map string_bytes words.now)
-        (feed_seen (F.tables feed.old) (F.faults feed.old) (F.faults feed.new))
-        (input_seen (S.left input.old) (S.left input.new) (S.faults input.old)
-        (S.faults input.new))
-        (output_seen (K.written out.old) (K.written out.new) (K.faults out.old)
-        (K.faults out.new))
-        (output_seen (E.written err.old) (E.written err.new) (E.faults err.old)
-        (E.faults err.new))
+        (feed_seen F.tables F.faults feed.old feed.new)
+        (stream_seen S.left S.faults input.old input.new)
+        (stream_seen K.written K.faults out.old out.new)
+        (stream_seen E.written E.faults err.old err.new)
         feed.old feed.new input.old input.new out.old out.new result }
 {
     let run = run_words(alloc, words, feed, input, out, budget);
@@ -193,13 +157,10 @@ pub fn traind_within<
 ) -> Status
     requires budget { 1 ≤ budget }
     ensures contract { MeetsContract times_output budget (map string_bytes words.now)
-        (feed_seen (F.tables feed.old) (F.faults feed.old) (F.faults feed.new))
-        (input_seen (S.left input.old) (S.left input.new) (S.faults input.old)
-        (S.faults input.new))
-        (output_seen (K.written out.old) (K.written out.new) (K.faults out.old)
-        (K.faults out.new))
-        (output_seen (E.written err.old) (E.written err.new) (E.faults err.old)
-        (E.faults err.new))
+        (feed_seen F.tables F.faults feed.old feed.new)
+        (stream_seen S.left S.faults input.old input.new)
+        (stream_seen K.written K.faults out.old out.new)
+        (stream_seen E.written E.faults err.old err.new)
         feed.old feed.new input.old input.new out.old out.new result }
 {
     run_times(alloc, words, feed, input, out, err, budget)
@@ -220,13 +181,10 @@ pub fn traind<R: Threads + Wait + Sync, F: Feed, S: Source, K: Sink, E: Sink, G:
     gate: &G,
 ) -> Status
     ensures contract { MeetsContract times_output byte_budget (map string_bytes words.now)
-        (feed_seen (F.tables feed.old) (F.faults feed.old) (F.faults feed.new))
-        (input_seen (S.left input.old) (S.left input.new) (S.faults input.old)
-        (S.faults input.new))
-        (output_seen (K.written out.old) (K.written out.new) (K.faults out.old)
-        (K.faults out.new))
-        (output_seen (E.written err.old) (E.written err.new) (E.faults err.old)
-        (E.faults err.new))
+        (feed_seen F.tables F.faults feed.old feed.new)
+        (stream_seen S.left S.faults input.old input.new)
+        (stream_seen K.written K.faults out.old out.new)
+        (stream_seen E.written E.faults err.old err.new)
         feed.old feed.new input.old input.new out.old out.new result }
 {
     traind_within(rt, alloc, words, feed, input, out, err, gate, BYTE_BUDGET)

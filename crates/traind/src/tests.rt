@@ -37,24 +37,43 @@ T2,08:36:00,08:36:00,B2,1
 T2,09:10:00,09:10:00,D,2
 ";
 
-/// All times as scheduled.
-const SCHEDULED: &str = "trip,date,call,stop,event,scheduled,time
-T1,20260105,0,A,dep,08:00:00,08:00:00
+/// The first line of each table of times.
+const HEADER: &str = "trip,date,call,stop,event,scheduled,time\n";
+
+/// The times of T1 as scheduled.
+const T1: &str = "T1,20260105,0,A,dep,08:00:00,08:00:00
 T1,20260105,1,B1,arr,08:30:00,08:30:00
 T1,20260105,1,B1,dep,08:32:00,08:32:00
 T1,20260105,2,C,arr,09:00:00,09:00:00
-T2,20260105,0,B2,dep,08:36:00,08:36:00
-T2,20260105,1,D,arr,09:10:00,09:10:00
 ";
 
-/// All times where T1 leaves A at 08:10:00.
-const LATE: &str = "trip,date,call,stop,event,scheduled,time
-T1,20260105,0,A,dep,08:00:00,08:10:00
+/// The times of T1 where it leaves A at 08:10:00.
+const T1_LATE: &str = "T1,20260105,0,A,dep,08:00:00,08:10:00
 T1,20260105,1,B1,arr,08:30:00,08:37:54
 T1,20260105,1,B1,dep,08:32:00,08:38:54
 T1,20260105,2,C,arr,09:00:00,09:04:57
-T2,20260105,0,B2,dep,08:36:00,08:36:00
+";
+
+/// The times of T1 where it arrives at B1 at 08:38:01, and no ride is made faster.
+const T1_MISSED: &str = "T1,20260105,0,A,dep,08:00:00,08:00:00
+T1,20260105,1,B1,arr,08:30:00,08:38:01
+T1,20260105,1,B1,dep,08:32:00,08:39:01
+T1,20260105,2,C,arr,09:00:00,09:07:01
+";
+
+/// The times of T2 as scheduled.
+const T2: &str = "T2,20260105,0,B2,dep,08:36:00,08:36:00
 T2,20260105,1,D,arr,09:10:00,09:10:00
+";
+
+/// The times of T2 where it waits for T1, which leaves A at 08:10:00.
+const T2_HELD: &str = "T2,20260105,0,B2,dep,08:36:00,08:40:54
+T2,20260105,1,D,arr,09:10:00,09:12:32
+";
+
+/// The times of X1 where it has left A at 09:25:00.
+const X1: &str = "X1,20260105,0,A,dep,09:20:00,09:25:00
+X1,20260105,1,D,arr,10:00:00,10:02:12
 ";
 
 /// T1 leaves A at 08:10:00.
@@ -99,34 +118,6 @@ const BACKWARDS_REPLY: &str =
     "{\"from\":{\"call\":0,\"date\":\"20260105\",\"event\":\"dep\",\"trip\":\"X1\"},\"line\":1,\"refused\":\"AgainstRank\",\"to\":{\"call\":1,\"date\":\"20260105\",\"event\":\"arr\",\"trip\":\"X1\"}}
 ";
 
-/// All times where X1 has left A at 09:25:00.
-const WITH_EXTRA: &str = "trip,date,call,stop,event,scheduled,time
-T1,20260105,0,A,dep,08:00:00,08:00:00
-T1,20260105,1,B1,arr,08:30:00,08:30:00
-T1,20260105,1,B1,dep,08:32:00,08:32:00
-T1,20260105,2,C,arr,09:00:00,09:00:00
-T2,20260105,0,B2,dep,08:36:00,08:36:00
-T2,20260105,1,D,arr,09:10:00,09:10:00
-X1,20260105,0,A,dep,09:20:00,09:25:00
-X1,20260105,1,D,arr,10:00:00,10:02:12
-";
-
-/// All times where T1 does not run.
-const WITHOUT_T1: &str = "trip,date,call,stop,event,scheduled,time
-T2,20260105,0,B2,dep,08:36:00,08:36:00
-T2,20260105,1,D,arr,09:10:00,09:10:00
-";
-
-/// All times where T1 has left A at 08:10:00 and T2 waits for it.
-const HELD: &str = "trip,date,call,stop,event,scheduled,time
-T1,20260105,0,A,dep,08:00:00,08:10:00
-T1,20260105,1,B1,arr,08:30:00,08:37:54
-T1,20260105,1,B1,dep,08:32:00,08:38:54
-T1,20260105,2,C,arr,09:00:00,09:04:57
-T2,20260105,0,B2,dep,08:36:00,08:40:54
-T2,20260105,1,D,arr,09:10:00,09:12:32
-";
-
 /// The replies to a report, an earlier one behind it, a kept connection, and a flush.
 const REPLIES: &str = "{\"accepted\":1,\"changed\":4,\"line\":1}
 {\"event\":{\"call\":0,\"date\":\"20260105\",\"event\":\"dep\",\"trip\":\"T1\"},\"line\":2,\"refused\":\"Contradiction\",\"reported\":\"08:10:00\"}
@@ -150,16 +141,6 @@ const QUERY_REPLIES: &str =
     "{\"after\":0,\"arrives\":\"09:10:00\",\"line\":1,\"rides\":[{\"alight\":{\"call\":1,\"stop\":\"B1\",\"time\":\"08:30:00\"},\"board\":{\"call\":0,\"stop\":\"A\",\"time\":\"08:00:00\"},\"date\":\"20260105\",\"trip\":\"T1\"},{\"alight\":{\"call\":1,\"stop\":\"D\",\"time\":\"09:10:00\"},\"board\":{\"call\":0,\"stop\":\"B2\",\"time\":\"08:36:00\"},\"date\":\"20260105\",\"trip\":\"T2\"}]}
 {\"accepted\":1,\"changed\":3,\"line\":2}
 {\"after\":1,\"arrives\":null,\"line\":3}
-";
-
-/// All times where T1 arrives at B1 at 08:38:01, and no ride is made faster.
-const MISSED_TIMES: &str = "trip,date,call,stop,event,scheduled,time
-T1,20260105,0,A,dep,08:00:00,08:00:00
-T1,20260105,1,B1,arr,08:30:00,08:38:01
-T1,20260105,1,B1,dep,08:32:00,08:39:01
-T1,20260105,2,C,arr,09:00:00,09:07:01
-T2,20260105,0,B2,dep,08:36:00,08:36:00
-T2,20260105,1,D,arr,09:10:00,09:10:00
 ";
 
 /// Queries from a station to its platform, from a place that is not there, and on a day that is not
@@ -227,22 +208,38 @@ fn output(alloc: Global) -> Result<MemSink, Fail> {
     Ok(MemSink::build(alloc, 4_096, Vec::new(alloc))?)
 }
 
+/// A run of these words over this feed, on this input and output, with ample memory.
+fn run_over(
+    alloc: Global,
+    words: &[String],
+    feed: &mut MemFeed,
+    input: &mut MemSource,
+    mut out: MemSink,
+) -> Result<Ended, Fail> {
+    let mut err = output(alloc)?;
+    let status = run_times(alloc, words, feed, input, &mut out, &mut err, 1_000_000);
+    Ok(Ended { status, out, err })
+}
+
 /// A run on this input and output with ample memory.
-fn run(alloc: Global, mut input: MemSource, mut out: MemSink) -> Result<Ended, Fail> {
+fn run(alloc: Global, mut input: MemSource, out: MemSink) -> Result<Ended, Fail> {
     let words = words(alloc)?;
     let mut feed = feed(alloc, STOP_TIMES.as_bytes())?;
-    let mut err = output(alloc)?;
-    let status = run_times(
-        alloc, &words, &mut feed, &mut input, &mut out, &mut err, 1_000_000,
-    );
-    Ok(Ended { status, out, err })
+    run_over(alloc, &words, &mut feed, &mut input, out)
+}
+
+/// Whether a run on this text goes well, with this output.
+fn has_output(alloc: Global, text: &str, want: &str) -> Result<bool, Fail> {
+    let ended = run(alloc, input(alloc, text)?, output(alloc)?)?;
+    Ok(is_end(&ended, Status::Ok, want, ""))
 }
 
 #[test]
 fn scheduled_times_without_input(rt: HostRuntime) -> Result<(), Fail> {
     let alloc = rt.alloc();
-    let ended = run(alloc, input(alloc, "")?, output(alloc)?)?;
-    assert!(rt; is_end(&ended, Status::Ok, SCHEDULED, ""));
+    let want = format!(in alloc; "{HEADER}{T1}{T2}")?;
+    let is_right = has_output(alloc, "", want.as_str())?;
+    assert!(rt; is_right);
     let words = words(alloc)?;
     let mut feed = feed(alloc, STOP_TIMES.as_bytes())?;
     let mut input = input(alloc, "")?;
@@ -251,7 +248,7 @@ fn scheduled_times_without_input(rt: HostRuntime) -> Result<(), Fail> {
     let status = traind(
         &rt, alloc, &words, &mut feed, &mut input, &mut out, &mut err, &NoGate,
     );
-    assert!(rt; is_end(&Ended { status, out, err }, Status::Ok, SCHEDULED, ""));
+    assert!(rt; is_end(&Ended { status, out, err }, Status::Ok, want.as_str(), ""));
     Ok(())
 }
 
@@ -259,18 +256,18 @@ fn scheduled_times_without_input(rt: HostRuntime) -> Result<(), Fail> {
 fn lines_are_answered(rt: HostRuntime) -> Result<(), Fail> {
     let alloc = rt.alloc();
     let unknown = "{\"line\":1,\"refused\":\"Unknown\"}\n";
-    for (line, reply, table) in [
-        (FORECAST, ACCEPTED, LATE),
-        (NO_TRAIN, unknown, SCHEDULED),
-        (REPORT, ACCEPTED, LATE),
-        (CANCEL, ACCEPTED, WITHOUT_T1),
-        (EXTRA, EXTRA_REPLIES, WITH_EXTRA),
-        (BACKWARDS, BACKWARDS_REPLY, SCHEDULED),
+    for (line, reply, first, last) in [
+        (FORECAST, ACCEPTED, T1_LATE, ""),
+        (NO_TRAIN, unknown, T1, ""),
+        (REPORT, ACCEPTED, T1_LATE, ""),
+        (CANCEL, ACCEPTED, "", ""),
+        (EXTRA, EXTRA_REPLIES, T1, X1),
+        (BACKWARDS, BACKWARDS_REPLY, T1, ""),
     ] {
         let text = format!(in alloc; "{line}\n")?;
-        let want = format!(in alloc; "{reply}{table}")?;
-        let ended = run(alloc, input(alloc, text.as_str())?, output(alloc)?)?;
-        assert!(rt; is_end(&ended, Status::Ok, want.as_str(), ""), "{line}");
+        let want = format!(in alloc; "{reply}{HEADER}{first}{T2}{last}")?;
+        let is_right = has_output(alloc, text.as_str(), want.as_str())?;
+        assert!(rt; is_right, "{line}");
     }
     Ok(())
 }
@@ -280,9 +277,9 @@ fn reports_and_kept_connections(rt: HostRuntime) -> Result<(), Fail> {
     let alloc = rt.alloc();
     let flush = r#"{"v":1,"type":"flush"}"#;
     let text = format!(in alloc; "{REPORT}\n{EARLIER}\n{KEEP}\n{flush}")?;
-    let want = format!(in alloc; "{REPLIES}{HELD}")?;
-    let ended = run(alloc, input(alloc, text.as_str())?, output(alloc)?)?;
-    assert!(rt; is_end(&ended, Status::Ok, want.as_str(), ""));
+    let want = format!(in alloc; "{REPLIES}{HEADER}{T1_LATE}{T2_HELD}")?;
+    let is_right = has_output(alloc, text.as_str(), want.as_str())?;
+    assert!(rt; is_right);
     Ok(())
 }
 
@@ -294,24 +291,20 @@ fn query_before_and_after_a_missed_connection(rt: HostRuntime) -> Result<(), Fai
         words.push(String::from_str(alloc, word)?)?;
     }
     let text = format!(in alloc; "{QUERY}\n{MISSED}\n{QUERY}\n")?;
-    let want = format!(in alloc; "{QUERY_REPLIES}{MISSED_TIMES}")?;
+    let want = format!(in alloc; "{QUERY_REPLIES}{HEADER}{T1_MISSED}{T2}")?;
     let mut feed = feed(alloc, STOP_TIMES.as_bytes())?;
     let mut input = input(alloc, text.as_str())?;
-    let mut out = output(alloc)?;
-    let mut err = output(alloc)?;
-    let status = traind(
-        &rt, alloc, &words, &mut feed, &mut input, &mut out, &mut err, &NoGate,
-    );
-    assert!(rt; is_end(&Ended { status, out, err }, Status::Ok, want.as_str(), ""));
+    let ended = run_over(alloc, &words, &mut feed, &mut input, output(alloc)?)?;
+    assert!(rt; is_end(&ended, Status::Ok, want.as_str(), ""));
     Ok(())
 }
 
 #[test]
 fn queries_that_take_no_train(rt: HostRuntime) -> Result<(), Fail> {
     let alloc = rt.alloc();
-    let want = format!(in alloc; "{SHORT_REPLIES}{SCHEDULED}")?;
-    let ended = run(alloc, input(alloc, SHORT_QUERIES)?, output(alloc)?)?;
-    assert!(rt; is_end(&ended, Status::Ok, want.as_str(), ""));
+    let want = format!(in alloc; "{SHORT_REPLIES}{HEADER}{T1}{T2}")?;
+    let is_right = has_output(alloc, SHORT_QUERIES, want.as_str())?;
+    assert!(rt; is_right);
     Ok(())
 }
 
@@ -321,19 +314,9 @@ fn no_table(rt: HostRuntime) -> Result<(), Fail> {
     let words = words(alloc)?;
     let mut feed = MemFeed::build(alloc, Vec::new(alloc));
     let mut input = input(alloc, FORECAST)?;
-    let mut out = output(alloc)?;
-    let mut err = output(alloc)?;
-    let status = run_times(
-        alloc, &words, &mut feed, &mut input, &mut out, &mut err, 1_000_000,
-    );
-    assert!(rt;
-        is_end(
-            &Ended { status, out, err },
-            Status::FeedRefused,
-            "",
-            "traind: feed refused: missing stops.txt\n"
-        )
-    );
+    let ended = run_over(alloc, &words, &mut feed, &mut input, output(alloc)?)?;
+    let told = "traind: feed refused: missing stops.txt\n";
+    assert!(rt; is_end(&ended, Status::FeedRefused, "", told));
     let mut reader = LineReader::build(alloc, 1_000)?;
     match reader.next(&mut input) {
         Next::Line(left) => assert_eq!(rt; left, FORECAST.as_bytes()),
@@ -357,7 +340,7 @@ fn read_that_fails_in_mid_line(rt: HostRuntime) -> Result<(), Fail> {
 #[test]
 fn each_write_that_fails(rt: HostRuntime) -> Result<(), Fail> {
     let alloc = rt.alloc();
-    let want = format!(in alloc; "{ACCEPTED}{LATE}")?;
+    let want = format!(in alloc; "{ACCEPTED}{HEADER}{T1_LATE}{T2}")?;
     for number in 0..1_000 {
         let sink = MemSink::build(alloc, 4_096, vec![in alloc; number]?)?;
         let ended = run(alloc, input(alloc, FORECAST)?, sink)?;
@@ -385,12 +368,7 @@ fn table_cut_at_every_byte(rt: HostRuntime) -> Result<(), Fail> {
     for length in 0..table.len() {
         let mut feed = feed(alloc, &table[..length])?;
         let mut input = input(alloc, "")?;
-        let mut out = output(alloc)?;
-        let mut err = output(alloc)?;
-        let status = run_times(
-            alloc, &words, &mut feed, &mut input, &mut out, &mut err, 1_000,
-        );
-        let ended = Ended { status, out, err };
+        let ended = run_over(alloc, &words, &mut feed, &mut input, output(alloc)?)?;
         if ended.status == Status::Ok {
             assert!(rt; ended.err.bytes().is_empty(), "{length} bytes");
         } else {
@@ -413,7 +391,8 @@ fn longest_line(rt: HostRuntime) -> Result<(), Fail> {
         bytes.extend_from_slice(b"\n")?;
         let source = MemSource::build(bytes, 1_000, Vec::new(alloc));
         let ended = run(alloc, source, output(alloc)?)?;
-        let want = format!(in alloc; "{{\"bad\":\"{word}\",\"line\":1}}\n{accepted}{LATE}")?;
+        let bad = format!(in alloc; "{{\"bad\":\"{word}\",\"line\":1}}\n")?;
+        let want = format!(in alloc; "{bad}{accepted}{HEADER}{T1_LATE}{T2}")?;
         assert!(rt;
             is_end(&ended, Status::Ok, want.as_str(), ""),
             "{length} bytes"
@@ -427,7 +406,8 @@ fn input_of_as_many_bytes_as_are_taken(rt: HostRuntime) -> Result<(), Fail> {
     let alloc = rt.alloc();
     let words = words(alloc)?;
     let text = format!(in alloc; "{FORECAST}\n{NO_TRAIN}")?;
-    let whole = format!(in alloc; "{ACCEPTED}{{\"line\":2,\"refused\":\"Unknown\"}}\n{LATE}")?;
+    let unknown = "{\"line\":2,\"refused\":\"Unknown\"}\n";
+    let whole = format!(in alloc; "{ACCEPTED}{unknown}{HEADER}{T1_LATE}{T2}")?;
     for (more, end, want, line) in [
         (0u8, Status::TooLong, ACCEPTED, "traind: input too long\n"),
         (1, Status::Ok, whole.as_str(), ""),

@@ -32,34 +32,31 @@ returns-in-End-clause-all g c =
     let got = none_more c.next.result next.End c.in-End.is refl a.2 (λ is. ap g.S.Source.left (c.next.ensures.ended is)) c.next.follows.holds-at-none in
     (got.0, a.1, got.2, got.1)
 
-pub returns-in-ReadFault-clause-stopped : goal.returns-in-ReadFault-clause-stopped
-returns-in-ReadFault-clause-stopped g c =
-    let a = c.loop-number.invariant.answered in
+pub returns-in-ReadFault : goal.returns-in-ReadFault
+returns-in-ReadFault g c =
+    let inv = c.loop-number.invariant in
+    let a = inv.answered in
     let got = none_more c.next.result next.ReadFault c.in-ReadFault.is refl a.2 (λ is. ap g.S.Source.left (c.next.ensures.ended is)) c.next.follows.holds-at-none in
-    (got.0, a.1, stops got.0 a.1 c.next.follows.lender-at-none got.1.lines_so_far got.2.ended got.2.none, got.1)
+    record {
+      all = tt;
+      stopped = (got.0, a.1, stops got.0 a.1 c.next.follows.lender-at-none got.1.taken.lines_so_far got.2.ended got.2.none, got.1);
+      begun = (got.0, a.1, begun_by got.1);
+      fault = omega (arith, inv.read, c.next.ensures.read_fault c.in-ReadFault.is);
+      later = (omega (arith, inv.read, c.next.ensures.later), inv.write);
+    }
 
-pub returns-in-ReadFault-clause-begun : goal.returns-in-ReadFault-clause-begun
-returns-in-ReadFault-clause-begun g c =
-    let a = c.loop-number.invariant.answered in
-    let got = none_more c.next.result next.ReadFault c.in-ReadFault.is refl a.2 (λ is. ap g.S.Source.left (c.next.ensures.ended is)) c.next.follows.holds-at-none in
-    (got.0, a.1, begun_by got.1)
-
-pub returns-in-Budget-clause-stopped : goal.returns-in-Budget-clause-stopped
-returns-in-Budget-clause-stopped g c =
-    let a = c.loop-number.invariant.answered in
+pub returns-in-Budget : goal.returns-in-Budget
+returns-in-Budget g c =
+    let inv = c.loop-number.invariant in
+    let a = inv.answered in
     let got = none_more c.next.result next.Budget c.in-Budget.is refl a.2 (λ is. ap g.S.Source.left (c.next.ensures.ended is)) c.next.follows.holds-at-none in
-    (got.0, a.1, stops got.0 a.1 c.next.follows.lender-at-none got.1.lines_so_far got.2.ended got.2.none, got.1)
-
-pub returns-in-Budget-clause-begun : goal.returns-in-Budget-clause-begun
-returns-in-Budget-clause-begun g c =
-    let a = c.loop-number.invariant.answered in
-    let got = none_more c.next.result next.Budget c.in-Budget.is refl a.2 (λ is. ap g.S.Source.left (c.next.ensures.ended is)) c.next.follows.holds-at-none in
-    (got.0, a.1, begun_by got.1)
-
-pub returns-in-Budget-clause-fault : goal.returns-in-Budget-clause-fault
-returns-in-Budget-clause-fault g c =
-    let got = none_more c.next.result next.Budget c.in-Budget.is refl c.loop-number.invariant.answered.2 (λ is. ap g.S.Source.left (c.next.ensures.ended is)) c.next.follows.holds-at-none in
-    (got.0, got.1.source, sym got.1.lines_so_far.taken ∙ got.2.taken ∙ c.next.follows.holds-at-none.0.1.budget ∙ c.loop-number.invariant.budget)
+    record {
+      all = tt;
+      stopped = (got.0, a.1, stops got.0 a.1 c.next.follows.lender-at-none got.1.taken.lines_so_far got.2.ended got.2.none, got.1);
+      begun = (got.0, a.1, begun_by got.1);
+      fault = (got.0, got.1.taken.source, sym got.1.taken.lines_so_far.taken ∙ got.2.taken ∙ c.next.follows.holds-at-none.0.1.budget ∙ inv.budget);
+      later = (omega (arith, inv.read, c.next.ensures.later), inv.write);
+    }
 
 pub loop-number-preserved : goal.loop-number-preserved
 loop-number-preserved g c =

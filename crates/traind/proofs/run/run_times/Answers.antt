@@ -1,12 +1,11 @@
 use Rattle.std.proofs.Common.{◌≡◌, ◌∙◌, ◌≤◌, ℕ, List, length, Option, Some, None, Result, Ok, Err, ap, inl, inr, ◌⊎◌, arith}
 use Rattle.std.proofs.lemmas.List.{length-append}
-use Rattle.std.proofs.lemmas.Option.{none-some}
+use Rattle.std.proofs.lemmas.Option.{none-some, same_Some}
 use Rattle.std.specs.Io.KnownBytes.{Consumes}
-use Rattle.information_service.proofs.Ends.{some-same}
 use Rattle.mt_io.specs.Causes.{Rose}
 use Rattle.gtfs_tables.specs.declared.refusals.FeedRefusal.{FeedRefusal}
 use Rattle.std.specs.Prelude.{IfErr, OnOk}
-use Rattle.traind.specs.Causes.{HasFaultCause, WhereLinesStop}
+use Rattle.traind.specs.Causes.{HasFaultCause}
 use Rattle.traind.specs.Statuses.{status_of}
 use Rattle.traind.specs.declared.status.Fault.{Fault}
 use Rattle.traind.specs.declared.status.Fault.TheVariants as faults
@@ -40,14 +39,15 @@ ended-well (Err faults.TooLong) s usage refused read write long (inl is) cause n
 few-taken : (left now : Option (List ℕ)) (bytes all : List ℕ) → Consumes left now bytes → left ≡ Some all → length bytes ≤ length all
 few-taken None now bytes all source is = absurd (none-some all is)
 few-taken (Some xs) None bytes all source is = absurd source
-few-taken (Some xs) (Some ys) bytes all source is = omega (arith, ap length (some-same xs all is), ap length source, length-append bytes ys)
+few-taken (Some xs) (Some ys) bytes all source is = omega (arith, ap length (same_Some xs all is), ap length source, length-append bytes ys)
 
 -- what holds of a run that went well
 went-well : (run : Result (Unit {0}) Fault) (s : Status) (P : Type 0) → (s ≡ status_of run) ⊎ (s ≡ statuses.Memory) → s ≡ statuses.Ok → OnOk run P → P
 went-well run s P h is p = grind arith
 
 -- and of one that stopped where a read failed or the input is too long
-was-stopped : (run : Result (Unit {0}) Fault) (s : Status) (P : Type 0) → (s ≡ status_of run) ⊎ (s ≡ statuses.Memory) → (s ≡ statuses.ReadFault) ⊎ (s ≡ statuses.TooLong) → IfErr run (WhereLinesStop P) → P
+was-stopped : (run : Result (Unit {0}) Fault) (s : Status) (P : Type 0) → (s ≡ status_of run) ⊎ (s ≡ statuses.Memory) → (s ≡ statuses.ReadFault) ⊎ (s ≡ statuses.TooLong)
+    → ((run ≡ Err faults.ReadFault) ⊎ (run ≡ Err faults.TooLong) → P) → P
 was-stopped run s P h is p = grind arith
 
 pub returns : goal.returns

@@ -1,0 +1,104 @@
+//! Queries while every request for memory is refused.
+
+ghost use Rattle.std.specs.Prelude.{◌≡◌, ◌<◌, ◌≤◌, length};
+
+mod exhaustion;
+mod small_feed;
+
+use crate::tests::exhaustion::{BLOCKS, is_all_refused, take_all};
+use crate::tests::small_feed::{PLACES, timetable};
+use conn_scan::{Found, Scratch, earliest};
+use mt_base::memory::OutOfMemory;
+use mt_base::numbers::{StopNo, Time};
+use mt_base::journeys::Query;
+use std::alloc::Global;
+use std::marker::Brand;
+use std::sync::ledger::{Blank, Ledger};
+use std::test::*;
+use timetable::Timetable;
+use train_nodes::Steps;
+
+/// Whether there is a journey from one place to another from 08:00:00 on.
+fn is_reached<L: Ledger>(
+    timetable: &Timetable,
+    scratch: &mut Scratch,
+    from: u32,
+    to: u32,
+    steps: &mut Steps<L>,
+) -> bool
+    requires stops { length timetable.now.network.stops ≤ scratch.old.stops }
+    ensures stops { scratch.new.stops ≡ scratch.old.stops }
+{
+    let query = Query {
+        from_stop: StopNo::new(from),
+        to_stop: StopNo::new(to),
+        time: Time::new(28_800),
+    };
+    earliest(timetable, &query, scratch, steps) != Found::NoWay
+}
+
+/// Between how many pairs of places there is a journey.
+fn count_reached<L: Ledger>(timetable: &Timetable, scratch: &mut Scratch, blank: Blank) -> u32
+    requires stops { length timetable.now.network.stops ≤ scratch.old.stops }
+    requires name { blank.name ≡ L.name }
+    requires parts { blank.parts ≡ L.parts }
+    requires some { 0 < blank.parts }
+{
+    let mut steps = Steps::<L>::open(blank);
+    let mut reached = 0_u32;
+    for pair in 0..PLACES * PLACES {
+        if is_reached(timetable, scratch, pair / PLACES, pair % PLACES, &mut steps) {
+            reached = reached.saturating_add(1);
+        }
+    }
+    reached
+}
+
+/// What the queries gave, and whether every request was refused before and after them.
+#[derive(Clone, Copy, Debug, PartialEq, Eq)]
+struct Outcome {
+    reached: u32,
+    is_refused: bool,
+}
+
+/// Takes all memory that is left, and asks for journeys between all pairs of places.
+fn query(
+    alloc: Global,
+    timetable: &Timetable,
+    scratch: &mut Scratch,
+    taken: &mut Vec<Vec<u8>>,
+) -> Outcome
+    requires stops { length timetable.now.network.stops ≤ scratch.old.stops }
+{
+    take_all(alloc, taken);
+    let is_refused = is_all_refused(alloc);
+    let reached = count_reached::<Brand>(timetable, scratch, Blank::new(1));
+    Outcome {
+        reached,
+        is_refused: is_refused && is_all_refused(alloc),
+    }
+}
+
+/// Makes what queries want beforehand, and asks them without memory.
+fn query_without_memory(alloc: Global, timetable: &Timetable) -> Result<Outcome, OutOfMemory> {
+    let stops = timetable.graph().changes().stops();
+    let mut taken = Vec::with_capacity(alloc, BLOCKS)?;
+    let mut scratch = Scratch::build(alloc, stops, 2)?;
+    Ok(query(alloc, timetable, &mut scratch, &mut taken))
+}
+
+/// Loads the timetable, and asks queries of it without memory.
+fn load_and_query(alloc: Global) -> Result<Outcome, Fail> {
+    let timetable = timetable(alloc)?;
+    Ok(query_without_memory(alloc, &timetable)?)
+}
+
+/// Memory runs out only where the process may have less than is taken, so the test says whether
+/// it did.
+#[test]
+fn queries_want_no_memory(rt: HostRuntime) -> Result<(), Fail> {
+    let outcome = load_and_query(rt.alloc())?;
+    assert_eq!(rt; outcome.reached, 23);
+    println!(rt; "every request was refused: {}", outcome.is_refused)?;
+    Ok(())
+}
