@@ -7,13 +7,13 @@ use Rattle.std.specs.Prelude.{slice_index, slice_get}
 use Rattle.std.specs.List.{filter, dedup}
 use Rattle.std.specs.List.Sorted.{IsNonDecreasingBy}
 use Rattle.mt_base.specs.declared.tables.TransferRow.{TransferRow}
-use Rattle.feed_tables.proofs.OrderLemmas.{tie}
+use Rattle.feed_tables.proofs.OrderLemmas.{stays, tie}
 use Rattle.feed_tables.proofs.TripRowLemmas.{part-is}
 use Rattle.change_times.proofs.CutLemmas.{IsPart}
 use Rattle.change_times.specs.Stored.{from_of, to_of, is_from, is_to, is_same_pair, row_bounds, IsByPair, IsIndexed, HaveSameFirsts}
 use Rattle.change_times.proofs.PairLemmas.{first-stays}
 use Rattle.change_times.proofs.TableLemmas.{find-head}
-use Rattle.change_times.proofs.SortLemmas.{Between, between-order, between-part, stays}
+use Rattle.change_times.proofs.SortLemmas.{Between, between-order, between-part}
 
 -- a row from a location to another
 abbrev pub row_between : ℕ → ℕ → TransferRow

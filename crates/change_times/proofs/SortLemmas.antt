@@ -1,13 +1,12 @@
 -- Lists in the order of a number: the part of one number, and what a stable sort keeps.
 use Rattle.std.proofs.Common.{rules, ◌≡◌, ℕ, suc, zero, ◌-◌, ◌<◌, ◌≤◌, List, [], ◌∷◌, true, false, cond, nat_eq, None, Some, find, length, get_or, take, drop, refl, sym, ◌∙◌, ap, arith, inl, inr}
 use Rattle.std.proofs.Math.Dec.{ltb, leb}
-use Rattle.std.proofs.lemmas.Bool.{cases_lt, cases_order, ltb-false, ltb-true, leb-true, leb-false}
-use Rattle.std.proofs.lemmas.List.Elements.{filter_agree}
+use Rattle.std.proofs.lemmas.Bool.{cases_lt, ltb-false, ltb-true, leb-true, leb-false}
 use Rattle.std.specs.Prelude.{slice_get, if◌then◌else◌}
 use Rattle.std.specs.List.{filter}
 use Rattle.std.specs.List.Sorted.{IsPartitionPoint, IsNonDecreasingBy}
 use Rattle.change_times.specs.Stored.{of_number}
-use Rattle.feed_tables.proofs.OrderLemmas.{tie, tie-same, tie-less, tie-more}
+use Rattle.feed_tables.proofs.OrderLemmas.{eq-same, eq-less, eq-more}
 use Rattle.feed_tables.proofs.TripRowLemmas.{part-is}
 
 -- where the elements of a number begin, and where they end
@@ -36,15 +35,6 @@ between-part key k xs start end order h =
     omega (arith, a, b))
     (λ i d m n. leb-false _ _ (h.end.1 i d (omega (arith, m, order)) n))
 
-eq-same : (a b : ℕ) → a ≡ b → nat_eq a b ≡ true
-eq-same a b e = search rules
-
-eq-less : (a b : ℕ) → a < b → nat_eq a b ≡ false
-eq-less a b l = search rules
-
-eq-more : (a b : ℕ) → b < a → nat_eq a b ≡ false
-eq-more a b l = search rules
-
 none-above : {X : Type 0} (key : X → ℕ) (k : ℕ) (xs : List X) → ((j : ℕ) (d : X) → j < length xs → k < key (get_or xs j d)) → find (λ y. nat_eq (key y) k) xs ≡ None
 none-above key k [] high = refl
 none-above key k (x ∷ xs) high =
@@ -67,19 +57,3 @@ first-is key k (x ∷ xs) zero rises low high =
           ap (λ b. cond b (Some x) (find (λ y. nat_eq (key y) k) xs)) same
           ∙ sym (ap (λ b. if b then Some x else None) same)
     ]
-
-tie-is : {X : Type 0} (key : X → ℕ) (z x : X) → tie key z x ≡ nat_eq (key x) (key z)
-tie-is key z x =
-    elim (cases_order (key z) (key x)) [
-      | inl e ↦ tie-same key z x e ∙ sym (eq-same (key x) (key z) (sym e))
-      | inr o ↦
-          elim o [
-            | inl l ↦ tie-less key z x l ∙ sym (eq-more (key x) (key z) l)
-            | inr l ↦ tie-more key z x l ∙ sym (eq-less (key x) (key z) l)
-          ]
-    ]
-
--- a stable sort leaves the elements of one number in their order
-pub stays : {X : Type 0} (key : X → ℕ) (xs ys : List X) (z : X) → filter (tie key z) ys ≡ filter (tie key z) xs → filter (λ x. nat_eq (key x) (key z)) ys ≡ filter (λ x. nat_eq (key x) (key z)) xs
-stays key xs ys z same =
-    sym (filter_agree (tie key z) (λ x. nat_eq (key x) (key z)) (tie-is key z) ys) ∙ same ∙ filter_agree (tie key z) (λ x. nat_eq (key x) (key z)) (tie-is key z) xs

@@ -3,7 +3,8 @@ use Rattle.std.specs.Prelude.{ℕ, List, [], ◌∷◌, ◌&&◌, nat_le, if◌t
 use Rattle.std.specs.declared.option.Option.{Option}
 use Rattle.clap.specs.Words.{Row, Text, fault_of, first_of, matches_of}
 use Rattle.clap.specs.Walk.{is_empty}
-use Rattle.gtfs_tables.specs.Fields.{date_of, number_of}
+use Rattle.mt_base.specs.Texts.{date_of}
+use Rattle.gtfs_tables.specs.Fields.{number_of}
 use Rattle.mt_base.specs.declared.options.Opts.{Opts}
 use Rattle.command_words.specs.Times.{times_app}
 

@@ -9,6 +9,7 @@ ghost use Rattle.command_words.specs.Words.{first_date, number_within, options_o
 use clap::ArgMatches;
 use gtfs_tables::fields;
 use mt_base::Opts;
+use mt_base::texts;
 
 /// The value of an argument: the one that the words give, or else its default.
 pub(crate) fn value<'a>(given: &ArgMatches<'a>, name: &str) -> Option<&'a str>
@@ -37,7 +38,7 @@ pub(crate) fn first_date(given: &ArgMatches<'_>) -> Option<u32>
     ensures civil { IfSome result IsCivil }
     ensures year { IfSome result (λ date. date < 21010000) }
 {
-    let date = fields::date(value(given, "from")?.as_bytes());
+    let date = texts::date(value(given, "from")?.as_bytes());
     date.filter(|date| *date >= 19_000_101 && *date <= 21_001_231)
 }
 

@@ -91,7 +91,7 @@ module _ (nw : Network) (st : State) (q : Query) where
     there_by-later : (best : Option PlanRide) (s t : ℕ) → s ≤ t → IsThereBy best s → IsThereBy best t
     there_by-later best s t le h = let by = h.2 in (h.0, h.1, omega arith)
 
-    module _ (at_stops : AreAtStops nw st) (access : ℕ → Option Access) (best : Option PlanRide) (ended : IsAtEnd nw st q access best) where
+    module _ (at_stops : AreAtStops nw.stops st) (access : ℕ → Option Access) (best : Option PlanRide) (ended : IsAtEnd nw st q access best) where
       -- the best ride is there by the time that a ride departs, or the ride was taken
       by_taking : (r : PlanRide) (arrives : ℕ) → IsPossible nw st access r → q.time ≤ r.board_time → r.board_time ≤ arrives → (IsTaken nw q access best r → IsThereBy best arrives) → IsThereBy best arrives
       by_taking r arrives possible from until taking =
@@ -119,7 +119,7 @@ module _ (nw : Network) (st : State) (q : Query) where
           let can = ended.origin r.board_stop r.board_time (ride-at_stop nw st at_stops r h.0) h.1 in
           goes-there rs r arrives (h.0, can) (origin-from (is_one_station nw q.from_stop r.board_stop) r.board_stop r.board_time h.1) h.2
 
-    module _ (at_stops : AreAtStops nw st) (access : ℕ → Option Access) (apart : is_one_station nw q.from_stop q.to_stop ≡ false) where
+    module _ (at_stops : AreAtStops nw.stops st) (access : ℕ → Option Access) (apart : is_one_station nw q.from_stop q.to_stop ≡ false) where
       pub found : (r : PlanRide) (rides : List PlanRide) → IsAtEnd nw st q access (Some r) → IsWayBack access r rides → IsEarliest nw st q (reverse (r ∷ rides)) r.alight_time
       found r rides ended way =
           let best = ended.best_there in

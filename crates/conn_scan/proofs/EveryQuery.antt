@@ -19,7 +19,7 @@ module _ (nw : Network) (st : State) (q : Query) (valid : IsValid nw st) where
   abbrev IsAnswered : Type 0
   IsAnswered = ((rides : List PlanRide) × (arrives : ℕ) × IsEarliest nw st q rides arrives) ⊎ HasNoJourney nw st q
 
-  module _ (at_stops : AreAtStops nw st) where
+  module _ (at_stops : AreAtStops nw.stops st) where
     by-scan : is_one_station nw q.from_stop q.to_stop ≡ false → (access : ℕ → Option Access) (best : Option PlanRide) → IsAtEnd nw st q access best → IsAnswered
     by-scan apart access None ended = inr (none nw st q valid at_stops access apart ended)
     by-scan apart access (Some r) ended =

@@ -119,7 +119,7 @@ ride-forward nw st valid r ride =
     omega arith
 
 -- a ride begins at a stop, where every call is at one
-pub ride-at_stop : (nw : Network) (st : State) → AreAtStops nw st → (r : PlanRide) → IsRide nw st r → is_stop nw.stops r.board_stop ≡ true
+pub ride-at_stop : (nw : Network) (st : State) → AreAtStops nw.stops st → (r : PlanRide) → IsRide nw st r → is_stop nw.stops r.board_stop ≡ true
 ride-at_stop nw st at_stops r ride =
     let IsAtStop : Call → Type 0 = λ c. is_stop nw.stops c.stop ≡ true in
     let Each : Train → Type 0 = λ t. All IsAtStop t.calls in

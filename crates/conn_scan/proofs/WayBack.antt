@@ -78,7 +78,7 @@ module _ (nw : Network) (st : State) (q : Query) (valid : IsValid nw st) (access
       (way-apart way b back.1 (before.0, before.1))
 
   -- so it has no more rides than there are stops
-  way-short : AreAtStops nw st → (way : List PlanRide) (r : PlanRide) → IsWayBack access r way → IsPossible nw st access r → length (r ∷ way) ≤ length nw.stops
+  way-short : AreAtStops nw.stops st → (way : List PlanRide) (r : PlanRide) → IsWayBack access r way → IsPossible nw st access r → length (r ∷ way) ≤ length nw.stops
   way-short at_stops way r back possible =
       apart-fit (r ∷ way) (length nw.stops) (way-apart way r back possible)
       (All-weaker (IsUntil r.board_time) (λ (s : PlanRide). s.board_stop < length nw.stops) (λ s h. stop-within nw.stops s.board_stop (ride-at_stop nw st at_stops s h.0.0)) (r ∷ way) (way-each way r back possible))
@@ -124,10 +124,10 @@ module _ (access : ℕ → Option Access) (last : PlanRide) where
     way-smaller rides r before way next = earlier r before (way-can rides r way) (sym next)
 
     -- there is room for the last ride, and for one more where there is one
-    pub last-fits : AreAtStops nw st → IsPossible nw st access last → 0 < length nw.stops
+    pub last-fits : AreAtStops nw.stops st → IsPossible nw st access last → 0 < length nw.stops
     last-fits at_stops possible = let within = stop-within nw.stops last.board_stop (ride-at_stop nw st at_stops last possible.0) in omega arith
 
-    pub way-fits : AreAtStops nw st → IsPossible nw st access last → (rides : List PlanRide) (r : PlanRide) → IsOnWay access last rides (Some r) → length rides < length nw.stops
+    pub way-fits : AreAtStops nw.stops st → IsPossible nw st access last → (rides : List PlanRide) (r : PlanRide) → IsOnWay access last rides (Some r) → length rides < length nw.stops
     way-fits at_stops possible rides r way =
         let rest = way-back nw st q valid access explained (r.board_time + 1) r (omega arith) (way-can rides r way) in
         let whole = way.leads (r ∷ rest.0) (sym way.next, rest.1) in

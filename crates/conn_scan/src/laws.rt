@@ -44,7 +44,7 @@ pub fn the_way_back_ends(nw: &Network, st: &State)
 /// the way back from it; and where none was found there is no journey.
 pub fn a_scan_finds_the_earliest(nw: &Network, st: &State)
     requires valid { IsValid nw.now st.now }
-    requires at_stops { AreAtStops nw.now st.now }
+    requires at_stops { AreAtStops nw.now.stops st.now }
     ensures at_once { (q : AQuery) → is_one_station nw.now q.from_stop q.to_stop ≡ true
         → IsEarliest nw.now st.now q [] q.time }
     ensures found { (q : AQuery) (access : ℕ → Option Access) (r : APlanRide)
@@ -60,7 +60,7 @@ pub fn a_scan_finds_the_earliest(nw: &Network, st: &State)
 /// Every query has an answer: a journey such that none arrives earlier, or there is none.
 pub fn every_query_has_an_answer(nw: &Network, st: &State)
     requires valid { IsValid nw.now st.now }
-    requires at_stops { AreAtStops nw.now st.now }
+    requires at_stops { AreAtStops nw.now.stops st.now }
     ensures { (q : AQuery) → ((rides : List APlanRide) × (arrives : ℕ)
         × IsEarliest nw.now st.now q rides arrives) ⊎ HasNoJourney nw.now st.now q }
 {}

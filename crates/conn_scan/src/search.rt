@@ -71,7 +71,7 @@ pub(crate) fn trace(
 )
     // a valid timetable, and the stations of the query
     requires valid { IsValid t.now.network t.now.state }
-    requires at_stops { AreAtStops t.now.network t.now.state }
+    requires at_stops { AreAtStops t.now.network.stops t.now.state }
     requires stations { HasStations t.now.network asked.now }
 
     // how each stop was reached, and a last ride that is possible

@@ -48,7 +48,7 @@ events-at_stops nw train route (c ∷ cs) h =
     All-cons P (arrival_of train route c) (departure_of train route c ∷ rest) (h 0 c (omega arith))
     (All-cons P (departure_of train route c) rest (h 0 c (omega arith)) (events-at_stops nw train route cs (λ k d l. h (suc k) d (omega arith))))
 
-all-at_stops : (nw : Network) (st : State) → AreAtStops nw st → All (λ v. is_stop nw.stops v.stop ≡ true) (events st)
+all-at_stops : (nw : Network) (st : State) → AreAtStops nw.stops st → All (λ v. is_stop nw.stops v.stop ≡ true) (events st)
 unfolding events
 all-at_stops nw st h =
     events-from_each (λ v. is_stop nw.stops v.stop ≡ true) 0 st.trains (λ k at t e got.
@@ -65,7 +65,7 @@ along-changes g n shift = each (event_named g.state n) where
   each None = All-nil P
   each (Some v) = All-filter (λ e. is_same e.from v.key) P (train_edges g.network.opts 0 g.state.trains) (train_edges-each g.network.opts g.state P (λ u w h. refl))
 
-module _ (g : GraphState) (index : Indexed) (n : Node) (v : Event) (labels : All HasOwnLabels g.state.trains) (stops : AreAtStops g.network g.state) (is : IsIndexOf g.state index) (named : event_named g.state n ≡ Some v) where
+module _ (g : GraphState) (index : Indexed) (n : Node) (v : Event) (labels : All HasOwnLabels g.state.trains) (stops : AreAtStops g.network.stops g.state) (is : IsIndexOf g.state index) (named : event_named g.state n ≡ Some v) where
   at-stop : is_stop g.network.stops v.stop ≡ true
   at-stop =
       let r = there g.state n v named in
@@ -111,7 +111,7 @@ index-events st index labels is =
 -- what holds of a graph as it is seen
 pub record Holds (a : Inside) (g : GraphState) : Type 0 where
   pub labels : All HasOwnLabels g.state.trains
-  pub stops : AreAtStops g.network g.state
+  pub stops : AreAtStops g.network.stops g.state
   pub index : IsIndexOf g.state a.index
   pub entries : HaveEvents g.state a.index.entries
 

@@ -7,5 +7,5 @@ use Rattle.edge_rules.specs.Inside.{HasOwnLabels, IsConsistent, network_of}
 use Rattle.edge_rules.specs.Indexing.{IsIndexOf}
 use Rattle.edge_rules.specs.declared.graph.Graph.TheInside.{Inside}
 
-pub consistent-after : (a : Inside) (st : State) (index : Indexed) → IsConsistent a → All HasOwnLabels st.trains → AreAtStops (network_of a.changes a.waits a.opts) st → IsIndexOf st index → IsConsistent (record a { trains = st; index = index })
+pub consistent-after : (a : Inside) (st : State) (index : Indexed) → IsConsistent a → All HasOwnLabels st.trains → AreAtStops a.changes.stops st → IsIndexOf st index → IsConsistent (record a { trains = st; index = index })
 consistent-after a st index h labels at_stops is = record { options = h.options; default = h.default; parents = h.parents; labels = labels; at_stops = at_stops; index = is }

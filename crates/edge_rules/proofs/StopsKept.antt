@@ -32,11 +32,11 @@ module _ (stops : List StopRow) where
   new-each label [] h = All-nil At
   new-each label (c ∷ cs) h = grind (arith, elements, new-each (label + 1) cs)
 
-  begin-each : (cs : List Call) → All At cs → All At (begin_run cs)
+  pub begin-each : (cs : List Call) → All At cs → All At (begin_run cs)
   begin-each [] h = h
   begin-each (c ∷ cs) h = All-cons At (change_event false (killed true) c) cs (h 0 c (omega arith)) (λ i d l. h (suc i) d (omega arith))
 
-  end-each : (cs : List Call) → All At cs → All At (end_run cs)
+  pub end-each : (cs : List Call) → All At cs → All At (end_run cs)
   end-each [] h = h
   end-each (c ∷ []) h = All-cons At (change_event true (killed true) c) [] (h 0 c (omega arith)) (All-nil At)
   end-each (c ∷ d ∷ ds) h = All-cons At c (end_run (d ∷ ds)) (h 0 c (omega arith)) (end-each (d ∷ ds) (λ i d l. h (suc i) d (omega arith)))
@@ -48,20 +48,20 @@ module _ (stops : List StopRow) where
       let back = All-from At (is_call to) t.calls h in
       grind (arith, elements)
 
-pub set-stops : (nw : Network) (st : State) (n : Node) (f : EventValues → EventValues) → AreAtStops nw st → AreAtStops nw (with_event n f st)
+pub set-stops : (nw : Network) (st : State) (n : Node) (f : EventValues → EventValues) → AreAtStops nw.stops st → AreAtStops nw.stops (with_event n f st)
 set-stops nw st n f h = change-each nw.stops n.train _ (mapped nw.stops _ (labelled-stop n.label n.dep f)) st.trains h
 
-pub cancel-stops : (nw : Network) (st : State) (train from to : ℕ) → AreAtStops nw st → AreAtStops nw (effect st (Cancel train from to))
+pub cancel-stops : (nw : Network) (st : State) (train from to : ℕ) → AreAtStops nw.stops st → AreAtStops nw.stops (effect st (Cancel train from to))
 unfolding effect
 cancel-stops nw st train from to h =
     change-each nw.stops train _ (mapped nw.stops (kill_in (stretch st train from to) train) (λ c. refl)) st.trains h
 
-pub reroute-stops : (nw : Network) (st : State) (train from to : ℕ) (via : List NewCall) → are_at_stops nw via ≡ true → AreAtStops nw st → AreAtStops nw (effect st (Reroute train from to via))
+pub reroute-stops : (nw : Network) (st : State) (train from to : ℕ) (via : List NewCall) → are_at_stops nw via ≡ true → AreAtStops nw.stops st → AreAtStops nw.stops (effect st (Reroute train from to via))
 unfolding effect
 reroute-stops nw st train from to via new h =
     change-each nw.stops train (rerouted from to via) (reroute-each nw.stops from to via new) st.trains h
 
-pub extra-stops : (nw : Network) (st : State) (train day route : ℕ) (calls : List NewCall) → are_at_stops nw calls ≡ true → AreAtStops nw st → AreAtStops nw (effect st (Extra train day route calls))
+pub extra-stops : (nw : Network) (st : State) (train day route : ℕ) (calls : List NewCall) → are_at_stops nw calls ≡ true → AreAtStops nw.stops st → AreAtStops nw.stops (effect st (Extra train day route calls))
 unfolding effect
 extra-stops nw st train day route calls new h =
     All-append (OnStops nw.stops) st.trains (new_train day route calls ∷ []) h

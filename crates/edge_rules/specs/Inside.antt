@@ -37,5 +37,5 @@ pub record IsConsistent (a : Inside) : Type 0 where
   pub default : a.changes.default ≡ a.opts.change
   pub parents : a.waits.parents ≡ map parent_station a.changes.stops
   pub labels : All HasOwnLabels a.trains.trains
-  pub at_stops : AreAtStops (network_of a.changes a.waits a.opts) a.trains
+  pub at_stops : AreAtStops a.changes.stops a.trains
   pub index : IsIndexOf a.trains a.index

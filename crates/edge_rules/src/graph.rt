@@ -94,7 +94,7 @@ impl Graph {
         requires default { changes.default ≡ opts.change }
         requires parents { waits.parents ≡ map parent_station changes.stops }
         requires labels { All HasOwnLabels trains.trains }
-        requires at_stops { AreAtStops (network_of changes waits opts) trains }
+        requires at_stops { AreAtStops changes.stops trains }
         ensures { IfOk result (λ graph.
             graph ≡ record { network = network_of changes waits opts; state = trains }) }
     {
@@ -131,7 +131,7 @@ impl Graph {
 
     /// A law: every call of every train is at a stop or platform.
     pub fn calls_are_at_stops(&self)
-        ensures { AreAtStops self.now.network self.now.state }
+        ensures { AreAtStops self.now.network.stops self.now.state }
     {
         let _ = &self.trains;
     }

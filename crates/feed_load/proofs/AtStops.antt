@@ -20,7 +20,8 @@ use Rattle.train_nodes.specs.Loaded.{table_call, table_calls}
 use Rattle.schedule_build.specs.declared.runs.Run.{Run}
 use Rattle.schedule_build.specs.Schedule.{run_calls, run_train, schedule_of}
 use Rattle.schedule_build.specs.TripCalls.{call_at, timed_calls}
-use Rattle.feed_load.specs.Loaded.{AreAtStops}
+use Rattle.edge_rules.specs.AtStops.{AreAtStops, IsAtStop}
+use Rattle.edge_rules.proofs.StopsKept.{begin-each, end-each}
 
 kind-stop : (o : Option StopRow) → IsSomeAnd o (λ s. s.kind ≡ Platform) → option_map_or is_platform (option_map (λ (row : StopRow). row.kind) o) false ≡ true
 kind-stop None h = absurd h
@@ -36,9 +37,6 @@ module _ (stops : List StopRow) where
   abbrev TableAt : TableCall → Type 0
   TableAt c = At c.stop
 
-  abbrev CallAt : Call → Type 0
-  CallAt c = At c.stop
-
   timed-one : (day : ℕ) (r : CallRow) (times : Option (ℕ × ℕ)) (cs : List TableCall) → RowAt r → All TableAt cs → All TableAt (cons_option (option_map (call_at day r) times) cs)
   timed-one day r None cs at h = h
   timed-one day r (Some times) cs at h = All-cons TableAt (call_at day r times) cs at h
@@ -47,32 +45,23 @@ module _ (stops : List StopRow) where
   timed-each day [] h = All-nil TableAt
   timed-each day (r ∷ rs) h = timed-one day r (both_times r.arr r.dep) (timed_calls day rs) (All-head RowAt r rs h) (timed-each day rs (All-tail RowAt r rs h))
 
-  table-each : (label : ℕ) (cs : List TableCall) → All TableAt cs → All CallAt (table_calls label cs)
-  table-each label [] h = All-nil CallAt
-  table-each label (c ∷ cs) h = All-cons CallAt (table_call label c) (table_calls (label + 1) cs) (All-head TableAt c cs h) (table-each (label + 1) cs (All-tail TableAt c cs h))
+  table-each : (label : ℕ) (cs : List TableCall) → All TableAt cs → All (IsAtStop stops) (table_calls label cs)
+  table-each label [] h = All-nil (IsAtStop stops)
+  table-each label (c ∷ cs) h = All-cons (IsAtStop stops) (table_call label c) (table_calls (label + 1) cs) (All-head TableAt c cs h) (table-each (label + 1) cs (All-tail TableAt c cs h))
 
-  begin-each : (cs : List Call) → All CallAt cs → All CallAt (begin_run cs)
-  begin-each [] h = h
-  begin-each (c ∷ cs) h = All-cons CallAt (change_event false (killed true) c) cs (All-head CallAt c cs h) (All-tail CallAt c cs h)
-
-  end-each : (cs : List Call) → All CallAt cs → All CallAt (end_run cs)
-  end-each [] h = h
-  end-each (c ∷ []) h = All-cons CallAt (change_event true (killed true) c) [] (All-head CallAt c [] h) (All-nil CallAt)
-  end-each (c ∷ d ∷ ds) h = All-cons CallAt c (end_run (d ∷ ds)) (All-head CallAt c (d ∷ ds) h) (end-each (d ∷ ds) (All-tail CallAt c (d ∷ ds) h))
-
-  run-each : (calls : List CallRow) → All RowAt calls → (r : Run) → All CallAt (run_train calls r).calls
+  run-each : (calls : List CallRow) → All RowAt calls → (r : Run) → All (IsAtStop stops) (run_train calls r).calls
   run-each calls h r =
       let rows = in_order-all RowAt sequence (rows_of calls r.trip) (All-filter (λ c. nat_eq (trip_of c) r.trip) RowAt calls h) in
-      begin-each _ (end-each _ (table-each 0 (run_calls calls r) (timed-each r.day (in_order sequence (rows_of calls r.trip)) rows)))
+      begin-each stops _ (end-each stops _ (table-each 0 (run_calls calls r) (timed-each r.day (in_order sequence (rows_of calls r.trip)) rows)))
 
 -- where each row is at a stop or platform, each call is
 pub schedule-at-stops : (stops : List StopRow) (calls : List CallRow) (rs : List Run) (o : Opts) → All (λ r. HasKind stops Platform r.stop) calls → AreAtStops stops (schedule_of calls rs o)
 schedule-at-stops stops calls rs o h =
     let rows = All-weaker (λ (r : CallRow). HasKind stops Platform r.stop) (RowAt stops) (λ r at. kind-stop (slice_get stops r.stop) at) calls h in
-    All-map (λ (t : Train). All (CallAt stops) t.calls) (run_train calls) rs (λ i d l. run-each stops calls rows (get_or rs i d))
+    All-map (λ (t : Train). All (IsAtStop stops) t.calls) (run_train calls) rs (λ i d l. run-each stops calls rows (get_or rs i d))
 
 -- it is so of the locations without their ids, which are of the same types
-pub same-kinds : (stops kept : List StopRow) (ts : List Train) → ((a : ℕ) → kind_of kept a ≡ kind_of stops a) → All (λ (t : Train). All (CallAt stops) t.calls) ts → All (λ (t : Train). All (CallAt kept) t.calls) ts
+pub same-kinds : (stops kept : List StopRow) (ts : List Train) → ((a : ℕ) → kind_of kept a ≡ kind_of stops a) → All (λ (t : Train). All (IsAtStop stops) t.calls) ts → All (λ (t : Train). All (IsAtStop kept) t.calls) ts
 same-kinds stops kept ts same h =
-    All-weaker (λ (t : Train). All (CallAt stops) t.calls) (λ (t : Train). All (CallAt kept) t.calls)
-    (λ t at. All-weaker (CallAt stops) (CallAt kept) (λ c own. ap (λ o. option_map_or is_platform o false) (same c.stop) ∙ own) t.calls at) ts h
+    All-weaker (λ (t : Train). All (IsAtStop stops) t.calls) (λ (t : Train). All (IsAtStop kept) t.calls)
+    (λ t at. All-weaker (IsAtStop stops) (IsAtStop kept) (λ c own. ap (λ o. option_map_or is_platform o false) (same c.stop) ∙ own) t.calls at) ts h

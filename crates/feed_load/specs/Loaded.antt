@@ -1,16 +1,12 @@
 -- What a feed gives: the state of its timetable with the names, or the first cause to refuse it.
-use Rattle.std.specs.Prelude.{◌≡◌, ℕ, List, true, Option, None, Some, Result, Ok, Err, All}
+use Rattle.std.specs.Prelude.{ℕ, Option, None, Some, Result, Ok, Err}
 use Rattle.mt_base.specs.declared.options.Opts.{Opts}
-use Rattle.mt_base.specs.declared.tables.StopRow.{StopRow}
 use Rattle.mt_base.specs.declared.tables.Tables.{Tables}
 use Rattle.mt_base.specs.declared.tables.What.{What}
 use Rattle.mt_base.specs.declared.tables.What.TheVariants.{Pairs}
 use Rattle.change_times.specs.ChangeTables.{tables_of}
 use Rattle.change_times.specs.Reach.{pairs}
-use Rattle.delay_model.specs.declared.state.Call.{Call}
-use Rattle.delay_model.specs.declared.state.Train.{Train}
 use Rattle.delay_model.specs.declared.state.State.{State}
-use Rattle.delay_model.specs.Changes.{is_stop}
 use Rattle.gtfs_tables.specs.declared.refusals.FeedRefusal.{FeedRefusal}
 use Rattle.gtfs_tables.specs.declared.refusals.FeedRefusal.TheVariants.{TooMany}
 use Rattle.gtfs_tables.specs.declared.refusals.FeedError.{FeedError}
@@ -57,8 +53,3 @@ loaded contents first days o = do
 abbrev pub schedule_error : ExpandFault → FeedError
 schedule_error (build.TooMany what) = Refused (TooMany what)
 schedule_error build.OutOfMemory = OutOfMemory
-
--- every call of every train is at a stop or platform
-abbrev pub AreAtStops : List StopRow → State → Type 0
-AreAtStops stops st = All (λ (t : Train). All (λ (c : Call). is_stop stops c.stop ≡ true) t.calls)
-    st.trains

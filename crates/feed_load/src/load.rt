@@ -11,13 +11,14 @@ ghost use Rattle.delay_model.specs.Events.{events};
 ghost use Rattle.delay_model.specs.Valid.{IsValid};
 ghost use Rattle.change_times.specs.ChangeTables.{HaveSameChanges, tables_of};
 ghost use Rattle.waiting_rules.specs.WaitTable.{parent_station, wait_table};
+ghost use Rattle.edge_rules.specs.AtStops.{AreAtStops};
 ghost use Rattle.edge_rules.specs.Inside.{network_of};
 ghost use Rattle.mt_base.specs.declared.tables.Tables.{Tables as ATables};
 ghost use Rattle.gtfs_tables.specs.Feeds.{at_most, contents_of, tables_of as tables_in};
 ghost use Rattle.gtfs_tables.specs.Refusals.{Gives};
 ghost use Rattle.schedule_build.specs.InStep.{AreInStep};
 ghost use Rattle.schedule_build.specs.Schedule.{schedule};
-ghost use Rattle.feed_load.specs.Loaded.{days_loaded, loaded, schedule_error, tables_loaded, AreAtStops};
+ghost use Rattle.feed_load.specs.Loaded.{days_loaded, loaded, schedule_error, tables_loaded};
 
 use change_times::{BuildFault, Changes};
 use feed_tables::FeedTables;

@@ -1,7 +1,7 @@
 -- Lists in the order of a number of each element: what a stable sort by the number gives, and what the order keeps.
-use Rattle.std.proofs.Common.{rules, ◌≡◌, ℕ, suc, ◌<◌, ◌≤◌, List, [], ◌∷◌, Bool, true, false, nat_le, cond, All, length, get_or, refl, sym, ◌∙◌, ap, subst, arith, inl, inr}
+use Rattle.std.proofs.Common.{rules, ◌≡◌, ℕ, suc, ◌<◌, ◌≤◌, List, [], ◌∷◌, Bool, true, false, nat_eq, nat_le, cond, All, length, get_or, refl, sym, ◌∙◌, ap, subst, arith, inl, inr}
 use Rattle.std.proofs.lemmas.Bool.{cases_Bool, cases_lt, cases_order, cond_both}
-use Rattle.std.proofs.lemmas.List.Elements.{All-cons, All-head, All-tail}
+use Rattle.std.proofs.lemmas.List.Elements.{All-cons, All-head, All-tail, filter_agree}
 use Rattle.std.specs.List.{filter}
 use Rattle.std.specs.List.Sorted.{ties, IsNonDecreasingBy}
 use Rattle.std.specs.Ordering.{nat_cmp, is_lt}
@@ -24,6 +24,23 @@ tie-less key x y l = search rules
 
 pub tie-more : {X : Type 0} (key : X → ℕ) (x y : X) → key y < key x → tie key x y ≡ false
 tie-more key x y l = search rules
+
+pub eq-same : (a b : ℕ) → a ≡ b → nat_eq a b ≡ true
+eq-same a b e = search rules
+
+pub eq-less : (a b : ℕ) → a < b → nat_eq a b ≡ false
+eq-less a b l = search rules
+
+pub eq-more : (a b : ℕ) → b < a → nat_eq a b ≡ false
+eq-more a b l = search rules
+
+tie-is : {X : Type 0} (key : X → ℕ) (z x : X) → tie key z x ≡ nat_eq (key x) (key z)
+tie-is key z x = grind arith
+
+-- a stable sort leaves the elements of one number in their order
+pub stays : {X : Type 0} (key : X → ℕ) (xs ys : List X) (z : X) → filter (tie key z) ys ≡ filter (tie key z) xs → filter (λ x. nat_eq (key x) (key z)) ys ≡ filter (λ x. nat_eq (key x) (key z)) xs
+stays key xs ys z same =
+    sym (filter_agree (tie key z) (λ x. nat_eq (key x) (key z)) (tie-is key z) ys) ∙ same ∙ filter_agree (tie key z) (λ x. nat_eq (key x) (key z)) (tie-is key z) xs
 
 pub put-before : {X : Type 0} (key : X → ℕ) (x y : X) (ys : List X) → key x ≤ key y → put key x (y ∷ ys) ≡ x ∷ y ∷ ys
 put-before key x y ys l = search rules

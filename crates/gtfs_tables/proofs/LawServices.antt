@@ -12,7 +12,7 @@ use Rattle.gtfs_tables.specs.Calendar.{Calendar, calendar_columns, calendar_of, 
 use Rattle.gtfs_tables.specs.CalendarDates.{Dates, calendar_dates_of, date_columns, date_step, with_date}
 use Rattle.gtfs_tables.specs.declared.faults.Cause.TheVariants.{BadDate, DuplicateKey}
 use Rattle.gtfs_tables.specs.Checks.{fault}
-use Rattle.gtfs_tables.specs.Fields.{date_of, eight_digits}
+use Rattle.mt_base.specs.Texts.{date_of, eight_digits}
 use Rattle.gtfs_tables.specs.Numbers.{number_in, names_with}
 use Rattle.gtfs_tables.proofs.LawNames.{with-name}
 use Rattle.gtfs_tables.proofs.LawSteps.{check-ok, ok-same, bind-ok, need-ok, table-keeps, tested}

@@ -8,7 +8,8 @@ use Rattle.gtfs_tables.specs.declared.columns.Column.TheVariants.{ServiceId, Mon
 use Rattle.gtfs_tables.specs.declared.faults.Cause.TheVariants.{BadNumber, BadDate, DuplicateKey}
 use Rattle.gtfs_tables.specs.declared.faults.Fault.{Fault}
 use Rattle.gtfs_tables.specs.Checks.{Step, fault, need, check, table_from, ◌>>=◌}
-use Rattle.gtfs_tables.specs.Fields.{digit_within, date_of}
+use Rattle.mt_base.specs.Texts.{date_of}
+use Rattle.gtfs_tables.specs.Fields.{digit_within}
 use Rattle.gtfs_tables.specs.Numbers.{number_in, names_with}
 
 -- the columns that the table needs, in the order of their checks

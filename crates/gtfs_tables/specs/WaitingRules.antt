@@ -10,7 +10,8 @@ use Rattle.gtfs_tables.specs.declared.columns.Column.TheVariants.{FeederRouteId,
 use Rattle.gtfs_tables.specs.declared.faults.Cause.TheVariants.{BadNumber, UnknownReference}
 use Rattle.gtfs_tables.specs.declared.faults.Fault.{Fault}
 use Rattle.gtfs_tables.specs.Checks.{Step, fault, need, table_from, ◌>>=◌}
-use Rattle.gtfs_tables.specs.Fields.{number_of, below}
+use Rattle.mt_base.specs.Texts.{below}
+use Rattle.gtfs_tables.specs.Fields.{number_of}
 use Rattle.gtfs_tables.specs.Numbers.{number_from, number_in, names_with}
 use Rattle.gtfs_tables.specs.Stops.{stop_ids}
 

@@ -18,7 +18,7 @@ use Rattle.message_reader.specs.declared.wire.Line.TheVariants.{Message, Query}
 use Rattle.message_reader.specs.declared.wire.WireQuery.{WireQuery}
 use Rattle.message_reader.specs.declared.wire.WireTime.{WireTime}
 use Rattle.schedule_build.specs.Directory.{Names, day_named, base_of}
-use Rattle.message_reader.specs.Fields.{digit, two, below, clock, seconds_of, eight_digits, date_of}
+use Rattle.mt_base.specs.Texts.{digit, two, below, clock, seconds_of, eight_digits, date_of}
 use Rattle.message_reader.specs.Kinds.{kind_of}
 use Rattle.message_reader.specs.Lines.{head_of, message_of, said_by_value}
 use Rattle.message_reader.specs.Messages.{event_of, cancel_of, ref_texts, ref_of, connect_of, call_texts, call_of, calls_shape, calls_of, count, reroute_of, extra_of}

@@ -12,7 +12,8 @@ use Rattle.train_nodes.specs.declared.kinds.ValueKind.{ValueKind}
 use Rattle.message_reader.specs.declared.wire.Wire.{Wire}
 use Rattle.message_reader.specs.declared.wire.Wire.TheVariants.{Event, Cancel, Reroute, Extra, Connect}
 use Rattle.message_reader.specs.Chain.{◌>>=◌, need, unless}
-use Rattle.message_reader.specs.Fields.{text_at, label_at, items_at, departure_of, date_of, seconds_of}
+use Rattle.mt_base.specs.Texts.{date_of, seconds_of}
+use Rattle.message_reader.specs.Fields.{text_at, label_at, items_at, departure_of}
 
 -- `forecast` and `report`: a train by `trip` and `date`, a call by its label `call`, `event` and
 -- `time`

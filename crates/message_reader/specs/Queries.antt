@@ -7,7 +7,8 @@ use Rattle.message_reader.specs.declared.bad_line.BadLine.TheVariants.{Shape}
 use Rattle.message_reader.specs.declared.wire.WireQuery.{WireQuery}
 use Rattle.message_reader.specs.declared.wire.WireTime.{WireTime}
 use Rattle.message_reader.specs.Chain.{◌>>=◌, need}
-use Rattle.message_reader.specs.Fields.{text_at, date_of, seconds_of}
+use Rattle.mt_base.specs.Texts.{date_of, seconds_of}
+use Rattle.message_reader.specs.Fields.{text_at}
 
 -- the service day and the time of day of two texts, if the one is eight digits that name a civil
 -- date, and the other is H:MM:SS or HH:MM:SS

@@ -8,10 +8,11 @@ ghost use Rattle.message_reader.specs.Messages.{call_texts, call_of, calls_shape
 ghost use Rattle.message_reader.specs.Wires.{IsWireCall};
 
 use crate::bad_line::{BadLine, LineError};
-use crate::fields::{seconds, text_at};
+use crate::fields::text_at;
 use crate::wire::WireCall;
 use mt_base::names::Name;
 use mt_base::rows::Rows;
+use mt_base::texts::seconds;
 use serde_json::Value;
 use std::alloc::Global;
 

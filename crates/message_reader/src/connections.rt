@@ -9,10 +9,11 @@ ghost use Rattle.message_reader.specs.Messages.{ref_texts, ref_of, connect_of};
 ghost use Rattle.message_reader.specs.Wires.{IsWire};
 
 use crate::bad_line::{BadLine, LineError};
-use crate::fields::{date, label_at, text_at};
+use crate::fields::{label_at, text_at};
 use crate::wire::{Connect, Wire, WireRef};
 use mt_base::names::Name;
 use mt_base::numbers::Label;
+use mt_base::texts::date;
 use serde_json::Value;
 use std::alloc::Global;
 

@@ -7,9 +7,10 @@ ghost use Rattle.message_reader.specs.Messages.{event_of, cancel_of};
 ghost use Rattle.message_reader.specs.Wires.{IsWire};
 
 use crate::bad_line::{BadLine, LineError};
-use crate::fields::{date, departure, label_at, seconds, text_at};
+use crate::fields::{departure, label_at, text_at};
 use crate::wire::Wire;
 use mt_base::names::Name;
+use mt_base::texts::{date, seconds};
 use serde_json::Value;
 use std::alloc::Global;
 use train_nodes::kinds::ValueKind;

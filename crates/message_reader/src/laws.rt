@@ -6,7 +6,7 @@ ghost use Rattle.message_reader.specs.declared.wire.Wire.{Wire as AWire};
 ghost use Rattle.message_reader.specs.declared.wire.WireQuery.{WireQuery as AQuery};
 ghost use Rattle.message_reader.specs.declared.wire.WireTime.{WireTime as ATime};
 ghost use Rattle.message_reader.specs.declared.wire.Line.TheVariants.{Message, Query};
-ghost use Rattle.message_reader.specs.Fields.{seconds_of, date_of};
+ghost use Rattle.mt_base.specs.Texts.{seconds_of, date_of};
 ghost use Rattle.message_reader.specs.Lines.{said_by_value};
 ghost use Rattle.message_reader.specs.ResolvedQueries.{stop_or_station_named, query_resolved};
 ghost use Rattle.message_reader.specs.Spelled.{time_text, date_text, object_of, query_object, HasLabels};

@@ -7,9 +7,10 @@ ghost use Rattle.message_reader.specs.Queries.{wire_time_of, query_of};
 ghost use Rattle.message_reader.specs.Wires.{IsWireTime, IsWireQuery};
 
 use crate::bad_line::{BadLine, LineError};
-use crate::fields::{date, seconds, text_at};
+use crate::fields::text_at;
 use crate::wire::{WireQuery, WireTime};
 use mt_base::names::Name;
+use mt_base::texts::{date, seconds};
 use serde_json::Value;
 use std::alloc::Global;
 

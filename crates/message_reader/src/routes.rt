@@ -8,9 +8,10 @@ ghost use Rattle.message_reader.specs.Wires.{IsWire};
 
 use crate::bad_line::{BadLine, LineError};
 use crate::calls::{check_calls, read_calls};
-use crate::fields::{date, items_at, label_at, text_at};
+use crate::fields::{items_at, label_at, text_at};
 use crate::wire::Wire;
 use mt_base::names::Name;
+use mt_base::texts::date;
 use serde_json::Value;
 use std::alloc::Global;
 

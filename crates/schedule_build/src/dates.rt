@@ -1,26 +1,11 @@
 //! Civil dates as numbers YYYYMMDD.
 
-ghost use Rattle.std.specs.Prelude.{◌≡◌, ℕ, ◌+◌, ◌<◌, ◌≤◌, ◌/◌, ◌%◌, ◌^◌, pos, ◌+ℤ◌, IfSome, IsSome};
-ghost use Rattle.jiff_core.specs.Date.{IsYmd};
+ghost use Rattle.std.specs.Prelude.{◌≡◌, ℕ, ◌+◌, ◌<◌, ◌≤◌, ◌/◌, ◌%◌, ◌^◌, pos, ◌+ℤ◌};
 ghost use Rattle.mt_base.specs.Civil.{IsCivil};
 ghost use Rattle.schedule_build.specs.Dates.{day_number, weekday_of, next_date, date_after};
 
-use jiff_core::civil::{Date, days_in_month};
-
-/// The date that a number YYYYMMDD names.
-fn date_of(date: u32) -> Option<Date>
-    ensures some { IsCivil date → IsSome result }
-    ensures value { IfSome result (IsYmd (pos (date / 10000)) (pos (date / 100 % 100))
-        (pos (date % 100))) }
-{
-    if date >= 100_000_000 {
-        return None;
-    }
-    let year = (date / 10_000) as i16;
-    let month = (date / 100 % 100) as i8;
-    let day = (date % 100) as i8;
-    Date::new(year, month, day).ok()
-}
+use jiff_core::civil::days_in_month;
+use mt_base::calendar::date_of;
 
 /// The day of the week of a civil date, from 0 for Monday.
 pub(crate) fn weekday(date: u32) -> usize

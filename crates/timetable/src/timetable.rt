@@ -86,7 +86,7 @@ impl Timetable {
         requires valid { IsValid (network_of changes waits opts) trains }
         requires default { changes.default ≡ opts.change }
         requires parents { waits.parents ≡ map parent_station changes.stops }
-        requires at_stops { AreAtStops (network_of changes waits opts) trains }
+        requires at_stops { AreAtStops changes.stops trains }
         requires nodes { length (events trains) + 2 * trains.spare_calls ≤ 2097152 }
         ensures { IfOk result (λ t. t ≡ record {
           network = network_of changes waits opts;
@@ -270,7 +270,7 @@ impl Timetable {
 
     /// Every call of every train is at a stop or platform.
     pub fn calls_are_at_stops(&self)
-        ensures { AreAtStops self.now.network self.now.state }
+        ensures { AreAtStops self.now.network.stops self.now.state }
     {
         self.graph.calls_are_at_stops();
     }

@@ -2,7 +2,7 @@ use Rattle.std.proofs.Common.{◌+◌, ◌*◌, ◌≤◌, length, sym, subst}
 use Rattle.delay_model.specs.declared.state.State.{State}
 use Rattle.delay_model.specs.Events.{events}
 use Rattle.delay_model.specs.Valid.{IsValid}
-use Rattle.feed_load.specs.Loaded.{AreAtStops}
+use Rattle.edge_rules.specs.AtStops.{AreAtStops}
 use Rattle.feed_load.proofs.LoadedDays.{few-nodes}
 use Rattle.feed_load.proofs.load.load_days.Goals as goal
 
