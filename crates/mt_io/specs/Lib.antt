@@ -1,5 +1,6 @@
 pub mod Answers
 pub mod Causes
+pub mod Holding
 pub mod Lines
 pub mod Memory
 pub mod Shelves

@@ -1,9 +1,11 @@
 use crate::{
-    Failed, Feed, FeedFault, FolderFeed, Gate, LineReader, MemFeed, MemSink, MemSource, Next,
-    NoGate, Point, Sink, Source, StdSink, StdSource, SureFeed, SureSink, SureSource, put,
+    Failed, Feed, FeedFault, FolderFeed, Gate, Hold, LineReader, MemFeed, MemSink, MemSource, Next,
+    NoGate, Point, Sink, Source, StdSink, StdSource, SureFeed, SureSink, SureSource, TurnGate, put,
 };
+use std::alloc::{AllocError, Global};
 use std::fs;
 use std::test::Fail;
+use std::thread::join;
 
 fn is_line(next: Next<'_>, want: &str) -> bool {
     match next {
@@ -106,5 +108,96 @@ fn real_readers_and_writers(rt: HostRuntime) -> Result<(), Fail> {
     assert_eq!(rt; unwritable.write(b"x"), Err(Failed));
     assert_eq!(rt; unreadable.read(&mut [0; 4]), Err(Failed));
     assert_eq!(rt; put(&mut StdSink::build(rt.stdout()), b"written\n"), Ok(()));
+    Ok(())
+}
+
+const FEW_TURNS: u64 = 10;
+
+const MANY_TURNS: u64 = 10_000_000;
+
+fn look(line: u64) -> Point {
+    Point::BeforeLook { line }
+}
+
+fn post(line: u64) -> Point {
+    Point::AfterPost { line }
+}
+
+// A gate with one hold, at the look of line 1 until the post of line 2.
+fn look_after_post(alloc: Global) -> Result<TurnGate, AllocError> {
+    let hold = Hold {
+        at: look(1),
+        until: post(2),
+    };
+    TurnGate::build(alloc, vec![in alloc; hold]?, FEW_TURNS)
+}
+
+#[test]
+fn a_hold_expires_where_its_until_does_not_come(rt: HostRuntime) -> Result<(), Fail> {
+    let gate = look_after_post(rt.alloc())?;
+    gate.at(look(2));
+    gate.at(post(1));
+    gate.at(look(1));
+    assert!(rt; gate.expired(), "its wait ran out");
+    gate.at(post(2));
+    gate.at(look(1));
+    assert!(rt; gate.expired(), "a wait that ran out is not forgotten");
+    Ok(())
+}
+
+#[test]
+fn a_hold_does_not_expire_where_its_until_came_first(rt: HostRuntime) -> Result<(), Fail> {
+    let gate = look_after_post(rt.alloc())?;
+    gate.at(post(2));
+    gate.at(look(1));
+    assert!(rt; !gate.expired());
+    let itself = Hold {
+        at: post(1),
+        until: post(1),
+    };
+    let gate = TurnGate::build(rt.alloc(), vec![in rt.alloc(); itself]?, 0)?;
+    gate.at(post(1));
+    assert!(rt;
+        !gate.expired(),
+        "it is noted that a point has come before the wait"
+    );
+    Ok(())
+}
+
+#[test]
+fn a_hold_whose_at_does_not_come_counts_as_expired(rt: HostRuntime) -> Result<(), Fail> {
+    let gate = look_after_post(rt.alloc())?;
+    assert!(rt; gate.expired(), "nothing has come");
+    gate.at(post(2));
+    assert!(rt; gate.expired(), "its until alone has come");
+    let none = TurnGate::build(rt.alloc(), Vec::new(rt.alloc()), FEW_TURNS)?;
+    none.at(look(1));
+    assert!(rt; !none.expired(), "there is no hold");
+    Ok(())
+}
+
+// A gate where the looks of lines 1 and 2 wait for one another.
+fn looks_at_once(alloc: Global, turns: u64) -> Result<TurnGate, AllocError> {
+    let mut holds = Vec::new(alloc);
+    holds.push(Hold {
+        at: look(1),
+        until: look(2),
+    })?;
+    holds.push(Hold {
+        at: look(2),
+        until: look(1),
+    })?;
+    TurnGate::build(alloc, holds, turns)
+}
+
+#[test]
+fn two_threads_wait_for_one_another(rt: HostRuntime) -> Result<(), Fail> {
+    let gate = looks_at_once(rt.alloc(), MANY_TURNS)?;
+    join(&rt, || gate.at(look(1)), || gate.at(look(2)));
+    assert!(rt; !gate.expired(), "two threads");
+    let gate = looks_at_once(rt.alloc(), FEW_TURNS)?;
+    gate.at(look(1));
+    gate.at(look(2));
+    assert!(rt; gate.expired(), "one thread");
     Ok(())
 }

@@ -1,4 +1,5 @@
-//! The real reader, writer and folder. The writer and the folder tell nothing of content, and a
+//! The adapters of the operating system: a source over any reader, a sink over any writer, and a
+//! feed over the folders of the file system. The sink and the feed tell nothing of content, and a
 //! source what the reader below it tells. Each raises its count at each fault.
 ghost use Rattle.std.specs.Prelude.{◌≡◌, None};
 
