@@ -1,19 +1,8 @@
 -- The lists of all locations, and how many pairs they have.
-use Rattle.std.proofs.Common.{◌≡◌, ℕ, zero, suc, ◌+◌, ◌-◌, ◌≤◌, List, [], ◌∷◌, ◌++◌, Bool, true, false, cond, map, length, get_or, refl, sym, subst, ◌∙◌, ap, arith, inl, inr}
-use Rattle.std.proofs.lemmas.Bool.{cases_lt}
+use Rattle.change_times.proofs.Words.{◌≡◌, ℕ, zero, suc, ◌+◌, ◌-◌, ◌≤◌, List, [], ◌∷◌, ◌++◌, Bool, true, false, cond, map, length, get_or, refl, sym, subst, ◌∙◌, ap, arith, inl, inr, cases_lt, map-range_with_len_more, get_or-map-range_with_len, length-map-range_with_len, if◌then◌else◌, filter, range_with_len, sum_by, is_stop, is_stop_or_station, Change, Onward, Back, ChangeTables, listed, reached, reached_back, pairs, IsKept}
 use Rattle.std.proofs.lemmas.List.{map-id, get_or_past}
 use Rattle.std.proofs.lemmas.List.Elements.{filter-append}
-use Rattle.std.proofs.lemmas.List.FromFn.{map-range_with_len_more, get_or-map-range_with_len, length-map-range_with_len}
 use Rattle.std.proofs.lemmas.List.Sums.{sum_by-append}
-use Rattle.std.specs.Prelude.{if◌then◌else◌}
-use Rattle.std.specs.List.{filter, range_with_len, sum_by}
-use Rattle.delay_model.specs.Changes.{is_stop, is_stop_or_station}
-use Rattle.change_times.specs.declared.change.Change.{Change}
-use Rattle.change_times.specs.declared.near.Direction.TheVariants.{Onward, Back}
-use Rattle.change_times.specs.ChangeTables.{ChangeTables}
-use Rattle.change_times.specs.Listed.{listed}
-use Rattle.change_times.specs.Reach.{reached, reached_back, pairs}
-use Rattle.change_times.specs.Stored.{IsKept}
 use Rattle.change_times.proofs.ListedLemmas.{listed-past, no-stop}
 
 -- the stops from which one can change to a stop

@@ -1,8 +1,8 @@
 -- Lists that stand one after the other in one list.
-use Rattle.std.proofs.Common.{◌≡◌, ℕ, zero, suc, ◌-◌, ◌<◌, ◌≤◌, List, [], ◌∷◌, ◌++◌, length, get_or, take, drop, refl, sym, subst, ◌∙◌, ap, arith, length-append, inl, inr}
-use Rattle.std.proofs.lemmas.List.{take_all, drop_at, take-append-le, drop-append-le, length-drop}
-use Rattle.std.proofs.lemmas.Bool.{cases_lt, lt-ltb, le-ltb}
-use Rattle.change_times.specs.Cuts.{cut, AreEnds, bounds_of}
+use Rattle.change_times.proofs.Words.{◌≡◌, ℕ, zero, suc, ◌-◌, ◌<◌, ◌≤◌, List, [], ◌∷◌, ◌++◌, length, get_or, take, drop, refl, sym, subst, ◌∙◌, ap, arith, inl, inr, take_all, cases_lt, lt-ltb, le-ltb, cut}
+use Rattle.std.proofs.Common.{length-append}
+use Rattle.std.proofs.lemmas.List.{drop_at, take-append-le, drop-append-le, length-drop}
+use Rattle.change_times.specs.Cuts.{AreEnds, bounds_of}
 
 start-within : {X : Type 0} (start : ℕ) (ends : List ℕ) (xs : List X) → AreEnds start ends xs → start ≤ length xs
 start-within start [] xs h = omega (arith, h)

@@ -1,20 +1,9 @@
 -- A possible change joins two locations that are near each other.
-use Rattle.std.proofs.Common.{◌≡◌, ℕ, ◌<◌, List, [], ◌∷◌, Bool, true, ◌&&◌, nat_eq, find, map, length, Option, None, Some, refl, sym, subst, ◌∙◌, ap, arith, inl, inr, ◌⊎◌}
-use Rattle.std.proofs.lemmas.Bool.{cases_Bool, and_parts, eqb-true, eq-eqb}
-use Rattle.std.proofs.lemmas.List.{get_or-map, length-map}
-use Rattle.std.proofs.lemmas.List.Elements.{All-contains, Contains-append_left, Contains-append_right}
-use Rattle.std.specs.Prelude.{if◌then◌else◌, cond}
-use Rattle.std.specs.List.{Contains, filter, flat_map}
-use Rattle.std.specs.Option.{option_map_or, option_or}
-use Rattle.mt_base.specs.declared.tables.StopRow.{StopRow}
-use Rattle.mt_base.specs.declared.tables.TransferRow.{TransferRow}
-use Rattle.delay_model.specs.Changes.{station, is_looked_at, is_row_of, first_row, change_by, change_without_row, change}
-use Rattle.delay_model.proofs.Lists.{Contains-cases, Contains-there, Contains-filter}
-use Rattle.change_times.specs.declared.links.Link.{Link}
-use Rattle.change_times.specs.declared.near.Direction.TheVariants.{Onward, Back}
-use Rattle.change_times.specs.declared.near.Nearby.{Nearby}
-use Rattle.change_times.specs.ChangeTables.{ChangeTables}
-use Rattle.change_times.specs.Near.{other_of, others, with_members, linked, near, link_of, HaveMembers, AreOf}
+use Rattle.change_times.proofs.Words.{◌≡◌, ℕ, ◌<◌, List, [], ◌∷◌, Bool, true, ◌&&◌, nat_eq, find, map, length, Option, None, Some, refl, sym, subst, ◌∙◌, ap, arith, inl, inr, ◌⊎◌, cases_Bool, and_parts, eqb-true, eq-eqb, get_or-map, length-map, All-contains, if◌then◌else◌, cond, Contains, filter, flat_map, option_map_or, option_or, StopRow, TransferRow, station, is_looked_at, is_row_of, first_row, change_by, change, Contains-cases, Contains-filter, Link, Onward, Back, Nearby, ChangeTables, other_of, with_members, near, link_of, HaveMembers, AreOf}
+use Rattle.std.proofs.lemmas.List.Elements.{Contains-append_left, Contains-append_right}
+use Rattle.delay_model.specs.Changes.{change_without_row}
+use Rattle.delay_model.proofs.Lists.{Contains-there}
+use Rattle.change_times.specs.Near.{others, linked}
 use Rattle.change_times.specs.Stored.{is_at}
 
 -- the location itself, or its station

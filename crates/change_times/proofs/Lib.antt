@@ -1,3 +1,4 @@
+pub mod Words
 pub mod SortLemmas
 pub mod RowLemmas
 pub mod NearLemmas

@@ -1,25 +1,9 @@
 -- The lists of changes.
-use Rattle.std.proofs.Common.{◌≡◌, ℕ, ◌<◌, ◌≤◌, List, [], Bool, true, false, Option, None, Some, All, IsTrue, IfSome, length, get_or, refl, sym, subst, ap, arith, inl, inr}
-use Rattle.std.proofs.lemmas.Bool.{cases_lt, cond_both}
-use Rattle.std.proofs.lemmas.List.Elements.{All-contains}
+use Rattle.change_times.proofs.Words.{◌≡◌, ℕ, ◌<◌, ◌≤◌, List, [], Bool, true, false, Option, None, Some, All, IsTrue, IfSome, length, get_or, refl, sym, subst, ap, arith, inl, inr, cases_lt, All-contains, if◌then◌else◌, Contains, filter_map, IsStrictlyIncreasing, option_map, option_map_or, Platform, StopRow, is_platform, station, station_by, is_stop, is_looked_at, change, Change, Direction, Onward, Back, Nearby, ChangeTables, change_at, listed, near, links_in, AreOf, IsKept}
+use Rattle.std.proofs.lemmas.Bool.{cond_both}
 use Rattle.std.proofs.lemmas.Option.{slice_get-get_or}
-use Rattle.std.specs.Prelude.{if◌then◌else◌, unwrap_or}
-use Rattle.std.specs.List.{Contains, filter_map}
-use Rattle.std.specs.List.Sorted.{IsStrictlyIncreasing}
-use Rattle.std.specs.Option.{option_map, option_map_or}
-use Rattle.mt_base.specs.declared.places.PlaceKind.TheVariants.{Platform}
-use Rattle.mt_base.specs.declared.tables.StopRow.{StopRow}
-use Rattle.mt_base.specs.Places.{is_platform}
-use Rattle.delay_model.specs.Changes.{station, station_by, is_stop, is_looked_at, change}
-use Rattle.change_times.specs.declared.change.Change.{Change}
-use Rattle.change_times.specs.declared.near.Direction.{Direction}
-use Rattle.change_times.specs.declared.near.Direction.TheVariants.{Onward, Back}
-use Rattle.change_times.specs.declared.near.Nearby.{Nearby}
-use Rattle.change_times.specs.ChangeTables.{ChangeTables}
-use Rattle.change_times.specs.Listed.{change_at, listed}
-use Rattle.change_times.specs.Near.{near, links_in, AreOf}
+use Rattle.std.specs.Prelude.{unwrap_or}
 use Rattle.change_times.specs.Reach.{places}
-use Rattle.change_times.specs.Stored.{IsKept}
 use Rattle.change_times.proofs.JoinLemmas.{AreJoined, IsEnd, change-joins, near-onward, near-back}
 use Rattle.change_times.proofs.TableLemmas.{past-none, row-within}
 use Rattle.change_times.proofs.WalkLemmas.{walk-same, nothing, cases-option}

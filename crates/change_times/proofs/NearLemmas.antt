@@ -1,16 +1,6 @@
 -- What stands near a location.
-use Rattle.std.proofs.Common.{◌≡◌, List, map, length, get_or, sym, subst, arith}
-use Rattle.std.proofs.lemmas.List.{get_or-map, length-map}
+use Rattle.change_times.proofs.Words.{◌≡◌, List, map, length, get_or, sym, subst, arith, get_or-map, length-map, get_or-map-range_with_len, length-map-range_with_len, Contains-permutation, Contains, range_with_len, IsPermutation, StopRow, TransferRow, Link, Direction, link_of, member, HaveMembers, HaveRows}
 use Rattle.std.proofs.lemmas.List.Elements.{Contains-get_or}
-use Rattle.std.proofs.lemmas.List.FromFn.{get_or-map-range_with_len, length-map-range_with_len}
-use Rattle.std.proofs.lemmas.List.Sorted.{Contains-permutation}
-use Rattle.std.specs.List.{Contains, range_with_len}
-use Rattle.std.specs.List.Sorted.{IsPermutation}
-use Rattle.mt_base.specs.declared.tables.StopRow.{StopRow}
-use Rattle.mt_base.specs.declared.tables.TransferRow.{TransferRow}
-use Rattle.change_times.specs.declared.links.Link.{Link}
-use Rattle.change_times.specs.declared.near.Direction.{Direction}
-use Rattle.change_times.specs.Near.{link_of, member, HaveMembers, HaveRows}
 
 pub have-members : (stops : List StopRow) (made links : List Link) → made ≡ map (member stops) (range_with_len 0 (length stops)) → IsPermutation made links → HaveMembers stops links
 have-members stops made links e moved b l =

@@ -1,14 +1,8 @@
 -- Of rows by pair, those that are left where only the first of each pair is kept.
-use Rattle.std.proofs.Common.{◌≡◌, ℕ, suc, ◌<◌, ◌≤◌, List, [], ◌∷◌, Bool, true, false, ◌&&◌, nat_eq, cond, find, Some, All, length, get_or, refl, sym, subst, ◌∙◌, ap, arith, inl, inr}
-use Rattle.std.proofs.lemmas.Bool.{cases_Bool, cases_order, and_parts, eqb-true, eq-eqb}
-use Rattle.std.proofs.lemmas.List.Elements.{All-contains, All-contains_itself, filter_passes}
-use Rattle.std.proofs.lemmas.List.Filters.{All-dedup}
+use Rattle.change_times.proofs.Words.{◌≡◌, ℕ, suc, ◌<◌, ◌≤◌, List, [], ◌∷◌, Bool, true, false, ◌&&◌, nat_eq, cond, find, Some, All, length, get_or, refl, sym, subst, ◌∙◌, ap, arith, inl, inr, cases_Bool, cases_order, and_parts, eqb-true, eq-eqb, All-contains, All-contains_itself, filter_passes, All-dedup, filter, dedup, IsNonDecreasingBy, TransferRow, Contains-filter, from_of, to_of, is_from, is_to, is_same_pair, IsByPair, HaveOwnPairs}
 use Rattle.std.proofs.lemmas.List.Kept.{AllPairs-filter}
-use Rattle.std.specs.List.{filter, dedup, dedup_from, AllPairs}
-use Rattle.std.specs.List.Sorted.{IsNonDecreasingBy}
-use Rattle.mt_base.specs.declared.tables.TransferRow.{TransferRow}
-use Rattle.delay_model.proofs.Lists.{AllPairs-nil, AllPairs-cons, AllPairs-tail, AllPairs-after, Contains-filter}
-use Rattle.change_times.specs.Stored.{from_of, to_of, is_from, is_to, is_same_pair, IsByPair, HaveOwnPairs}
+use Rattle.std.specs.List.{dedup_from, AllPairs}
+use Rattle.delay_model.proofs.Lists.{AllPairs-nil, AllPairs-cons, AllPairs-tail, AllPairs-after}
 use Rattle.change_times.proofs.TableLemmas.{find-filter}
 
 -- a row stands by pair before another

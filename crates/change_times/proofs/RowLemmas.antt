@@ -1,16 +1,11 @@
 -- The rows of transfers.txt by pair.
-use Rattle.std.proofs.Common.{◌≡◌, ℕ, ◌+◌, ◌<◌, List, [], ◌∷◌, Bool, None, All, length, get_or, refl, sym, ◌∙◌, ap, subst, arith, inl, inr}
-use Rattle.std.proofs.lemmas.Bool.{cases_Bool, cases_lt, lt-ltb, le-ltb, le-leb, lt-leb}
+use Rattle.change_times.proofs.Words.{◌≡◌, ℕ, ◌+◌, ◌<◌, List, [], ◌∷◌, Bool, None, All, length, get_or, refl, sym, ◌∙◌, ap, subst, arith, inl, inr, cases_Bool, cases_lt, lt-ltb, le-ltb, ltb, leb, slice_get, filter, dedup, IsNonDecreasingBy, TransferRow, part-is, from_of, to_of, is_from, is_to, is_same_pair, IsByPair, HaveSameFirsts}
+use Rattle.std.proofs.lemmas.Bool.{le-leb, lt-leb}
 use Rattle.std.proofs.lemmas.List.Kept.{IsNonDecreasingBy-filter}
-use Rattle.std.proofs.Math.Dec.{ltb, leb}
-use Rattle.std.specs.Prelude.{slice_index, slice_get}
-use Rattle.std.specs.List.{filter, dedup}
-use Rattle.std.specs.List.Sorted.{IsNonDecreasingBy}
-use Rattle.mt_base.specs.declared.tables.TransferRow.{TransferRow}
+use Rattle.std.specs.Prelude.{slice_index}
 use Rattle.feed_tables.proofs.OrderLemmas.{stays, tie}
-use Rattle.feed_tables.proofs.TripRowLemmas.{part-is}
 use Rattle.change_times.proofs.CutLemmas.{IsPart}
-use Rattle.change_times.specs.Stored.{from_of, to_of, is_from, is_to, is_same_pair, row_bounds, IsByPair, IsIndexed, HaveSameFirsts}
+use Rattle.change_times.specs.Stored.{row_bounds, IsIndexed}
 use Rattle.change_times.proofs.PairLemmas.{first-stays}
 use Rattle.change_times.proofs.TableLemmas.{find-head}
 use Rattle.change_times.proofs.SortLemmas.{Between, between-order, between-part}

@@ -1,15 +1,5 @@
 -- Tables with the same change times have as many pairs.
-use Rattle.std.proofs.Common.{◌≡◌, ℕ, Option, None, false, length, refl, sym, ◌∙◌, ap}
-use Rattle.std.proofs.lemmas.List.{length-map}
-use Rattle.std.specs.Prelude.{if◌then◌else◌}
-use Rattle.std.specs.List.{filter, filter_map, range_with_len, sum_by}
-use Rattle.std.specs.Option.{option_map, option_map_or}
-use Rattle.mt_base.specs.declared.places.PlaceKind.{PlaceKind}
-use Rattle.mt_base.specs.Places.{is_platform, is_platform_or_station}
-use Rattle.delay_model.specs.Changes.{kind_of, change}
-use Rattle.change_times.specs.declared.change.Change.{Change}
-use Rattle.change_times.specs.ChangeTables.{ChangeTables, HaveSameChanges, without_id}
-use Rattle.change_times.specs.Reach.{pairs, reached}
+use Rattle.change_times.proofs.Words.{◌≡◌, ℕ, Option, None, false, length, refl, sym, ◌∙◌, ap, length-map, if◌then◌else◌, filter, filter_map, range_with_len, sum_by, option_map, option_map_or, PlaceKind, is_platform, is_platform_or_station, kind_of, change, Change, ChangeTables, HaveSameChanges, without_id, pairs, reached}
 
 change-if : ℕ → Option PlaceKind → Option ℕ → Option Change
 change-if b kind seconds =

@@ -1,13 +1,8 @@
 -- Lists in the order of a number: the part of one number, and what a stable sort keeps.
-use Rattle.std.proofs.Common.{rules, ◌≡◌, ℕ, suc, zero, ◌-◌, ◌<◌, ◌≤◌, List, [], ◌∷◌, true, false, cond, nat_eq, None, Some, find, length, get_or, take, drop, refl, sym, ◌∙◌, ap, arith, inl, inr}
-use Rattle.std.proofs.Math.Dec.{ltb, leb}
-use Rattle.std.proofs.lemmas.Bool.{cases_lt, ltb-false, ltb-true, leb-true, leb-false}
-use Rattle.std.specs.Prelude.{slice_get, if◌then◌else◌}
-use Rattle.std.specs.List.{filter}
-use Rattle.std.specs.List.Sorted.{IsPartitionPoint, IsNonDecreasingBy}
+use Rattle.change_times.proofs.Words.{rules, ◌≡◌, ℕ, suc, zero, ◌-◌, ◌<◌, ◌≤◌, List, [], ◌∷◌, true, false, cond, nat_eq, None, Some, find, length, get_or, take, drop, refl, sym, ◌∙◌, ap, arith, inl, inr, ltb, leb, cases_lt, ltb-false, ltb-true, slice_get, if◌then◌else◌, filter, IsPartitionPoint, IsNonDecreasingBy, part-is}
+use Rattle.std.proofs.lemmas.Bool.{leb-true, leb-false}
 use Rattle.change_times.specs.Stored.{of_number}
 use Rattle.feed_tables.proofs.OrderLemmas.{eq-same, eq-less, eq-more}
-use Rattle.feed_tables.proofs.TripRowLemmas.{part-is}
 
 -- where the elements of a number begin, and where they end
 pub record Between {X : Type 0} (key : X → ℕ) (k : ℕ) (xs : List X) (low high : ℕ) : Type 0 where

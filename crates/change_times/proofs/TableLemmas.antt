@@ -1,22 +1,11 @@
 -- What a table keeps of the tables of a feed.
-use Rattle.std.proofs.Common.{◌≡◌, ℕ, zero, suc, ◌<◌, ◌≤◌, List, [], ◌∷◌, Bool, true, false, ◌&&◌, nat_eq, cond, find, map, length, All, IsTrue, IfSome, Option, None, Some, refl, sym, subst, ◌∙◌, ap, arith, inl, inr}
-use Rattle.std.proofs.lemmas.Bool.{cases_Bool, cases_lt, and_parts}
-use Rattle.std.proofs.lemmas.List.{length-map}
-use Rattle.std.proofs.lemmas.List.Elements.{All-contains, All-head, All-tail, All-map, All-weaker, filter_passes}
+use Rattle.change_times.proofs.Words.{◌≡◌, ℕ, zero, suc, ◌<◌, ◌≤◌, List, [], ◌∷◌, Bool, true, false, ◌&&◌, nat_eq, cond, find, map, length, All, IsTrue, IfSome, Option, None, Some, refl, sym, subst, ◌∙◌, ap, arith, inl, inr, cases_Bool, cases_lt, and_parts, length-map, All-contains, All-weaker, filter_passes, slice_get, if◌then◌else◌, filter, Contains, option_map, option_map_or, option_or, PlaceKind, Platform, StopRow, Tables, TransferRow, is_platform_or_station, kind_of, station, station_by, is_looked_at, is_row_of, is_stop_or_station, first_row, deciding_row, change_by, change, ChangeTables, without_id, HaveSameChanges, from_of, is_from, is_to, HaveSameFirsts, IsKept}
+use Rattle.std.proofs.lemmas.List.Elements.{All-head, All-tail, All-map}
 use Rattle.std.proofs.lemmas.Option.{slice_get-map, slice_get_past}
-use Rattle.std.specs.Prelude.{slice_get, if◌then◌else◌, nat_le}
-use Rattle.std.specs.List.{filter, Contains}
-use Rattle.std.specs.Option.{option_map, option_map_or, option_or}
-use Rattle.mt_base.specs.declared.places.PlaceKind.{PlaceKind}
-use Rattle.mt_base.specs.declared.places.PlaceKind.TheVariants.{Platform, Station}
-use Rattle.mt_base.specs.declared.tables.StopRow.{StopRow}
-use Rattle.mt_base.specs.declared.tables.Tables.{Tables}
-use Rattle.mt_base.specs.declared.tables.TransferRow.{TransferRow}
-use Rattle.mt_base.specs.Places.{is_platform_or_station}
-use Rattle.delay_model.specs.Changes.{kind_of, station, station_by, is_looked_at, is_row_of, is_stop_or_station, first_row, deciding_row, change_by, change}
+use Rattle.std.specs.Prelude.{nat_le}
+use Rattle.mt_base.specs.declared.places.PlaceKind.TheVariants.{Station}
 use Rattle.feed_tables.specs.Lawful.{IsLawful, IsLocation, HasKind}
-use Rattle.change_times.specs.ChangeTables.{ChangeTables, tables_of, without_id, HaveSameChanges}
-use Rattle.change_times.specs.Stored.{from_of, is_from, is_to, HaveSameFirsts, IsKept}
+use Rattle.change_times.specs.ChangeTables.{tables_of}
 
 -- what is asked of a location has one answer with and without ids
 by-place : {Y : Type 0} (f : Option StopRow → Y) → ((row : StopRow) → f (Some (without_id row)) ≡ f (Some row)) → (o : Option StopRow) → f (option_map without_id o) ≡ f o

@@ -1,10 +1,7 @@
 -- A walk over chosen numbers finds what a walk over all numbers finds.
-use Rattle.std.proofs.Common.{◌≡◌, ℕ, zero, suc, ◌+◌, ◌<◌, ◌≤◌, List, [], ◌∷◌, Option, None, Some, length, get_or, refl, sym, ◌∙◌, ap, arith, inl, inr, ◌⊎◌}
+use Rattle.change_times.proofs.Words.{◌≡◌, ℕ, zero, suc, ◌+◌, ◌<◌, ◌≤◌, List, [], ◌∷◌, Option, None, Some, length, get_or, refl, sym, ◌∙◌, ap, arith, inl, inr, ◌⊎◌, cases_order, Contains, filter_map, range_with_len, IsStrictlyIncreasing, Contains-cases}
 use native.Mathlib.Numerals.{unary_clauses}
-use Rattle.std.proofs.lemmas.Bool.{cases_order}
-use Rattle.std.specs.List.{Contains, filter_map, range_with_len, cons_option}
-use Rattle.std.specs.List.Sorted.{IsStrictlyIncreasing}
-use Rattle.delay_model.proofs.Lists.{Contains-cases}
+use Rattle.std.specs.List.{cons_option}
 
 -- the numbers rise, and none is below the bound
 abbrev Ascends : ℕ → List ℕ → Type 0

@@ -1,19 +1,8 @@
 -- What is known at the end of a scan is the answer.
-use Rattle.std.proofs.Common.{◌≡◌, ◌⊎◌, inl, inr, ℕ, ◌≤◌, ◌<◌, Bool, true, false, List, [], ◌∷◌, ◌++◌, reverse, Option, Some, None, MatchBool, refl, sym, ap, subst, arith}
-use Rattle.std.specs.Option.{MatchOption, option_and_then}
-use Rattle.std.proofs.lemmas.Bool.{cases_lt, both_ways}
+use Rattle.conn_scan.proofs.Words.{◌≡◌, ◌⊎◌, inl, inr, ℕ, ◌≤◌, ◌<◌, Bool, true, false, List, [], ◌∷◌, ◌++◌, reverse, Option, Some, None, MatchBool, refl, sym, ap, subst, arith, MatchOption, option_and_then, cases_lt, both_ways, append_assoc, same_Some, none-some, PlanRide, Query, Network, State, is_one_station, IsInTime, IsRide, IsEarliest, HasNoJourney, IsValid, AreAtStops, Access, CanBoard, IsFromOrigin, IsBehind, IsPossible, AreExplained, ride_before, IsThereBy, IsTaken, IsAtEnd, IsWayBack}
 use Rattle.std.proofs.lemmas.Grind.{reverse_onto}
-use Rattle.std.proofs.lemmas.List.{append_assoc}
-use Rattle.std.proofs.lemmas.Option.{same_Some, none-some, MatchOption-at_none, MatchOption-at_some}
-use Rattle.mt_base.specs.declared.journeys.PlanRide.{PlanRide}
-use Rattle.mt_base.specs.declared.journeys.Query.{Query}
-use Rattle.delay_model.specs.declared.network.Network.{Network}
-use Rattle.delay_model.specs.declared.state.State.{State}
-use Rattle.delay_model.specs.Journeys.{is_one_station, IsInTime, MayBegin, GoesOn, IsJourney, IsRide, IsEarliest, HasNoJourney}
-use Rattle.delay_model.specs.Valid.{IsValid}
-use Rattle.edge_rules.specs.AtStops.{AreAtStops}
-use Rattle.conn_scan.specs.Reached.{Access, CanBoard, IsFromOrigin, IsBehind, IsPossible, AreExplained, ride_before}
-use Rattle.conn_scan.specs.Scan.{IsThereBy, IsTaken, IsAtEnd, IsWayBack}
+use Rattle.std.proofs.lemmas.Option.{MatchOption-at_none, MatchOption-at_some}
+use Rattle.delay_model.specs.Journeys.{MayBegin, GoesOn, IsJourney}
 use Rattle.conn_scan.proofs.Forward.{in_time-later, ride-forward, ride-at_stop}
 
 module _ (nw : Network) (st : State) (q : Query) where

@@ -1,29 +1,6 @@
 -- The call of a departure, and the rides that begin with it.
-use Rattle.std.proofs.Common.{◌≡◌, ℕ, true, false, ◌&&◌, List, [], Some, None, slice_get, refl, sym, ◌∙◌, ap, subst, inl, inr, arith}
-use Rattle.std.specs.Option.{option_map_or}
-use Rattle.std.proofs.lemmas.Bool.{and_parts, cases_Bool, cond-true, cond-false, cond_both}
-use Rattle.std.proofs.lemmas.Option.{same_Some}
-use Rattle.mt_base.specs.declared.keys.Key.{Key}
-use Rattle.mt_base.specs.declared.journeys.PlanRide.{PlanRide}
-use Rattle.mt_base.specs.declared.journeys.Query.{Query}
-use Rattle.mt_base.specs.Order.{node_of}
-use Rattle.delay_model.specs.declared.network.Network.{Network}
-use Rattle.delay_model.specs.declared.state.Call.{Call}
-use Rattle.delay_model.specs.declared.state.Event.{Event}
-use Rattle.delay_model.specs.declared.state.State.{State}
-use Rattle.delay_model.specs.Events.{departure_of, event_by, event_named}
-use Rattle.delay_model.specs.Timing.{event_time}
-use Rattle.delay_model.specs.Valid.{IsValid}
+use Rattle.conn_scan.proofs.Words.{◌≡◌, ℕ, true, false, ◌&&◌, List, [], Some, None, slice_get, refl, sym, ◌∙◌, ap, subst, inl, inr, arith, option_map_or, and_parts, cases_Bool, cond-true, cond-false, cond_both, same_Some, Key, PlanRide, Query, node_of, Network, Call, Event, State, departure_of, event_by, event_named, event_time, IsValid, Departure, stop_of, IsDeparture, event-found, call_named, values_of, event-named, calls_after, rides_from, boarding_of, departed, is_in_time, rides_on, took_all, Known}
 use Rattle.edge_rules.proofs.Neighbours.{named-there}
-use Rattle.dep_order.specs.declared.departure.Departure.{Departure}
-use Rattle.timetable.specs.Departures.{stop_of, IsDeparture}
-use Rattle.propagate.proofs.Named.{event-found}
-use Rattle.train_nodes.specs.Calls.{call_named, values_of}
-use Rattle.train_nodes.proofs.EventLemmas.{event-named}
-use Rattle.conn_scan.specs.Calls.{calls_after}
-use Rattle.conn_scan.specs.Rides.{rides_from}
-use Rattle.conn_scan.specs.Scanned.{boarding_of, departed, is_in_time, rides_on, took_all}
-use Rattle.conn_scan.specs.declared.known.Known.{Known}
 use Rattle.conn_scan.proofs.CallLemmas.{route-of}
 use Rattle.conn_scan.proofs.WalkLemmas.{boarding_at, named-of, rides-none, rides-start}
 

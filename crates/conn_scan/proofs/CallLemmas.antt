@@ -1,27 +1,8 @@
 -- The calls of a train by their labels, and when their events take place.
-use Rattle.std.proofs.Common.{◌≡◌, ℕ, Bool, true, false, cond, List, [], ◌∷◌, ◌++◌, Option, Some, None, is_some, slice_get, find, refl, sym, ◌∙◌, ap, subst, inl, inr, All, arith}
-use Rattle.std.specs.Option.{option_map, option_map_or}
-use Rattle.std.proofs.lemmas.Bool.{cases_Bool, cond-true, cond-false}
-use Rattle.std.proofs.lemmas.List.{append_assoc}
-use Rattle.std.proofs.lemmas.List.Elements.{All-get_or}
-use Rattle.std.proofs.lemmas.Option.{same_Some, none-some, slice_get_within, get_or_from_slice_get}
-use Rattle.mt_base.specs.declared.keys.Node.{Node}
-use Rattle.delay_model.specs.declared.network.Network.{Network}
-use Rattle.delay_model.specs.declared.state.Call.{Call}
-use Rattle.delay_model.specs.declared.state.Event.{Event}
-use Rattle.delay_model.specs.declared.state.State.{State}
-use Rattle.delay_model.specs.declared.state.Train.{Train}
-use Rattle.delay_model.specs.Cuts.{after}
-use Rattle.delay_model.specs.Effect.{is_call}
-use Rattle.delay_model.specs.Events.{calls_of, event_by, event_named}
-use Rattle.delay_model.specs.Timing.{event_time}
-use Rattle.delay_model.specs.Valid.{HasDistinctLabels, IsRun, IsTrain, IsValid}
-use Rattle.train_nodes.specs.Calls.{call_named, has_call, label_after, values_of}
-use Rattle.train_nodes.proofs.EventLemmas.{event-named, live-named}
+use Rattle.conn_scan.proofs.Words.{◌≡◌, ℕ, Bool, true, false, cond, List, [], ◌∷◌, ◌++◌, Option, Some, None, is_some, slice_get, find, refl, sym, ◌∙◌, ap, subst, inl, inr, All, arith, option_map, option_map_or, cases_Bool, cond-true, cond-false, append_assoc, All-get_or, same_Some, none-some, slice_get_within, get_or_from_slice_get, Node, Network, Call, Event, State, Train, after, is_call, calls_of, event_by, event_named, event_time, HasDistinctLabels, IsRun, IsTrain, IsValid, call_named, has_call, label_after, values_of, event-named, event-found, arrival_at, calls_after, first_arrival}
+use Rattle.train_nodes.proofs.EventLemmas.{live-named}
 use Rattle.timetable.specs.LiveTimes.{live_time}
-use Rattle.propagate.proofs.Named.{event-found}
 use Rattle.timetable.proofs.Named.{live-event, live_time-none}
-use Rattle.conn_scan.specs.Calls.{arrival_at, calls_after, first_arrival}
 use Rattle.conn_scan.proofs.RideLemmas.{is-at, labelled}
 
 -- the call after one with a label is found by its own label, and what stands after it too

@@ -1,18 +1,8 @@
 -- A scan along a list of departures in the order of their times.
-use Rattle.std.proofs.Common.{◌≡◌, ℕ, ◌≤◌, true, List, [], ◌∷◌, ◌++◌, Option, map, refl, sym, ◌∙◌, ap, subst, arith, inl, inr}
-use Rattle.std.specs.List.{All, AllPairs, Contains}
-use Rattle.std.proofs.lemmas.List.{get_or-map, length-map}
-use Rattle.std.proofs.lemmas.List.Elements.{All-cons, All-contains, All-map, All-nil, All-weaker, Contains-append_cases, Contains-append_right}
-use Rattle.mt_base.specs.declared.keys.Key.{Key}
-use Rattle.mt_base.specs.declared.journeys.PlanRide.{PlanRide}
-use Rattle.delay_model.specs.declared.network.Network.{Network}
-use Rattle.delay_model.specs.declared.state.Event.{Event}
-use Rattle.delay_model.specs.declared.state.State.{State}
-use Rattle.delay_model.specs.Events.{events}
-use Rattle.delay_model.specs.Timing.{event_time}
-use Rattle.delay_model.proofs.Ends.{IsLiveAt}
+use Rattle.conn_scan.proofs.Words.{◌≡◌, ℕ, ◌≤◌, true, List, [], ◌∷◌, ◌++◌, Option, map, refl, sym, ◌∙◌, ap, subst, arith, inl, inr, All, AllPairs, Contains, length-map, All-cons, All-contains, All-map, All-nil, All-weaker, Contains-append_right, Key, PlanRide, Network, Event, State, events, event_time, IsLiveAt, IsThereBy}
+use Rattle.std.proofs.lemmas.List.{get_or-map}
+use Rattle.std.proofs.lemmas.List.Elements.{Contains-append_cases}
 use Rattle.delay_model.proofs.Lists.{AllPairs-after, AllPairs-tail}
-use Rattle.conn_scan.specs.Scan.{IsThereBy}
 use Rattle.conn_scan.proofs.Forward.{All-left}
 use Rattle.conn_scan.proofs.Scanning.{IsNext}
 

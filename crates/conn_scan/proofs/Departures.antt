@@ -1,21 +1,7 @@
 -- The live event with which a ride begins.
-use Rattle.std.proofs.Common.{◌≡◌, ℕ, zero, suc, ◌+◌, true, List, [], ◌∷◌, ◌++◌, Some, slice_get, refl, sym, ◌∙◌, subst, arith}
-use Rattle.std.specs.List.{Contains}
-use Rattle.std.proofs.lemmas.List.Elements.{Contains-append_left, Contains-append_right}
-use Rattle.std.proofs.lemmas.Option.{same_Some, none-some}
-use Rattle.mt_base.specs.declared.journeys.PlanRide.{PlanRide}
-use Rattle.mt_base.specs.Order.{node_of}
-use Rattle.delay_model.specs.declared.network.Network.{Network}
-use Rattle.delay_model.specs.declared.state.Call.{Call}
-use Rattle.delay_model.specs.declared.state.Event.{Event}
-use Rattle.delay_model.specs.declared.state.State.{State}
-use Rattle.delay_model.specs.declared.state.Train.{Train}
-use Rattle.delay_model.specs.Events.{departure_of, events, events_at, events_of, events_from}
-use Rattle.delay_model.specs.Journeys.{IsRide}
-use Rattle.delay_model.specs.Timing.{event_time}
-use Rattle.delay_model.specs.Valid.{IsValid}
+use Rattle.conn_scan.proofs.Words.{◌≡◌, ℕ, zero, suc, ◌+◌, true, List, [], ◌∷◌, ◌++◌, Some, slice_get, refl, sym, ◌∙◌, subst, arith, Contains, Contains-append_left, Contains-append_right, same_Some, none-some, PlanRide, node_of, Network, Call, Event, State, Train, departure_of, events, events_at, events_of, IsRide, event_time, IsValid, departure_of_ride}
+use Rattle.delay_model.specs.Events.{events_from}
 use Rattle.delay_model.proofs.Apart.{events-unique}
-use Rattle.conn_scan.specs.Rides.{departure_of_ride}
 
 departure-at : (train route : ℕ) (before : List Call) (c : Call) (cs : List Call) → Contains (events_at train route (before ++ c ∷ cs)) (departure_of train route c)
 departure-at train route [] c cs = (1, omega arith, refl)

@@ -1,15 +1,5 @@
 -- Every query has an answer.
-use Rattle.std.proofs.Common.{◌≡◌, ◌⊎◌, inl, inr, ℕ, ◌+◌, List, [], ◌∷◌, reverse, Option, Some, None, false, length, arith}
-use Rattle.std.proofs.lemmas.Bool.{cases_Bool}
-use Rattle.mt_base.specs.declared.journeys.PlanRide.{PlanRide}
-use Rattle.mt_base.specs.declared.journeys.Query.{Query}
-use Rattle.delay_model.specs.declared.network.Network.{Network}
-use Rattle.delay_model.specs.declared.state.State.{State}
-use Rattle.delay_model.specs.Journeys.{is_one_station, IsEarliest, HasNoJourney}
-use Rattle.delay_model.specs.Valid.{IsValid}
-use Rattle.edge_rules.specs.AtStops.{AreAtStops}
-use Rattle.conn_scan.specs.Reached.{Access}
-use Rattle.conn_scan.specs.Scan.{IsAtEnd}
+use Rattle.conn_scan.proofs.Words.{◌≡◌, ◌⊎◌, inl, inr, ℕ, ◌+◌, List, [], ◌∷◌, reverse, Option, Some, None, false, length, arith, cases_Bool, PlanRide, Query, Network, State, is_one_station, IsEarliest, HasNoJourney, IsValid, AreAtStops, Access, IsAtEnd}
 use Rattle.conn_scan.proofs.Answer.{at-once, found, none}
 use Rattle.conn_scan.proofs.ScanEnds.{search-ends}
 use Rattle.conn_scan.proofs.WayBack.{way-back}

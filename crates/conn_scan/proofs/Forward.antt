@@ -1,29 +1,15 @@
 -- Rides run forward, and a change takes a second at least.
-use Rattle.std.proofs.Common.{◌≡◌, ℕ, zero, suc, ◌+◌, ◌≤◌, ◌<◌, max, true, cond, ◌&&◌, nat_eq, List, [], ◌∷◌, ◌++◌, Option, Some, None, slice_get, refl, ◌∙◌, ap, subst, arith}
-use Rattle.std.specs.Option.{IfSome, option_map_or}
-use Rattle.std.specs.List.{All}
-use Rattle.std.proofs.lemmas.Bool.{cond_both, cond-true, and_from}
-use Rattle.std.proofs.lemmas.Option.{same_Some, none-some, slice_get_within, get_or_from_slice_get}
-use Rattle.std.proofs.lemmas.List.Elements.{All-cons, All-contains, All-head, All-nil, All-tail, All-get_or, Contains-append_right}
-use Rattle.mt_base.specs.declared.keys.Key.{Key}
+use Rattle.conn_scan.proofs.Words.{◌≡◌, ℕ, zero, suc, ◌+◌, ◌≤◌, ◌<◌, true, cond, ◌&&◌, nat_eq, List, [], ◌∷◌, ◌++◌, Option, Some, None, slice_get, refl, ◌∙◌, ap, subst, arith, IfSome, option_map_or, All, cond_both, cond-true, same_Some, none-some, slice_get_within, get_or_from_slice_get, All-cons, All-contains, All-head, All-nil, All-tail, All-get_or, Contains-append_right, Key, PlanRide, Network, Call, Event, State, Train, is_stop, change, departure_of, events_at, events_of, IsInTime, IsRide, StopsAndGoesOn, event_time, IsValid, AreAtStops}
+use Rattle.std.proofs.Common.{max}
+use Rattle.std.proofs.lemmas.Bool.{and_from}
 use Rattle.mt_base.specs.declared.options.Opts.{Opts}
-use Rattle.mt_base.specs.declared.journeys.PlanRide.{PlanRide}
 use Rattle.mt_base.specs.declared.tables.TransferRow.{TransferRow}
 use Rattle.mt_base.specs.Options.{IsInRange}
-use Rattle.delay_model.specs.declared.network.Network.{Network}
-use Rattle.delay_model.specs.declared.state.Call.{Call}
 use Rattle.delay_model.specs.declared.state.Edge.{Edge}
-use Rattle.delay_model.specs.declared.state.Event.{Event}
-use Rattle.delay_model.specs.declared.state.State.{State}
-use Rattle.delay_model.specs.declared.state.Train.{Train}
-use Rattle.delay_model.specs.Changes.{is_stop, station, change, change_by, change_without_row, deciding_row}
+use Rattle.delay_model.specs.Changes.{station, change_by, change_without_row, deciding_row}
 use Rattle.delay_model.specs.Edges.{edge_on, edges_along, train_edge, train_edges}
-use Rattle.delay_model.specs.Events.{arrival_of, departure_of, events_at, events_of}
-use Rattle.delay_model.specs.Journeys.{IsInTime, IsRide, StopsAndGoesOn}
-use Rattle.delay_model.specs.Timing.{event_time}
-use Rattle.delay_model.specs.Valid.{IsValid}
+use Rattle.delay_model.specs.Events.{arrival_of}
 use Rattle.delay_model.proofs.AlongTrains.{times-rise}
-use Rattle.edge_rules.specs.AtStops.{AreAtStops}
 
 seconds-least : (default : ℕ) (o : Option ℕ) → 1 ≤ default → 1 ≤ option_map_or (λ s. max 1 s) o default
 seconds-least default None h = h

@@ -1,10 +1,7 @@
 -- One more way to a place, in a list by the numbers of the places.
-use Rattle.std.proofs.Common.{◌≡◌, ◌⊎◌, inl, inr, ℕ, ◌≤◌, ◌<◌, nat_lt, true, false, List, Option, Some, None, length, set, refl, sym, ◌∙◌, ap, arith}
-use Rattle.std.specs.Option.{option_map_or}
-use Rattle.std.proofs.lemmas.Bool.{both_ways, cases_eq, cond_both, ltb-true, ltb-false}
+use Rattle.conn_scan.proofs.Words.{◌≡◌, ◌⊎◌, inl, inr, ℕ, ◌≤◌, ◌<◌, nat_lt, true, false, List, Option, Some, None, length, set, refl, sym, ◌∙◌, ap, arith, option_map_or, both_ways, cond_both, ltb-true, ltb-false, same_Some, none-some, Access, access_in, improved, IsReached}
+use Rattle.std.proofs.lemmas.Bool.{cases_eq}
 use Rattle.std.proofs.lemmas.List.{get_or-set_other, get_or-set_same}
-use Rattle.std.proofs.lemmas.Option.{same_Some, none-some}
-use Rattle.conn_scan.specs.Reached.{Access, access_in, improved, IsReached}
 
 is-before : (a : Access) (o : Option Access) (e : Access) → option_map_or (λ (o : Access). nat_lt a.time o.time) o true ≡ true → o ≡ Some e → a.time ≤ e.time
 is-before a None e earlier at = absurd (none-some e at)

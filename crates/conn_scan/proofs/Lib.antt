@@ -1,3 +1,4 @@
+pub mod Words
 mod Forward
 mod Answer
 mod Taking

@@ -1,21 +1,7 @@
 -- What a list of changes makes of the ways to the stops.
-use Rattle.std.proofs.Common.{◌≡◌, ◌⊎◌, inl, inr, ℕ, ◌+◌, ◌≤◌, ◌<◌, true, List, [], ◌∷◌, Option, Some, None, length, set, refl, sym, ◌∙◌, subst, arith}
-use Rattle.std.specs.List.{All}
-use Rattle.std.proofs.lemmas.Bool.{cases_Bool, cond_both}
+use Rattle.conn_scan.proofs.Words.{◌≡◌, ◌⊎◌, inl, inr, ℕ, ◌+◌, ◌≤◌, ◌<◌, true, List, [], ◌∷◌, Option, Some, None, length, set, refl, sym, ◌∙◌, subst, arith, All, cases_Bool, cond_both, All-cons, All-head, All-nil, All-tail, PlanRide, Query, reached, Change, Network, is_stop, is_one_station, IsInTime, lowered, access_of, Access, access_in, improved, IsReached, IsFromOrigin, IsAfterRide, AreReachedBehind, changes_of}
 use Rattle.std.proofs.lemmas.List.{length-set}
-use Rattle.std.proofs.lemmas.List.Elements.{All-cons, All-head, All-nil, All-tail}
-use Rattle.mt_base.specs.declared.journeys.PlanRide.{PlanRide}
-use Rattle.mt_base.specs.declared.journeys.Query.{Query}
-use Rattle.change_times.specs.Reach.{reached}
-use Rattle.change_times.specs.declared.change.Change.{Change}
-use Rattle.delay_model.specs.declared.network.Network.{Network}
-use Rattle.delay_model.specs.Changes.{is_stop}
-use Rattle.delay_model.specs.Journeys.{is_one_station, IsInTime}
-use Rattle.conn_scan.specs.Lowered.{lowered, access_of}
-use Rattle.conn_scan.specs.Reached.{Access, access_in, improved, IsReached, IsFromOrigin}
-use Rattle.conn_scan.specs.Scan.{IsAfterRide, AreReachedBehind}
 use Rattle.conn_scan.proofs.Improved.{improved-kept, improved-reached, improved-from}
-use Rattle.conn_scan.specs.Scanned.{changes_of}
 use Rattle.conn_scan.proofs.Onward.{listed-leads, listed-reached, origin-reached, stop-within}
 
 -- the changes lead to places of the list

@@ -1,22 +1,11 @@
 -- The stops that are reached by the lists of changes.
-use Rattle.std.proofs.Common.{◌≡◌, ℕ, zero, suc, ◌+◌, ◌≤◌, ◌<◌, Bool, true, false, List, [], ◌∷◌, Option, Some, None, MatchBool, length, refl, sym, ◌∙◌, ap, subst, arith, inl, inr}
-use Rattle.std.specs.List.{All, Contains, cons_option, filter_map}
-use Rattle.std.specs.Option.{option_map}
-use Rattle.std.proofs.lemmas.Bool.{cases_Bool}
-use Rattle.std.proofs.lemmas.Option.{none-some, same_Some}
-use Rattle.std.proofs.lemmas.List.Elements.{All-cons, All-contains, All-nil}
+use Rattle.conn_scan.proofs.Words.{◌≡◌, ℕ, zero, suc, ◌+◌, ◌≤◌, ◌<◌, Bool, true, false, List, [], ◌∷◌, Option, Some, None, MatchBool, length, refl, sym, ◌∙◌, ap, subst, arith, inl, inr, All, Contains, option_map, cases_Bool, none-some, same_Some, All-cons, All-contains, All-nil, Query, Network, is_stop, change, is_one_station, IsInTime, Change, reached, Access, IsReached, IsFromOrigin, changes_of}
+use Rattle.std.specs.List.{cons_option, filter_map}
 use Rattle.std.proofs.lemmas.List.FromFn.{get_or-range_with_len, length-range_with_len}
-use Rattle.mt_base.specs.declared.journeys.Query.{Query}
 use Rattle.mt_base.specs.declared.tables.StopRow.{StopRow}
-use Rattle.delay_model.specs.declared.network.Network.{Network}
-use Rattle.delay_model.specs.Changes.{is_stop, change}
-use Rattle.delay_model.specs.Journeys.{is_one_station, IsInTime}
 use Rattle.delay_model.proofs.Lists.{Contains-cases, Contains-there}
 use Rattle.change_times.specs.ChangeTables.{ChangeTables}
-use Rattle.change_times.specs.declared.change.Change.{Change}
-use Rattle.change_times.specs.Reach.{places, change_to, reached}
-use Rattle.conn_scan.specs.Reached.{Access, IsReached, IsFromOrigin}
-use Rattle.conn_scan.specs.Scanned.{changes_of}
+use Rattle.change_times.specs.Reach.{places, change_to}
 
 still-there : {Y : Type 0} (o : Option Y) (ys : List Y) (y : Y) → Contains ys y → Contains (cons_option o ys) y
 still-there None ys y there = there

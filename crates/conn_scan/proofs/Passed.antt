@@ -1,32 +1,7 @@
 -- Rides that were taken before, so that taking them again changes nothing.
-use Rattle.std.proofs.Common.{◌≡◌, ◌⊎◌, inl, inr, ℕ, zero, suc, ◌+◌, ◌≤◌, nat_eq, nat_lt, Bool, true, false, cond, List, [], ◌∷◌, ◌++◌, Option, Some, None, is_some, get_or, length, map, set, refl, ◌∙◌, ap, subst, arith}
-use Rattle.std.specs.List.{All}
-use Rattle.std.specs.Option.{option_map_or}
-use Rattle.std.proofs.lemmas.Bool.{and_left, and_right, cases_Bool, cond-false, cond_both, eqb-true, le-ltb}
-use Rattle.std.proofs.lemmas.List.Elements.{All-cons, All-head, All-nil, All-tail, All-weaker}
-use Rattle.std.proofs.lemmas.Option.{same_Some}
-use Rattle.mt_base.specs.declared.journeys.PlanRide.{PlanRide}
-use Rattle.mt_base.specs.declared.journeys.Query.{Query}
-use Rattle.mt_base.specs.Order.{node_of}
-use Rattle.change_times.specs.Reach.{reached}
-use Rattle.change_times.specs.declared.change.Change.{Change}
-use Rattle.delay_model.specs.declared.network.Network.{Network}
-use Rattle.delay_model.specs.declared.state.Call.{Call}
-use Rattle.delay_model.specs.declared.state.State.{State}
-use Rattle.delay_model.specs.Events.{calls_of}
-use Rattle.delay_model.specs.Valid.{IsRun, IsValid}
-use Rattle.dep_order.specs.declared.departure.Departure.{Departure}
-use Rattle.train_nodes.specs.Calls.{label_after}
-use Rattle.conn_scan.specs.Calls.{arrival_at, calls_after}
-use Rattle.conn_scan.specs.Lowered.{lowered}
-use Rattle.conn_scan.specs.Passed.{arrivals_at, passed_on, ArePassed, IsDone, IsPassed}
-use Rattle.conn_scan.specs.Reached.{Access, access_in, improved, IsReached}
-use Rattle.conn_scan.specs.Rides.{rides_from}
-use Rattle.conn_scan.specs.Scan.{ends_there, better, IsThereBy}
-use Rattle.conn_scan.specs.Scanned.{changes_of, departed, is_in_time, ride_to, rides_on, took, took_all}
-use Rattle.conn_scan.specs.declared.known.Known.{Known}
-use Rattle.conn_scan.specs.declared.walk.Arrival.{Arrival}
-use Rattle.conn_scan.specs.declared.walk.Boarding.{Boarding}
+use Rattle.conn_scan.proofs.Words.{◌≡◌, ◌⊎◌, inl, inr, ℕ, zero, suc, ◌+◌, ◌≤◌, nat_eq, nat_lt, Bool, true, false, cond, List, [], ◌∷◌, ◌++◌, Option, Some, None, is_some, get_or, length, map, set, refl, ◌∙◌, ap, subst, arith, All, option_map_or, cases_Bool, cond-false, cond_both, eqb-true, All-cons, All-head, All-nil, All-tail, All-weaker, same_Some, PlanRide, Query, node_of, reached, Change, Network, Call, State, calls_of, IsRun, IsValid, Departure, label_after, arrival_at, calls_after, lowered, ArePassed, IsPassed, Access, access_in, improved, IsReached, rides_from, ends_there, better, IsThereBy, changes_of, departed, is_in_time, ride_to, rides_on, took, took_all, Known, Arrival, Boarding}
+use Rattle.std.proofs.lemmas.Bool.{and_left, and_right, le-ltb}
+use Rattle.conn_scan.specs.Passed.{arrivals_at, passed_on, IsDone}
 use Rattle.conn_scan.proofs.AtCall.{IsAtCall}
 use Rattle.conn_scan.proofs.CallLemmas.{calls-run, next-named, run-rest}
 use Rattle.conn_scan.proofs.Forward.{All-right}

@@ -1,22 +1,7 @@
 -- The rides that are listed for a departure are those that begin with it.
-use Rattle.std.proofs.Common.{◌≡◌, ◌≢◌, inl, inr, ℕ, true, cond, ◌&&◌, List, [], ◌∷◌, ◌++◌, Option, Some, None, slice_get, find, refl, sym, ◌∙◌, ap, subst, arith}
-use Rattle.std.specs.List.{All, Contains}
-use Rattle.std.specs.Option.{option_map_or}
-use Rattle.std.proofs.lemmas.Bool.{cases_Bool, cond_both, and_parts, eqb-true, eq-eqb, ne_eqb}
-use Rattle.std.proofs.lemmas.List.{append_assoc}
-use Rattle.std.proofs.lemmas.Option.{none-some, slice_get_within, get_or_from_slice_get}
-use Rattle.std.proofs.lemmas.List.Elements.{All-append, All-cons, All-nil, All-head, All-tail, All-push, All-contains, All-get_or, Contains-append_right}
-use Rattle.mt_base.specs.declared.keys.Node.{Node}
-use Rattle.mt_base.specs.declared.journeys.PlanRide.{PlanRide}
-use Rattle.delay_model.specs.declared.network.Network.{Network}
-use Rattle.delay_model.specs.declared.state.Call.{Call}
-use Rattle.delay_model.specs.declared.state.State.{State}
-use Rattle.delay_model.specs.declared.state.Train.{Train}
-use Rattle.delay_model.specs.Cuts.{after}
-use Rattle.delay_model.specs.Effect.{is_call}
-use Rattle.delay_model.specs.Journeys.{IsRide, StopsAndGoesOn}
-use Rattle.delay_model.specs.Valid.{HasDistinctLabels, IsTrain, IsValid}
-use Rattle.conn_scan.specs.Rides.{departure_of_ride, BeginsWith, ride_between, rides_along, rides_at, rides_from}
+use Rattle.conn_scan.proofs.Words.{◌≡◌, ◌≢◌, inl, inr, ℕ, true, cond, ◌&&◌, List, [], ◌∷◌, ◌++◌, Option, Some, None, slice_get, find, refl, sym, ◌∙◌, ap, subst, arith, All, Contains, option_map_or, cases_Bool, cond_both, and_parts, eqb-true, eq-eqb, ne_eqb, append_assoc, none-some, slice_get_within, get_or_from_slice_get, All-cons, All-nil, All-head, All-tail, All-contains, All-get_or, Contains-append_right, Node, PlanRide, Network, Call, State, Train, after, is_call, IsRide, StopsAndGoesOn, HasDistinctLabels, IsTrain, IsValid, departure_of_ride, BeginsWith, rides_along, rides_at, rides_from}
+use Rattle.std.proofs.lemmas.List.Elements.{All-append, All-push}
+use Rattle.conn_scan.specs.Rides.{ride_between}
 
 -- a call is found by its label where no two have one label, and what stands after it too
 pub labelled : (before : List Call) (c : Call) (cs : List Call) → HasDistinctLabels (before ++ c ∷ cs) → (find (is_call c.label) (before ++ c ∷ cs) ≡ Some c) × (after (is_call c.label) (before ++ c ∷ cs) ≡ cs)

@@ -1,32 +1,10 @@
 -- What is known once the departures are scanned.
-use Rattle.std.proofs.Common.{◌≡◌, inl, inr, ℕ, ◌≤◌, nat_le, true, false, List, [], ◌∷◌, ◌++◌, Option, Some, None, map, length, replicate, refl, sym, ◌∙◌, ap, subst, arith}
-use Rattle.std.specs.List.{All, Contains}
-use Rattle.std.specs.Option.{MatchOption, option_map_or}
-use Rattle.std.proofs.lemmas.Bool.{cases_Bool, cases_lt, leb-true, leb-false}
-use Rattle.std.proofs.lemmas.List.{append_assoc, append-nil, get_or-replicate, get_or_past, length-replicate, map-append}
-use Rattle.std.proofs.lemmas.List.Elements.{All-contains, All-nil, All-weaker, Contains-append_right}
-use Rattle.std.proofs.lemmas.Option.{none-some, same_Some}
-use Rattle.mt_base.specs.declared.keys.Key.{Key}
-use Rattle.mt_base.specs.declared.journeys.PlanRide.{PlanRide}
-use Rattle.mt_base.specs.declared.journeys.Query.{Query}
-use Rattle.mt_base.specs.Order.{node_of}
-use Rattle.change_times.specs.Reach.{reached}
-use Rattle.delay_model.specs.declared.network.Network.{Network}
-use Rattle.delay_model.specs.declared.state.Event.{Event}
-use Rattle.delay_model.specs.declared.state.State.{State}
-use Rattle.delay_model.specs.Journeys.{is_one_station, IsInTime}
-use Rattle.delay_model.specs.Timing.{event_time}
-use Rattle.delay_model.specs.Valid.{IsValid}
-use Rattle.timetable.specs.Departures.{departing, departures_from, stop_of, IsDeparture}
-use Rattle.dep_order.specs.declared.departure.Departure.{Departure}
-use Rattle.timetable.proofs.Departing.{later-in, later-each, later-not-before, later-rise, times-rise}
-use Rattle.propagate.proofs.Named.{event-found}
-use Rattle.conn_scan.specs.Lowered.{lowered, access_of}
-use Rattle.conn_scan.specs.Reached.{Access, access_in, IsReached, IsFromOrigin, IsPossible, IsBehind, AreExplained}
-use Rattle.conn_scan.specs.Rides.{rides_from, IsSeen}
-use Rattle.conn_scan.specs.Scan.{IsScan, IsAtEnd, IsThereBy}
-use Rattle.conn_scan.specs.Scanned.{changes_of, departed, is_in_time, is_there_by, scanned, took, took_all}
-use Rattle.conn_scan.specs.declared.known.Known.{Known}
+use Rattle.conn_scan.proofs.Words.{◌≡◌, inl, inr, ℕ, ◌≤◌, true, false, List, [], ◌∷◌, ◌++◌, Option, Some, None, map, length, replicate, refl, sym, ◌∙◌, ap, subst, arith, All, Contains, MatchOption, option_map_or, cases_Bool, cases_lt, append_assoc, append-nil, length-replicate, All-contains, All-nil, All-weaker, Contains-append_right, none-some, same_Some, Key, PlanRide, Query, node_of, reached, Network, Event, State, is_one_station, IsInTime, event_time, IsValid, departures_from, stop_of, IsDeparture, Departure, later-each, later-not-before, event-found, lowered, access_of, Access, access_in, IsReached, IsFromOrigin, IsPossible, IsBehind, AreExplained, rides_from, IsSeen, IsScan, IsAtEnd, IsThereBy, changes_of, departed, is_in_time, is_there_by, scanned, took, took_all, Known}
+use Rattle.std.proofs.Common.{nat_le}
+use Rattle.std.proofs.lemmas.Bool.{leb-true, leb-false}
+use Rattle.std.proofs.lemmas.List.{get_or-replicate, get_or_past, map-append}
+use Rattle.timetable.specs.Departures.{departing}
+use Rattle.timetable.proofs.Departing.{later-in, later-rise, times-rise}
 use Rattle.conn_scan.proofs.AtCall.{event-stop}
 use Rattle.conn_scan.proofs.DepartureList.{list-ends, list-next, rest-late, AreDepartures, IsKnown}
 use Rattle.conn_scan.proofs.Forward.{ride-forward}

@@ -1,24 +1,6 @@
 -- One departure after the other, and one ride after the other of those that begin with it.
-use Rattle.std.proofs.Common.{◌≡◌, ◌⊎◌, inl, inr, ℕ, ◌≤◌, true, List, [], ◌∷◌, ◌++◌, Option, Some, None, refl, sym, ◌∙◌, ap, subst, arith}
-use Rattle.std.specs.List.{All, Contains}
-use Rattle.std.proofs.lemmas.List.{append_assoc, append-nil}
-use Rattle.std.proofs.lemmas.List.Elements.{All-contains, Contains-append_left, Contains-append_right, Contains-push_cases}
-use Rattle.mt_base.specs.declared.keys.Key.{Key}
-use Rattle.mt_base.specs.declared.journeys.PlanRide.{PlanRide}
-use Rattle.mt_base.specs.declared.journeys.Query.{Query}
-use Rattle.mt_base.specs.Order.{node_of}
-use Rattle.delay_model.specs.declared.network.Network.{Network}
-use Rattle.delay_model.specs.declared.state.Event.{Event}
-use Rattle.delay_model.specs.declared.state.State.{State}
-use Rattle.delay_model.specs.Changes.{is_stop}
-use Rattle.delay_model.specs.Events.{events}
-use Rattle.delay_model.specs.Journeys.{IsRide}
-use Rattle.delay_model.specs.Timing.{event_time}
-use Rattle.delay_model.specs.Valid.{IsValid}
-use Rattle.delay_model.proofs.Ends.{IsLiveAt}
-use Rattle.conn_scan.specs.Reached.{Access, IsReached, CanBoard, IsFromOrigin, AreExplained, ride_before}
-use Rattle.conn_scan.specs.Rides.{BeginsWith, rides_from, IsSeen}
-use Rattle.conn_scan.specs.Scan.{IsThereBy, AreReachedBehind, IsScan, IsAtEnd, IsAfterRide, IsWayBack, better}
+use Rattle.conn_scan.proofs.Words.{◌≡◌, ◌⊎◌, inl, inr, ℕ, ◌≤◌, true, List, [], ◌∷◌, ◌++◌, Option, Some, None, refl, sym, ◌∙◌, ap, subst, arith, All, Contains, append_assoc, append-nil, All-contains, Contains-append_left, Contains-append_right, Key, PlanRide, Query, node_of, Network, Event, State, is_stop, events, IsRide, event_time, IsValid, IsLiveAt, Access, IsReached, CanBoard, IsFromOrigin, AreExplained, ride_before, BeginsWith, rides_from, IsSeen, IsThereBy, AreReachedBehind, IsScan, IsAtEnd, IsAfterRide, IsWayBack, better}
+use Rattle.std.proofs.lemmas.List.Elements.{Contains-push_cases}
 use Rattle.conn_scan.proofs.Departures.{ride-begins, ride-at}
 use Rattle.conn_scan.proofs.RideLemmas.{rides-begin, ride-listed}
 use Rattle.conn_scan.proofs.Taking.{scan-begins, scan-sees, scan-takes}

@@ -1,12 +1,6 @@
 -- What several queries found, as what the last of them found.
-use Rattle.std.proofs.Common.{◌≡◌, ℕ, zero, suc, ◌+◌, ◌<◌, ◌≤◌, nat_eq, eq-eqb, false, List, [], ◌∷◌, Some, None, length, map, set, replicate, refl, sym, ◌∙◌, ap, arith}
-use Rattle.std.specs.List.{All}
-use Rattle.std.proofs.lemmas.Bool.{cond-true, cond-false, ne_eqb}
-use Rattle.std.proofs.lemmas.List.{length-map, map-set, set_past}
-use Rattle.std.proofs.lemmas.List.Elements.{All-head, All-tail}
-use Rattle.conn_scan.specs.Stamped.{found_for, AreStamped}
-use Rattle.conn_scan.specs.declared.query_table.Stamped.{Stamped}
-use Rattle.conn_scan.specs.declared.query_table.QueryTable.TheInside.{Inside}
+use Rattle.conn_scan.proofs.Words.{◌≡◌, ℕ, zero, suc, ◌+◌, ◌<◌, ◌≤◌, nat_eq, eq-eqb, false, List, [], ◌∷◌, Some, None, length, map, set, replicate, refl, sym, ◌∙◌, ap, arith, All, cond-true, cond-false, ne_eqb, length-map, All-head, All-tail, found_for, AreStamped, Stamped, Inside}
+use Rattle.std.proofs.lemmas.List.{map-set, set_past}
 
 module _ {T : Type 0} where
   -- what one query found says nothing to another

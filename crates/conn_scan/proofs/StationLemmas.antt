@@ -1,8 +1,5 @@
 -- The stations of a query that were looked up are those of its origin and its destination.
-use Rattle.std.proofs.Common.{◌≡◌, Bool, nat_eq, subst}
-use Rattle.mt_base.specs.declared.journeys.Query.{Query}
-use Rattle.delay_model.specs.declared.network.Network.{Network}
-use Rattle.delay_model.specs.Journeys.{is_one_station}
+use Rattle.conn_scan.proofs.Words.{◌≡◌, Bool, nat_eq, subst, Query, Network, is_one_station}
 use Rattle.conn_scan.specs.Stations.{HasStations}
 use Rattle.conn_scan.specs.declared.known.Asked.{Asked}
 

@@ -1,17 +1,7 @@
 -- What a scan knows at its beginning, and that taking a ride keeps it.
-use Rattle.std.proofs.Common.{◌≡◌, ◌⊎◌, inl, inr, ℕ, ◌≤◌, Bool, true, false, ◌&&◌, nat_lt, Option, Some, None, refl, sym, ap, subst, arith}
-use Rattle.std.specs.Option.{MatchOption, IfSome, option_map_or}
-use Rattle.std.proofs.lemmas.Bool.{and_cases, and_parts, both_ways, cond_both, ltb-true, ltb-false}
-use Rattle.std.proofs.lemmas.Option.{same_Some, none-some, IfSome_then}
-use Rattle.mt_base.specs.declared.journeys.PlanRide.{PlanRide}
-use Rattle.mt_base.specs.declared.journeys.Query.{Query}
-use Rattle.delay_model.specs.declared.network.Network.{Network}
-use Rattle.delay_model.specs.declared.state.State.{State}
-use Rattle.delay_model.specs.Changes.{is_stop}
-use Rattle.delay_model.specs.Journeys.{IsRide}
-use Rattle.delay_model.specs.Valid.{IsValid}
-use Rattle.conn_scan.specs.Reached.{Access, IsReached, CanBoard, IsFromOrigin, IsBehind, IsPossible, AreExplained}
-use Rattle.conn_scan.specs.Scan.{ends_there, IsThereBy, AreReachedBehind, IsTaken, IsScan, IsAfterRide, better}
+use Rattle.conn_scan.proofs.Words.{◌≡◌, ◌⊎◌, inl, inr, ℕ, ◌≤◌, Bool, true, false, ◌&&◌, nat_lt, Option, Some, None, refl, sym, ap, subst, arith, MatchOption, IfSome, option_map_or, and_parts, both_ways, cond_both, ltb-true, ltb-false, same_Some, none-some, PlanRide, Query, Network, State, is_stop, IsRide, IsValid, Access, IsReached, CanBoard, IsFromOrigin, IsBehind, IsPossible, AreExplained, ends_there, IsThereBy, AreReachedBehind, IsTaken, IsScan, IsAfterRide, better}
+use Rattle.std.proofs.lemmas.Bool.{and_cases}
+use Rattle.std.proofs.lemmas.Option.{IfSome_then}
 use Rattle.conn_scan.proofs.Forward.{in_time-later, ride-forward}
 
 -- before the first departure no ride is seen

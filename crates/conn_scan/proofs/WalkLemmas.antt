@@ -1,26 +1,6 @@
 -- The rides from a departure, one call after the other.
-use Rattle.std.proofs.Common.{◌≡◌, ℕ, suc, Bool, true, false, cond, ◌&&◌, List, [], ◌∷◌, ◌++◌, Option, Some, None, is_some, slice_get, find, length, refl, sym, ◌∙◌, ap, subst, inl, inr, arith}
-use Rattle.std.specs.Option.{option_map_or}
-use Rattle.std.proofs.lemmas.Bool.{cases_Bool, cond-true}
-use Rattle.std.proofs.lemmas.Option.{same_Some, none-some}
-use Rattle.mt_base.specs.declared.journeys.PlanRide.{PlanRide}
-use Rattle.mt_base.specs.declared.journeys.Query.{Query}
-use Rattle.delay_model.specs.declared.network.Network.{Network}
-use Rattle.delay_model.specs.declared.state.Call.{Call}
-use Rattle.delay_model.specs.declared.state.State.{State}
-use Rattle.delay_model.specs.declared.state.Train.{Train}
-use Rattle.delay_model.specs.Cuts.{after}
-use Rattle.delay_model.specs.Effect.{is_call}
-use Rattle.delay_model.specs.Events.{calls_of, departure_of}
-use Rattle.delay_model.specs.Timing.{event_time}
-use Rattle.delay_model.specs.Valid.{IsValid}
-use Rattle.train_nodes.specs.Calls.{call_named, has_call}
-use Rattle.conn_scan.specs.Calls.{arrival_at, calls_after, first_arrival}
-use Rattle.conn_scan.specs.Rides.{rides_along, rides_at, rides_from}
-use Rattle.conn_scan.specs.Scanned.{ride_to, rides_on, took, took_all, LeavesRides}
-use Rattle.conn_scan.specs.declared.known.Known.{Known}
-use Rattle.conn_scan.specs.declared.walk.Arrival.{Arrival}
-use Rattle.conn_scan.specs.declared.walk.Boarding.{Boarding}
+use Rattle.conn_scan.proofs.Words.{◌≡◌, ℕ, suc, Bool, true, false, cond, ◌&&◌, List, [], ◌∷◌, ◌++◌, Option, Some, None, is_some, slice_get, find, length, refl, sym, ◌∙◌, ap, subst, inl, inr, arith, option_map_or, cases_Bool, cond-true, same_Some, none-some, PlanRide, Query, Network, Call, State, Train, after, is_call, calls_of, departure_of, event_time, IsValid, call_named, has_call, arrival_at, calls_after, first_arrival, rides_along, rides_at, rides_from, ride_to, rides_on, took, took_all, Known, Arrival, Boarding}
+use Rattle.conn_scan.specs.Scanned.{LeavesRides}
 use Rattle.conn_scan.proofs.RideLemmas.{is-at}
 use Rattle.conn_scan.proofs.CallLemmas.{calls-distinct, next-call}
 

@@ -1,27 +1,15 @@
 -- The way back from a ride, one ride after the other, and that it has an end.
-use Rattle.std.proofs.Common.{◌≡◌, ◌≢◌, inl, inr, ℕ, zero, suc, ◌+◌, ◌<◌, ◌≤◌, List, [], ◌∷◌, ◌++◌, length, map, reverse, Option, Some, None, sym, ◌∙◌, ap, arith}
-use Rattle.std.specs.List.{All, AllPairs}
-use Rattle.std.specs.Option.{option_and_then, option_map_or}
+use Rattle.conn_scan.proofs.Words.{◌≡◌, ◌≢◌, inl, inr, ℕ, zero, suc, ◌+◌, ◌<◌, ◌≤◌, List, [], ◌∷◌, ◌++◌, length, map, reverse, Option, Some, None, sym, ◌∙◌, ap, arith, All, AllPairs, option_and_then, option_map_or, eqb-true, length-map, All-cons, All-contains, All-map, All-nil, All-weaker, PlanRide, Query, Network, State, IsValid, AreAtStops, Access, ride_before, AreExplained, CanBoard, IsPossible, IsWayBack, LeadsTo}
 use Rattle.std.proofs.Math.Dec.{eqb}
-use Rattle.std.proofs.lemmas.Bool.{eqb-true}
 use Rattle.std.proofs.lemmas.Bool.Decides.{Decides-eqb}
-use Rattle.std.proofs.lemmas.List.{length-append, length-map}
-use Rattle.std.proofs.lemmas.List.Elements.{All-cons, All-contains, All-map, All-nil, All-weaker}
+use Rattle.std.proofs.lemmas.List.{length-append}
 use Rattle.std.proofs.lemmas.List.Folds.{Any-from_list_any}
 use Rattle.std.proofs.lemmas.List.Kept.{AllPairs-cons}
 use Rattle.std.proofs.lemmas.Map.Made.{IsDistinct-from_AllPairs}
 use Rattle.std.proofs.lemmas.Map.Steps.{length-le_from_distinct_below}
-use Rattle.mt_base.specs.declared.journeys.PlanRide.{PlanRide}
-use Rattle.mt_base.specs.declared.journeys.Query.{Query}
-use Rattle.delay_model.specs.declared.network.Network.{Network}
-use Rattle.delay_model.specs.declared.state.State.{State}
 use Rattle.delay_model.proofs.Lists.{AllPairs-nil}
-use Rattle.delay_model.specs.Valid.{IsValid}
 use Rattle.change_times.proofs.WalkLemmas.{cases-option}
-use Rattle.edge_rules.specs.AtStops.{AreAtStops}
 use Rattle.edge_rules.proofs.EventChanges.{AllPairs-map}
-use Rattle.conn_scan.specs.Reached.{Access, ride_before, AreExplained, CanBoard, IsPossible}
-use Rattle.conn_scan.specs.Scan.{IsWayBack, LeadsTo}
 use Rattle.conn_scan.proofs.Answer.{boards-earlier}
 use Rattle.conn_scan.proofs.Forward.{ride-at_stop}
 use Rattle.conn_scan.proofs.Onward.{stop-within}

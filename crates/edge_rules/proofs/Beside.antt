@@ -1,14 +1,7 @@
 -- What stands beside a call among its train's calls, and beside an event among its events.
-use Rattle.std.proofs.Common.{◌≡◌, ℕ, Bool, true, false, cond, ◌&&◌, ◌||◌, List, [], ◌∷◌, ◌++◌, refl, sym, ◌∙◌, ap, Option, Some, None, find, is_some, nat_eq}
+use Rattle.edge_rules.proofs.Words.{◌≡◌, ℕ, Bool, true, false, cond, ◌&&◌, List, [], ◌∷◌, ◌++◌, refl, sym, ◌∙◌, ap, Option, Some, None, find, is_some, nat_eq, cond_both, Call, Event, before, after, is_call, arrival_of, departure_of, events_at, first_label, last_label, eqb-true}
+use Rattle.std.proofs.Common.{◌||◌}
 use Rattle.std.specs.List.{list_any}
-use Rattle.std.proofs.lemmas.Bool.{cond_both}
-use Rattle.delay_model.specs.declared.state.Call.{Call}
-use Rattle.delay_model.specs.declared.state.Event.{Event}
-use Rattle.delay_model.specs.Cuts.{before, after}
-use Rattle.delay_model.specs.Effect.{is_call}
-use Rattle.delay_model.specs.Events.{arrival_of, departure_of, events_at}
-use Rattle.train_nodes.specs.Calls.{first_label, last_label}
-use Rattle.std.proofs.lemmas.Bool.{eqb-true}
 
 -- a list is cut at the first element that passes
 pub cut-at : {X : Type 0} (p : X → Bool) (xs : List X) (x : X) → find p xs ≡ Some x → xs ≡ before p xs ++ x ∷ after p xs

@@ -1,21 +1,8 @@
 -- The cap of an event is the next report along its train.
-use Rattle.std.proofs.Common.{◌≡◌, ℕ, zero, suc, ◌+◌, ◌≤◌, cond, ◌&&◌, nat_eq, List, [], ◌∷◌, ◌++◌, append_assoc, Some, None, find, is_some, slice_get, refl, sym, ◌∙◌, ap, subst, arith}
-use Rattle.std.specs.List.{All}
-use Rattle.std.specs.Option.{option_map_or}
-use Rattle.std.proofs.lemmas.Bool.{cond_both, and_parts}
-use Rattle.std.proofs.lemmas.List.Elements.{All-append, All-nil, All-head, All-tail, All-weaker}
-use Rattle.mt_base.specs.declared.keys.Node.{Node}
-use Rattle.delay_model.specs.declared.state.Train.{Train}
-use Rattle.delay_model.specs.declared.state.State.{State}
-use Rattle.delay_model.specs.declared.state.Event.{Event}
-use Rattle.delay_model.specs.Cuts.{before, after}
-use Rattle.delay_model.specs.Events.{events, events_from, events_of, event_named, is_event, live_report, train_events}
+use Rattle.edge_rules.proofs.Words.{◌≡◌, ℕ, zero, suc, ◌+◌, ◌≤◌, cond, ◌&&◌, nat_eq, List, [], ◌∷◌, ◌++◌, append_assoc, Some, None, find, is_some, slice_get, refl, sym, ◌∙◌, ap, subst, arith, All, option_map_or, cond_both, and_parts, All-append, All-nil, All-head, All-tail, All-weaker, Node, Train, State, Event, before, after, events, events_from, events_of, event_named, is_event, train_events, events_at-train, labels-apart, report_after, eqb-true, HasOwnLabels}
+use Rattle.delay_model.specs.Events.{live_report}
 use Rattle.delay_model.specs.Timing.{cap, first_report}
 use Rattle.delay_model.proofs.AlongTrains.{cap-at}
-use Rattle.delay_model.proofs.Apart.{events_at-train, labels-apart}
-use Rattle.train_nodes.specs.Reports.{report_after}
-use Rattle.std.proofs.lemmas.Bool.{eqb-true}
-use Rattle.edge_rules.specs.Inside.{HasOwnLabels}
 use Rattle.edge_rules.proofs.Beside.{cut-at}
 use Rattle.edge_rules.proofs.Neighbours.{named-at, named-is}
 

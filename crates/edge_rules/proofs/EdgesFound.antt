@@ -1,40 +1,9 @@
 -- The edges that are found at an event are those of the model.
-use Rattle.std.proofs.Common.{◌≡◌, ℕ, Bool, map, filter, get_or, suc, refl, true, false, List, [], ◌∷◌, ◌++◌, Option, Some, None, flat_map, subst, arith, All, ap}
-use Rattle.std.specs.List.Sorted.{IsPermutation}
-use Rattle.std.proofs.lemmas.List.Elements.{filter-append, All-map, All-filter, All-cons, All-nil, All-contains, Contains-append_right}
-use Rattle.std.proofs.lemmas.List.Sorted.{IsPermutation-append_right, IsPermutation-sym, All-permutation}
-use Rattle.std.proofs.lemmas.Option.{slice_get_within, get_or_from_slice_get}
-use Rattle.mt_base.specs.declared.keys.Node.{Node}
-use Rattle.delay_model.specs.declared.network.Network.{Network}
-use Rattle.delay_model.specs.declared.state.Call.{Call}
-use Rattle.delay_model.specs.declared.state.Train.{Train}
-use Rattle.delay_model.specs.declared.state.State.{State}
-use Rattle.delay_model.specs.declared.state.Event.{Event}
-use Rattle.delay_model.specs.Changes.{is_stop}
-use Rattle.mt_base.specs.Order.{is_same}
-use Rattle.delay_model.specs.Events.{live_events, events, events_at, event_named, arrival_of, departure_of}
-use Rattle.state_laws.proofs.Parts.{events-from_each}
-use Rattle.station_index.specs.Indexed.{Indexed}
-use Rattle.edge_rules.specs.AtEvent.{outgoing, edges_to, edges_from, along_to, along_from}
-use Rattle.edge_rules.specs.AtStops.{AreAtStops, IsAtStop}
-use Rattle.train_nodes.specs.Calls.{has_event}
-use Rattle.mt_base.specs.declared.index_entries.Entry.{Entry}
-use Rattle.edge_rules.specs.Found.{planned_at, kept_at, AreNames, HaveEvents}
-use Rattle.edge_rules.specs.Inside.{HasOwnLabels, IsConsistent, seen}
-use Rattle.edge_rules.specs.declared.graph.Graph.TheInside.{Inside}
-use Rattle.edge_rules.specs.Indexing.{IsIndexOf, entry_of}
-use Rattle.edge_rules.specs.GraphState.{GraphState}
+use Rattle.edge_rules.proofs.Words.{◌≡◌, ℕ, Bool, map, filter, get_or, suc, refl, true, false, List, [], ◌∷◌, ◌++◌, Option, Some, None, flat_map, subst, arith, All, ap, IsPermutation, filter-append, All-map, All-filter, All-cons, All-nil, All-contains, Contains-append_right, IsPermutation-append_right, IsPermutation-sym, All-permutation, slice_get_within, get_or_from_slice_get, Node, Network, Call, Train, State, Event, is_stop, is_same, live_events, events, events_at, event_named, arrival_of, departure_of, events-from_each, Indexed, outgoing, edges_to, edges_from, along_to, along_from, AreAtStops, IsAtStop, has_event, Entry, planned_at, kept_at, AreNames, HaveEvents, HasOwnLabels, IsConsistent, Inside, IsIndexOf, entry_of, GraphState, may_change, transfer_between, transfers_to, Shift, Into, From, Changing, WaitsAt, option_map, option_map_or, Edge, train_edges}
+use Rattle.edge_rules.specs.Inside.{seen}
 use Rattle.edge_rules.proofs.Caps.{there}
 use Rattle.edge_rules.proofs.FoundLemmas.{found-into, found-out, found-changing}
 use Rattle.edge_rules.proofs.ShortWaits.{AreWithin}
-use Rattle.edge_rules.specs.Deciding.{may_change}
-use Rattle.edge_rules.specs.Transfers.{transfer_between, transfers_to}
-use Rattle.edge_rules.specs.declared.wanted.Shift.{Shift}
-use Rattle.edge_rules.specs.declared.wanted.Wanted.TheVariants.{Into, From, Changing}
-use Rattle.waiting_rules.specs.WaitTable.{WaitsAt}
-use Rattle.std.specs.Option.{option_map, option_map_or}
-use Rattle.delay_model.specs.declared.state.Edge.{Edge}
-use Rattle.delay_model.specs.Edges.{train_edges}
 use Rattle.delay_model.proofs.Ends.{train_edges-each}
 use Rattle.edge_rules.proofs.Neighbours.{each-named, named-there}
 use Rattle.edge_rules.proofs.TransferLemmas.{edges-to, edges-from, filter-pieces, filter-whole}

@@ -1,13 +1,10 @@
 -- How often an entry occurs in a list: lists in which each occurs equally often are one in another order.
-use Rattle.state_laws.proofs.Words.{◌≡◌, ℕ, suc, ◌+◌, ◌≤◌, true, cond, List, [], ◌∷◌, ◌++◌, refl, sym, ◌∙◌, ap, subst, arith, inl, inr, ◌≢◌}
-use Rattle.state_laws.proofs.Words.{cases_Bool, All, AllPairs, Contains, AllPairs-after, AllPairs-tail, Contains-there, Contains-cases}
+use Rattle.edge_rules.proofs.Words.{◌≡◌, ℕ, suc, ◌+◌, ◌≤◌, true, cond, List, [], ◌∷◌, ◌++◌, refl, sym, ◌∙◌, ap, subst, arith, inl, inr, ◌≢◌, cases_Bool, All, AllPairs, Contains, AllPairs-after, AllPairs-tail, Contains-cases, IsPermutation, IsPermutation-refl, IsPermutation-sym, IsPermutation-trans, Entry, same_entry-itself, is_same_entry, with_entry, without_entry}
+use Rattle.state_laws.proofs.Words.{Contains-there}
 use Rattle.std.specs.List.{sum_by}
-use Rattle.std.specs.List.Sorted.{IsPermutation}
-use Rattle.std.proofs.lemmas.List.Sorted.{IsPermutation-refl, IsPermutation-sym, IsPermutation-trans, IsPermutation-cons, IsPermutation-middle, sum_by-IsPermutation}
+use Rattle.std.proofs.lemmas.List.Sorted.{IsPermutation-cons, IsPermutation-middle, sum_by-IsPermutation}
 use Rattle.std.proofs.lemmas.List.Sums.{sum_by-cons}
-use Rattle.mt_base.specs.declared.index_entries.Entry.{Entry}
-use Rattle.station_index.proofs.EntryLemmas.{same_entry-is, same_entry-itself}
-use Rattle.station_index.specs.Indexed.{is_same_entry, with_entry, without_entry}
+use Rattle.station_index.proofs.EntryLemmas.{same_entry-is}
 
 -- how often an entry occurs
 abbrev pub count_of : Entry → List Entry → ℕ

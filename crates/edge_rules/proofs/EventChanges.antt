@@ -1,30 +1,21 @@
 -- Which entries a message takes out of the index of events, and which it puts in.
-use Rattle.state_laws.proofs.Words.{◌≡◌, ℕ, suc, ◌+◌, ◌-◌, ◌<◌, ◌≤◌, Bool, true, false, List, [], ◌∷◌, ◌++◌, Option, Some, None, option_map, same_Some, length, map, refl, sym, ◌∙◌, ap, subst, arith, ◌≢◌}
-use Rattle.state_laws.proofs.Words.{All-map, get_or, get_or_from_slice_get, slice_get_within, All-contains, All, AllPairs, All-weaker, append_assoc, append-nil, map-append, map_fixed, list_any_none}
-use Rattle.state_laws.proofs.Words.{list_any_at, slice_get, option_map_or, false_from_ne_true, node_of, Node, NewCall, effect, node_at, stretch, is_among, is_event, kill_in, new_calls}
-use Rattle.state_laws.proofs.Words.{new_train, rerouted, begin_run, end_run, events_between, events, events_at, events_of, train_events, calls_of, live_events, stands_before, up_to, before}
-use Rattle.state_laws.proofs.Words.{after, with_event, Cancel, Reroute, Extra, Call, Event, EventValues, State, Train, AreApart, same_node-is, same_node-itself, Contains, All-contains_itself}
-use Rattle.std.proofs.Common.{◌*◌}
-use Rattle.std.proofs.lemmas.List.Elements.{filter-append}
-use Rattle.std.proofs.lemmas.List.Kept.{AllPairs-filter}
+use Rattle.edge_rules.proofs.Words.{◌≡◌, ℕ, suc, ◌+◌, ◌-◌, ◌<◌, ◌≤◌, Bool, true, false, List, [], ◌∷◌, ◌++◌, Option, Some, None, option_map, length, map, refl, sym, ◌∙◌, ap, subst, arith, ◌≢◌, All-map, get_or, get_or_from_slice_get, slice_get_within, All-contains, All, AllPairs, All-weaker, append_assoc, slice_get, option_map_or, node_of, Node, NewCall, effect, node_at, stretch, is_event, kill_in, new_calls, new_train, rerouted, begin_run, end_run, events_between, events, events_at, events_of, train_events, calls_of, live_events, up_to, before, after, with_event, Cancel, Reroute, Extra, Call, Event, EventValues, State, Train, AreApart, same_node-is, same_node-itself, Contains, All-contains_itself, ◌*◌, filter-append, AllPairs-filter, labels-apart, AllPairs-nil, All-left, Entry, Indexed, HasOwnLabels, IsIndexOf, entries_of, entry_of, new_entries}
+use Rattle.state_laws.proofs.Words.{same_Some}
+use Rattle.state_laws.proofs.Words.{append-nil, map-append, map_fixed, list_any_none}
+use Rattle.state_laws.proofs.Words.{list_any_at, false_from_ne_true, is_among}
+use Rattle.state_laws.proofs.Words.{stands_before}
 use Rattle.delay_model.specs.Cuts as Cuts
-use Rattle.delay_model.proofs.Apart.{labels-apart}
-use Rattle.delay_model.proofs.Lists.{AllPairs-cons, AllPairs-nil}
+use Rattle.delay_model.proofs.Lists.{AllPairs-cons}
 use Rattle.state_laws.proofs.Changed.{get-own}
 use Rattle.state_laws.proofs.Cancels.{kill_at}
 use Rattle.state_laws.proofs.Cancelled.{cancel-mapping}
 use Rattle.state_laws.proofs.Mappings.{mapping-events}
 use Rattle.state_laws.proofs.Settings.{set-mapping}
-use Rattle.state_laws.proofs.Parts.{All-left}
 use Rattle.state_laws.proofs.Values.{IsSetting, pairs-right, set-shape, set_at}
 use Rattle.state_laws.proofs.Extras.{events-push, get-push}
 use Rattle.state_laws.proofs.Placed.{placed}
 use Rattle.state_laws.proofs.Splits.{pairs-across}
 use Rattle.state_laws.proofs.Reroutes.{IsCut, cut, old-events, new-events, head, tail, fresh}
-use Rattle.mt_base.specs.declared.index_entries.Entry.{Entry}
-use Rattle.station_index.specs.Indexed.{Indexed}
-use Rattle.edge_rules.specs.Inside.{HasOwnLabels}
-use Rattle.edge_rules.specs.Indexing.{IsIndexOf, entries_of, entry_of, new_entries}
 use Rattle.edge_rules.proofs.EntryCounts.{count_of, count-append, count-once}
 use Rattle.edge_rules.proofs.IndexChanges.{AreOf, IsChange}
 

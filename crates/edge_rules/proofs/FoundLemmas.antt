@@ -1,43 +1,17 @@
 -- The edges between trains that are found at an event are those of all pairs of events.
-use Rattle.std.proofs.Common.{◌≡◌, ◌↔◌, ℕ, ◌+◌, ◌-◌, ◌<◌, ◌≤◌, Bool, true, false, ◌&&◌, inl, inr, cond, List, [], ◌++◌, flat_map, map, filter, ap, length, get_or, Option, Some, None, is_none, slice_get, refl, sym, ◌∙◌, subst, arith, All, Contains}
-use Rattle.std.specs.List.{AllPairs, range_with_len, filter_map}
-use Rattle.std.specs.List.Sorted.{IsPermutation}
-use Rattle.std.specs.Option.{option_map, option_map_or}
-use Rattle.std.proofs.lemmas.Bool.{and_parts, cases_Bool}
-use Rattle.std.proofs.lemmas.Bool.Decides.{nat_tests}
-use Rattle.mt_base.specs.declared.index_entries.Entry.{Entry}
-use Rattle.mt_base.specs.declared.tables.StopRow.{StopRow}
-use Rattle.mt_base.specs.declared.keys.Node.{Node}
-use Rattle.mt_base.specs.Order.{node_of, node_cmp, is_same_node}
-use Rattle.mt_base.proofs.KeyLemmas.{same_node-is, same_node-itself}
+use Rattle.edge_rules.proofs.Words.{◌≡◌, ℕ, ◌+◌, ◌-◌, ◌<◌, ◌≤◌, Bool, true, false, ◌&&◌, inl, inr, cond, List, [], ◌++◌, flat_map, map, filter, ap, length, get_or, Option, Some, None, slice_get, refl, sym, ◌∙◌, subst, arith, All, Contains, AllPairs, range_with_len, filter_map, IsPermutation, option_map, option_map_or, and_parts, cases_Bool, nat_tests, Entry, StopRow, Node, node_of, node_cmp, is_same_node, same_node-is, same_node-itself, Less, slice_get_within, filter-append, IsPermutation-trans, IsPermutation-sym, Override, Network, Event, Edge, is_stop, events, event_named, live_events, transfer, override_of, wait_between, Change, is_in_range, into-each, from-each, WaitsAt, may_change, first_near, last_near, tables_in, planned_by, planned_with, planned_at, kept_at, of_name, Shift, Into, From, Changing, HasOwnLabels, entry_of, GraphState, transfer_between, transfers_to}
+use Rattle.std.proofs.Common.{◌↔◌, is_none}
 use Rattle.mt_base.specs.Places.{is_platform}
-use Rattle.std.specs.declared.cmp.Ordering.TheVariants.{Less}
-use Rattle.std.proofs.lemmas.Option.{slice_get_within}
-use Rattle.std.proofs.lemmas.List.Elements.{Contains-get_or, filter-append}
-use Rattle.std.proofs.lemmas.List.Sorted.{IsPermutation-trans, IsPermutation-sym, IsPermutation-append}
-use Rattle.delay_model.specs.declared.overrides.Override.{Override}
+use Rattle.std.proofs.lemmas.List.Elements.{Contains-get_or}
+use Rattle.std.proofs.lemmas.List.Sorted.{IsPermutation-append}
 use Rattle.delay_model.specs.declared.overrides.Override.TheVariants.{Keep, Drop}
-use Rattle.delay_model.specs.declared.network.Network.{Network}
-use Rattle.delay_model.specs.declared.state.Event.{Event}
-use Rattle.delay_model.specs.declared.state.Edge.{Edge}
-use Rattle.delay_model.specs.Changes.{is_stop}
-use Rattle.delay_model.specs.Events.{events, event_named, live_events}
-use Rattle.delay_model.specs.Edges.{transfer, may_connect, override_of, change_between, is_planned, wait_between}
-use Rattle.change_times.specs.declared.change.Change.{Change}
+use Rattle.delay_model.specs.Edges.{may_connect, change_between, is_planned}
 use Rattle.change_times.specs.Reach.{change_from, change_to, reached, reached_back}
-use Rattle.station_index.specs.Indexed.{is_in_range, nodes_in}
+use Rattle.station_index.specs.Indexed.{nodes_in}
 use Rattle.train_nodes.specs.Keeps.{kept_into, kept_from}
-use Rattle.train_nodes.proofs.KeepLemmas.{into-each, into-rises, from-each, from-rises}
+use Rattle.train_nodes.proofs.KeepLemmas.{into-rises, from-rises}
 use Rattle.delay_model.specs.declared.state.EdgeKind.TheVariants.{Planned}
-use Rattle.waiting_rules.specs.WaitTable.{WaitsAt}
-use Rattle.edge_rules.specs.Deciding.{may_change}
-use Rattle.edge_rules.specs.Found.{first_near, last_near, tables_in, planned_between, planned_by, planned_with, planned_at, kept_at, of_name}
-use Rattle.edge_rules.specs.declared.wanted.Shift.{Shift}
-use Rattle.edge_rules.specs.declared.wanted.Wanted.TheVariants.{Into, From, Changing}
-use Rattle.edge_rules.specs.Inside.{HasOwnLabels}
-use Rattle.edge_rules.specs.Indexing.{entry_of}
-use Rattle.edge_rules.specs.GraphState.{GraphState}
-use Rattle.edge_rules.specs.Transfers.{transfer_between, transfers_to}
+use Rattle.edge_rules.specs.Found.{planned_between}
 use Rattle.edge_rules.proofs.InLine.{append-none, not-then}
 use Rattle.edge_rules.proofs.Neighbours.{named-is}
 use Rattle.edge_rules.proofs.PieceLemmas.{pieces-none, pieces-same, pieces-joined}

@@ -1,18 +1,7 @@
 -- The edges along a list of events that differ by name: one before each event, and one after.
-use Rattle.std.proofs.Common.{◌≡◌, Bool, true, false, ◌&&◌, List, [], ◌∷◌, ◌++◌, refl, sym, ◌∙◌, ap, arith, Some, find, get_or}
-use Rattle.std.specs.List.{All, AllPairs, filter}
-use Rattle.std.proofs.lemmas.Bool.{cond_both, cond-true, cond-false}
-use Rattle.std.proofs.lemmas.List.Elements.{All-append, All-cons, All-nil, All-tail, All-head, All-weaker, All-contains, Contains-append_right, filter-append}
-use Rattle.mt_base.specs.declared.keys.Key.{Key}
-use Rattle.mt_base.specs.declared.options.Opts.{Opts}
-use Rattle.mt_base.specs.Order.{is_same, node_of}
-use Rattle.mt_base.proofs.KeyLemmas.{same-is, same-itself, same_node-is, same_node-itself}
-use Rattle.delay_model.specs.declared.state.Event.{Event}
-use Rattle.delay_model.specs.declared.state.Edge.{Edge}
-use Rattle.delay_model.specs.Events.{is_event}
-use Rattle.delay_model.specs.Edges.{edges_along, edge_on, train_edge}
-use Rattle.delay_model.proofs.Lists.{AllPairs-tail, AllPairs-after}
-use Rattle.delay_model.proofs.Apart.{AreApart}
+use Rattle.edge_rules.proofs.Words.{◌≡◌, Bool, true, false, ◌&&◌, List, [], ◌∷◌, ◌++◌, refl, sym, ◌∙◌, ap, arith, Some, find, get_or, All, AllPairs, filter, cond_both, cond-true, All-append, All-cons, All-nil, All-tail, All-head, All-weaker, All-contains, Contains-append_right, filter-append, Key, Opts, is_same, node_of, same-is, same-itself, same_node-is, same_node-itself, Event, Edge, is_event, edges_along, edge_on, AllPairs-tail, AllPairs-after, AreApart}
+use Rattle.std.proofs.lemmas.Bool.{cond-false}
+use Rattle.delay_model.specs.Edges.{train_edge}
 
 -- what does not pass fails
 pub not-then : (b : Bool) → (b ≡ true → ⊥) → b ≡ false

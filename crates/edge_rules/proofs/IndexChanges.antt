@@ -1,10 +1,6 @@
 -- An index from which entries are taken out, and into which others are put.
-use Rattle.state_laws.proofs.Words.{◌≡◌, ◌+◌, ◌≤◌, List, [], ◌∷◌, length, refl, arith, cond, events, State}
-use Rattle.std.proofs.Common.{◌*◌}
-use Rattle.mt_base.specs.declared.index_entries.Entry.{Entry}
-use Rattle.station_index.proofs.EntryLemmas.{same_entry-itself}
-use Rattle.station_index.specs.Indexed.{Indexed, is_same_entry, with_entry, without_entry}
-use Rattle.edge_rules.specs.Indexing.{AreNew, AreThere, IsIndexOf, entries_of, put_in, taken_out, with_entries, without_entries}
+use Rattle.edge_rules.proofs.Words.{◌≡◌, ◌+◌, ◌≤◌, List, [], ◌∷◌, length, refl, arith, cond, events, State, ◌*◌, Entry, same_entry-itself, Indexed, is_same_entry, with_entry, without_entry, AreNew, AreThere, IsIndexOf, entries_of, with_entries, without_entries}
+use Rattle.edge_rules.specs.Indexing.{put_in, taken_out}
 use Rattle.edge_rules.proofs.EntryCounts.{count_of, count-there, there-count, count-without, count-with, to-counts, from-counts}
 
 -- entries that were taken out of an index, and what is left

@@ -1,20 +1,7 @@
 -- Pieces of events that are found by names are those of all events that have these names.
-use Rattle.std.proofs.Common.{◌≡◌, cond, List, [], ◌∷◌, flat_map, get_or, refl, arith, inl, inr, All, Contains}
-use Rattle.std.proofs.Math.Logic.{◌≢◌}
-use Rattle.std.specs.List.{AllPairs}
-use Rattle.std.specs.List.Sorted.{IsPermutation}
-use Rattle.std.specs.declared.cmp.Ordering.TheVariants.{Less}
-use Rattle.std.proofs.lemmas.Bool.{cases_Bool}
+use Rattle.edge_rules.proofs.Words.{◌≡◌, cond, List, [], ◌∷◌, flat_map, get_or, refl, arith, inl, inr, All, Contains, ◌≢◌, AllPairs, IsPermutation, Less, cases_Bool, Node, node_of, node_cmp, is_same_node, same_node-is, same_node-itself, State, Event, Edge, events, AllPairs-tail, AllPairs-after, Contains-cases, of_name}
 use Rattle.std.proofs.lemmas.Cmp.{tied_itself}
-use Rattle.mt_base.specs.declared.keys.Node.{Node}
-use Rattle.mt_base.specs.Order.{node_of, node_cmp, is_same_node}
-use Rattle.mt_base.proofs.KeyLemmas.{nodes_total, same_node-is, same_node-itself}
-use Rattle.delay_model.specs.declared.state.State.{State}
-use Rattle.delay_model.specs.declared.state.Event.{Event}
-use Rattle.delay_model.specs.declared.state.Edge.{Edge}
-use Rattle.delay_model.specs.Events.{events}
-use Rattle.delay_model.proofs.Lists.{AllPairs-tail, AllPairs-after, Contains-cases}
-use Rattle.edge_rules.specs.Found.{of_name}
+use Rattle.mt_base.proofs.KeyLemmas.{nodes_total}
 use Rattle.edge_rules.proofs.InLine.{append-none}
 use Rattle.edge_rules.proofs.PieceLemmas.{pieces-none, pieces-same, pieces-turned}
 

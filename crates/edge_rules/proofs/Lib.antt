@@ -1,3 +1,4 @@
+pub mod Words
 pub mod InLine
 pub mod Own
 pub mod Beside

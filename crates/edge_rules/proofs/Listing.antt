@@ -1,8 +1,5 @@
 -- The entries of all live events, train by train.
-use Rattle.state_laws.proofs.Words.{◌≡◌, ℕ, ◌+◌, List, ◌++◌, length, length-append, refl, sym, ◌∙◌, ap, All, All-map, events, events_from, live_events, train_events, Event, State}
-use Rattle.std.proofs.Common.{drop}
-use Rattle.mt_base.specs.declared.index_entries.Entry.{Entry}
-use Rattle.edge_rules.specs.Indexing.{entries_of, entry_of}
+use Rattle.edge_rules.proofs.Words.{◌≡◌, ℕ, ◌+◌, List, ◌++◌, length, length-append, refl, sym, ◌∙◌, ap, All, All-map, events, events_from, live_events, train_events, Event, State, drop, Entry, entries_of, entry_of}
 use Rattle.edge_rules.proofs.EventChanges.{entries-append}
 use Rattle.edge_rules.proofs.TrainByTrain.{one-train}
 

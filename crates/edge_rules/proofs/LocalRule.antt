@@ -1,30 +1,17 @@
 -- The local rule at an event.
-use Rattle.std.proofs.Common.{◌≡◌, ℕ, ◌+◌, ◌<◌, ◌^◌, List, [], ◌∷◌, ◌++◌, length, refl, sym, ◌∙◌, ap, subst, arith, true, false, Option, Some, None, is_some, unwrap_or}
-use Rattle.std.specs.List.{All, Contains, fold}
-use Rattle.std.specs.List.Sorted.{IsPermutation}
-use Rattle.std.specs.Option.{option_map, option_map_or}
+use Rattle.edge_rules.proofs.Words.{◌≡◌, ℕ, ◌+◌, ◌<◌, List, [], ◌∷◌, ◌++◌, length, refl, sym, ◌∙◌, ap, subst, arith, true, false, Option, Some, None, is_some, unwrap_or, All, Contains, fold, IsPermutation, option_map, option_map_or, All-tail, All-contains_itself, length-append, All-permutation, IsPermutation-sym, Node, Event, events, event_named, edges, incoming, later, capped, report_after, IsReady, transfers_to, All-left, node_of, along_to, edges_to, stored_time, HasOwnLabels, GraphState}
+use Rattle.std.proofs.Common.{◌^◌}
 use Rattle.std.proofs.lemmas.List.Sums.{fold-append}
-use Rattle.std.proofs.lemmas.List.Elements.{All-tail, All-contains_itself}
-use Rattle.std.proofs.lemmas.List.{length-append}
-use Rattle.std.proofs.lemmas.List.Sorted.{All-permutation, IsPermutation-sym, length_permutation}
+use Rattle.std.proofs.lemmas.List.Sorted.{length_permutation}
 use Rattle.delay_model.proofs.Bounds.{fold-same}
-use Rattle.mt_base.specs.declared.keys.Node.{Node}
-use Rattle.delay_model.specs.declared.state.Event.{Event}
 use Rattle.delay_model.specs.declared.state.Edge.{Edge as ModelEdge}
-use Rattle.delay_model.specs.Events.{events, event_named}
-use Rattle.delay_model.specs.Edges.{edges}
-use Rattle.delay_model.specs.Timing.{incoming, floor_of, later, capped, local}
+use Rattle.delay_model.specs.Timing.{floor_of, local}
 use Rattle.train_nodes.specs.Times.{StoredTimes}
-use Rattle.train_nodes.specs.Reports.{report_after}
-use Rattle.edge_rules.specs.Asking.{IsLater, IsReady}
-use Rattle.edge_rules.specs.Transfers.{transfers_to}
+use Rattle.edge_rules.specs.Asking.{IsLater}
 use Rattle.edge_rules.proofs.TransferLemmas.{edges-to}
-use Rattle.state_laws.proofs.Parts.{All-left, All-right}
-use Rattle.mt_base.specs.Order.{node_of}
+use Rattle.state_laws.proofs.Parts.{All-right}
 use Rattle.train_nodes.specs.Times.{has_time}
-use Rattle.edge_rules.specs.AtEvent.{along_to, edges_to, stored_time, local_at}
-use Rattle.edge_rules.specs.Inside.{HasOwnLabels}
-use Rattle.edge_rules.specs.GraphState.{GraphState}
+use Rattle.edge_rules.specs.AtEvent.{local_at}
 use Rattle.edge_rules.proofs.Caps.{cap-is}
 
 -- the rule at an event: its report, or else what the edges to it ask for from its floor on, up to the next report of its train

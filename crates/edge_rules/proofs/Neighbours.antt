@@ -1,31 +1,9 @@
 -- The edges along its train at an event of a state, by the names of the events beside it.
-use Rattle.std.proofs.Common.{◌≡◌, ℕ, Bool, true, false, List, [], ◌∷◌, ◌++◌, append_assoc, refl, sym, ◌∙◌, ap, subst, arith, Option, Some, None, find, is_some, slice_get, get_or}
-use Rattle.std.specs.List.{All, AllPairs, filter}
-use Rattle.std.specs.Option.{option_map, option_map_or}
+use Rattle.edge_rules.proofs.Words.{◌≡◌, ℕ, Bool, true, false, List, [], ◌∷◌, ◌++◌, append_assoc, refl, sym, ◌∙◌, ap, subst, arith, Option, Some, None, find, is_some, slice_get, get_or, All, AllPairs, filter, option_map, option_map_or, slice_get_within, get_or_from_slice_get, Key, Node, Opts, is_same, node_of, same-is, Call, Train, State, Event, Edge, before, after, is_call, node_at, events, events_of, events_at, event_named, is_event, is_live, calls_of, train_events, arrival_of, departure_of, train_edges, edges_along, edge_on, incoming, AreApart, events_at-train, events-from_each, has_event, first_label, last_label, outgoing, along_to, along_from, HasOwnLabels}
 use Rattle.std.proofs.lemmas.List.Elements.{All-get_or}
-use Rattle.std.proofs.lemmas.Option.{slice_get_within, get_or_from_slice_get}
-use Rattle.mt_base.specs.declared.keys.Key.{Key}
-use Rattle.mt_base.specs.declared.keys.Node.{Node}
-use Rattle.mt_base.specs.declared.options.Opts.{Opts}
-use Rattle.mt_base.specs.Order.{is_same, node_of}
-use Rattle.mt_base.proofs.KeyLemmas.{same-is}
-use Rattle.delay_model.specs.declared.state.Call.{Call}
-use Rattle.delay_model.specs.declared.state.Train.{Train}
-use Rattle.delay_model.specs.declared.state.State.{State}
-use Rattle.delay_model.specs.declared.state.Event.{Event}
-use Rattle.delay_model.specs.declared.state.Edge.{Edge}
-use Rattle.delay_model.specs.Cuts.{before, after}
-use Rattle.delay_model.specs.Effect.{is_call, node_at}
-use Rattle.delay_model.specs.Events.{events, events_of, events_at, event_named, is_event, is_live, calls_of, train_events, arrival_of, departure_of}
-use Rattle.delay_model.specs.Edges.{train_edges, edges_along, edge_on}
-use Rattle.delay_model.specs.Timing.{incoming}
 use Rattle.delay_model.specs.Valid.{HasDistinctLabels}
-use Rattle.delay_model.proofs.Apart.{AreApart, events_at-apart, events_at-train}
-use Rattle.state_laws.proofs.Parts.{events-from_each}
-use Rattle.train_nodes.specs.Calls.{has_event, first_label, last_label}
+use Rattle.delay_model.proofs.Apart.{events_at-apart}
 use Rattle.train_nodes.proofs.EventLemmas.{event_of_call, found_event}
-use Rattle.edge_rules.specs.AtEvent.{outgoing, along_to, along_from}
-use Rattle.edge_rules.specs.Inside.{HasOwnLabels}
 use Rattle.edge_rules.specs.Neighbours.{previous_of, previous_by, next_of, next_by}
 use Rattle.edge_rules.proofs.InLine.{find-own, self-found, along-into, along-out, edge_before, edge_before-last}
 use Rattle.edge_rules.proofs.Own.{own-train}

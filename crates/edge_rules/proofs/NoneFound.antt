@@ -1,37 +1,15 @@
 -- Where no edge between trains is found.
-use Rattle.std.proofs.Common.{◌≡◌, ◌<◌, ℕ, Bool, cond, filter, map, inl, inr, true, false, not, nat_eq, List, [], ◌∷◌, flat_map, length, get_or, Option, Some, None, refl, ◌∙◌, ap, arith, Contains}
+use Rattle.edge_rules.proofs.Words.{◌≡◌, ◌<◌, ℕ, Bool, cond, filter, map, inl, inr, true, false, not, nat_eq, List, [], ◌∷◌, flat_map, length, get_or, Option, Some, None, refl, ◌∙◌, ap, arith, Contains, option_map, option_map_or, nat_tests, Node, Entry, RuleRow, node_of, Network, Override, State, Event, Edge, wait_between, transfer, event_named, connection, wait, into-each, from-each, eqb-true, first_near, last_near, HaveEvents, planned_with, planned_by, planned_at, kept_with, kept_at, of_name, tables_in, GraphState, Into, From, Changing, WaitsAt, Change, is_in_range, cases_Bool}
 use mathlib.Core.Bool.{beq}
 use Rattle.std.specs.FinMap as finmap
 use Rattle.std.specs.FinMap.{FinMap, get-empty, empty_of_len}
-use Rattle.std.specs.Option.{option_map, option_map_or}
-use Rattle.std.proofs.lemmas.Bool.Decides.{nat_tests}
-use Rattle.mt_base.specs.declared.keys.Node.{Node}
-use Rattle.mt_base.specs.declared.index_entries.Entry.{Entry}
-use Rattle.mt_base.specs.declared.tables.RuleRow.{RuleRow}
-use Rattle.mt_base.specs.Order.{node_of}
-use Rattle.delay_model.specs.declared.network.Network.{Network}
-use Rattle.delay_model.specs.declared.overrides.Override.{Override}
-use Rattle.delay_model.specs.declared.state.State.{State}
-use Rattle.delay_model.specs.declared.state.Event.{Event}
-use Rattle.delay_model.specs.declared.state.Edge.{Edge}
-use Rattle.delay_model.specs.Edges.{wait_between, transfer}
-use Rattle.delay_model.specs.Events.{event_named}
-use Rattle.delay_model.specs.Overrides.{connection, connection_cmp}
-use Rattle.delay_model.specs.Waits.{wait}
+use Rattle.delay_model.specs.Overrides.{connection_cmp}
 use Rattle.train_nodes.specs.Calls.{has_call}
-use Rattle.train_nodes.proofs.KeepLemmas.{into-each, from-each}
-use Rattle.std.proofs.lemmas.Bool.{eqb-true}
-use Rattle.edge_rules.specs.Found.{are_into, can_be_at, first_near, last_near, HaveEvents, planned_with, planned_by, planned_at, kept_with, kept_names, kept_at, of_name, joined_stops, names_near, tables_in}
-use Rattle.edge_rules.specs.GraphState.{GraphState}
+use Rattle.edge_rules.specs.Found.{are_into, can_be_at, kept_names, joined_stops, names_near}
 use Rattle.edge_rules.specs.declared.wanted.Wanted.{Wanted}
-use Rattle.edge_rules.specs.declared.wanted.Wanted.TheVariants.{Into, From, Changing}
-use Rattle.waiting_rules.specs.WaitTable.{WaitsAt}
 use Rattle.edge_rules.proofs.Neighbours.{named-there}
 use Rattle.edge_rules.proofs.InLine.{filter-none}
 use Rattle.edge_rules.proofs.PieceLemmas.{pieces-filter, pieces-map, pieces-none}
-use Rattle.change_times.specs.declared.change.Change.{Change}
-use Rattle.station_index.specs.Indexed.{is_in_range}
-use Rattle.std.proofs.lemmas.Bool.{cases_Bool}
 
 -- what no event makes no name makes
 of-none : (f : Event → List Edge) → ((u : Event) → f u ≡ []) → (o : Option Event) → option_map_or f o [] ≡ []

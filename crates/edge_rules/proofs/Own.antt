@@ -1,15 +1,5 @@
 -- Of the edges along trains those at an event are the ones of its train.
-use Rattle.std.proofs.Common.{◌≡◌, ℕ, zero, suc, ◌+◌, ◌≤◌, Bool, true, false, List, [], ◌∷◌, ◌++◌, refl, ◌∙◌, ap, arith, Some, slice_get}
-use Rattle.std.proofs.Math.Logic.{◌≢◌}
-use Rattle.std.specs.List.{All, filter}
-use Rattle.std.proofs.lemmas.List.Elements.{All-nil, All-tail, All-weaker, filter-append}
-use Rattle.mt_base.specs.declared.options.Opts.{Opts}
-use Rattle.delay_model.specs.declared.state.Train.{Train}
-use Rattle.delay_model.specs.declared.state.Event.{Event}
-use Rattle.delay_model.specs.declared.state.Edge.{Edge}
-use Rattle.delay_model.specs.Events.{events_of}
-use Rattle.delay_model.specs.Edges.{train_edges, edges_along}
-use Rattle.delay_model.proofs.Apart.{events_at-train}
+use Rattle.edge_rules.proofs.Words.{◌≡◌, ℕ, zero, suc, ◌+◌, ◌≤◌, Bool, true, false, List, [], ◌∷◌, ◌++◌, refl, ◌∙◌, ap, arith, Some, slice_get, ◌≢◌, All, filter, All-nil, All-tail, All-weaker, filter-append, Opts, Train, Event, Edge, events_of, train_edges, edges_along, events_at-train}
 use Rattle.edge_rules.proofs.InLine.{filter-none, append-none, not-then, along-to, along-from}
 
 -- the edges along a train join events of it

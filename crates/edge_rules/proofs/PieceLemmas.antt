@@ -1,12 +1,8 @@
 -- Lists made of pieces, in any order.
-use Rattle.std.proofs.Common.{swap, ◌≡◌, ℕ, zero, suc, ◌+◌, ◌<◌, ◌≤◌, Bool, cond, List, [], ◌∷◌, ◌++◌, append_assoc, flat_map, map, filter, set, get_or, length, Option, Some, None, refl, sym, ap, subst, arith, inl, inr, ◌⊎◌, All, filter_map}
-use Rattle.std.specs.List.{range_with_len}
-use Rattle.std.specs.Option.{option_map_or}
-use Rattle.std.specs.List.Sorted.{IsPermutation}
-use Rattle.std.proofs.lemmas.Bool.{cases_Bool, cases_lt}
-use Rattle.std.proofs.lemmas.List.Elements.{All-head, All-tail}
+use Rattle.edge_rules.proofs.Words.{swap, ◌≡◌, ℕ, zero, suc, ◌+◌, ◌<◌, ◌≤◌, Bool, cond, List, [], ◌∷◌, ◌++◌, append_assoc, flat_map, map, filter, get_or, length, Option, Some, None, refl, sym, ap, subst, arith, inl, inr, All, filter_map, range_with_len, option_map_or, IsPermutation, cases_Bool, cases_lt, All-head, All-tail, IsPermutation-refl, IsPermutation-sym, IsPermutation-trans, IsPermutation-append_right, IsPermutation-keeps}
+use Rattle.std.proofs.Common.{set, ◌⊎◌}
 use Rattle.edge_rules.proofs.InLine.{append-none}
-use Rattle.std.proofs.lemmas.List.Sorted.{IsPermutation-refl, IsPermutation-sym, IsPermutation-trans, IsPermutation-append_comm, IsPermutation-append_left, IsPermutation-append_right, IsPermutation-keeps}
+use Rattle.std.proofs.lemmas.List.Sorted.{IsPermutation-append_comm, IsPermutation-append_left}
 
 module _ {X : Type 0} where
   -- two lists before a third in the other order

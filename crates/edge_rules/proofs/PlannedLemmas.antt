@@ -1,18 +1,5 @@
 -- Pieces of events that are found by changes and by an index are those of all events.
-use Rattle.std.proofs.Common.{◌≡◌, ℕ, ◌<◌, Bool, true, cond, List, [], flat_map, map, filter, filter_map, get_or, Option, Some, None, refl, sym, ◌∙◌, ap, subst, arith, All}
-use Rattle.std.specs.List.{range_with_len}
-use Rattle.std.specs.List.Sorted.{IsPermutation}
-use Rattle.std.specs.Option.{option_map_or}
-use Rattle.std.proofs.lemmas.List.Sorted.{IsPermutation-trans}
-use Rattle.mt_base.specs.declared.index_entries.Entry.{Entry}
-use Rattle.mt_base.specs.Order.{node_of}
-use Rattle.delay_model.specs.declared.state.State.{State}
-use Rattle.delay_model.specs.declared.state.Event.{Event}
-use Rattle.delay_model.specs.declared.state.Edge.{Edge}
-use Rattle.delay_model.specs.Events.{events, event_named, live_events}
-use Rattle.change_times.specs.declared.change.Change.{Change}
-use Rattle.edge_rules.specs.Found.{of_name}
-use Rattle.edge_rules.specs.Indexing.{entry_of}
+use Rattle.edge_rules.proofs.Words.{◌≡◌, ℕ, ◌<◌, Bool, true, cond, List, [], flat_map, map, filter, filter_map, get_or, Option, Some, None, refl, sym, ◌∙◌, ap, subst, arith, All, range_with_len, IsPermutation, option_map_or, IsPermutation-trans, Entry, node_of, State, Event, Edge, events, event_named, live_events, Change, of_name, entry_of}
 use Rattle.edge_rules.proofs.PieceLemmas.{pieces-permuted, pieces-filter, pieces-map, pieces-filter_map, pieces-same, pieces-turned, one-of-range}
 
 module _ (st : State) (entries : List Entry) (index : IsPermutation entries (map entry_of (live_events (events st)))) (named : All (λ u. event_named st (node_of u.key) ≡ Some u) (events st)) where

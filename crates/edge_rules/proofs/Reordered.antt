@@ -1,11 +1,7 @@
 -- What holds of each two elements of a list in another order.
-use Rattle.std.proofs.Common.{◌≡◌, ℕ, ◌<◌, List, get_or, length, swap, refl, ◌∙◌, ap, arith, inl, inr}
-use Rattle.std.proofs.Math.Logic.{◌≢◌}
-use Rattle.std.specs.List.{AllPairs}
-use Rattle.std.specs.List.Sorted.{IsPermutation}
-use Rattle.std.proofs.lemmas.Bool.{cases_eq, cases_lt}
+use Rattle.edge_rules.proofs.Words.{◌≡◌, ℕ, ◌<◌, List, get_or, length, swap, refl, ◌∙◌, ap, arith, inl, inr, ◌≢◌, AllPairs, IsPermutation, cases_lt, IsPermutation-keeps}
+use Rattle.std.proofs.lemmas.Bool.{cases_eq}
 use Rattle.std.proofs.lemmas.List.Edits.{Swapped, swapped_from_swap, length-swap}
-use Rattle.std.proofs.lemmas.List.Sorted.{IsPermutation-keeps}
 
 module _ {X : Type 0} (R : X → X → Type 0) (turn : (x y : X) → R x y → R y x) where
   -- where a place came from when a and b changed places

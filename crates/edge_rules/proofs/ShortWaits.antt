@@ -1,25 +1,8 @@
 -- No edge waits longer than the rules say.
-use Rattle.std.proofs.Common.{ℕ, suc, ◌+◌, ◌≤◌, inl, inr, Bool, List, [], ◌∷◌, Option, Some, None, find, get_or, arith, All}
-use Rattle.std.specs.Option.{option_map_or}
-use Rattle.std.proofs.lemmas.Bool.{cases_Bool}
-use Rattle.std.proofs.lemmas.List.Elements.{All-append, All-cons, All-nil, All-filter}
-use Rattle.mt_base.specs.declared.keys.Node.{Node}
-use Rattle.mt_base.specs.declared.options.Opts.{Opts}
-use Rattle.mt_base.specs.declared.tables.RuleRow.{RuleRow}
-use Rattle.mt_base.specs.Order.{is_same}
-use Rattle.delay_model.specs.declared.network.Network.{Network}
-use Rattle.delay_model.specs.declared.overrides.Override.{Override}
-use Rattle.delay_model.specs.declared.state.Train.{Train}
-use Rattle.delay_model.specs.declared.state.Event.{Event}
-use Rattle.delay_model.specs.declared.state.Edge.{Edge}
-use Rattle.delay_model.specs.Edges.{edges, edges_along, edge_on, train_edges, transfer, transfers_from, transfer_edges, override_of, wait_between}
-use Rattle.delay_model.specs.Events.{events, event_named, events_of}
-use Rattle.delay_model.specs.Timing.{incoming}
-use Rattle.delay_model.specs.Waits.{wait, is_rule_for}
-use Rattle.delay_model.proofs.Lists.{All-flat_map}
-use Rattle.edge_rules.specs.AtEvent.{outgoing, edges_to, edges_from}
+use Rattle.edge_rules.proofs.Words.{ℕ, suc, ◌+◌, ◌≤◌, inl, inr, Bool, List, [], ◌∷◌, Option, Some, None, find, get_or, arith, All, option_map_or, cases_Bool, All-append, All-cons, All-nil, All-filter, Node, Opts, RuleRow, is_same, Network, Override, Train, Event, Edge, edges, edges_along, edge_on, train_edges, transfer, transfer_edges, override_of, wait_between, events, event_named, events_of, incoming, wait, All-flat_map, outgoing, edges_to, edges_from, GraphState}
+use Rattle.delay_model.specs.Edges.{transfers_from}
+use Rattle.delay_model.specs.Waits.{is_rule_for}
 use Rattle.edge_rules.specs.Found.{wait_of}
-use Rattle.edge_rules.specs.GraphState.{GraphState}
 
 abbrev pub IsShort : Edge → Type 0
 IsShort e = wait_of e.kind ≤ 86400

@@ -1,14 +1,9 @@
 -- Trains call at stops and platforms alone, also after a change.
-use Rattle.state_laws.proofs.Words.{◌≡◌, ℕ, zero, suc, ◌+◌, Bool, true, false, List, [], ◌∷◌, map, refl, All, All-nil, All-cons, All-head, All-append, get_or}
-use Rattle.state_laws.proofs.Words.{All-tail, All-map, NewCall, Network, Node, Cancel, Reroute, Extra, EventValues, Call, Train, State}
-use Rattle.state_laws.proofs.Words.{change_train, change_calls, change_event, change_labelled, is_call, kill_in, killed, new_calls, new_train, rerouted, begin_run, end_run}
-use Rattle.state_laws.proofs.Words.{stretch, are_at_stops, with_event, arith, elements}
-use Rattle.state_laws.proofs.Words.{effect}
+use Rattle.edge_rules.proofs.Words.{◌≡◌, ℕ, zero, suc, ◌+◌, Bool, true, false, List, [], ◌∷◌, map, refl, All, All-nil, All-cons, All-head, All-append, get_or, All-tail, All-map, NewCall, Network, Node, Cancel, Reroute, Extra, EventValues, Call, Train, State, is_call, kill_in, new_calls, new_train, rerouted, begin_run, end_run, stretch, with_event, arith, effect, StopRow, is_stop, AreAtStops, IsAtStop}
+use Rattle.state_laws.proofs.Words.{change_train, change_calls, change_event, change_labelled, killed}
+use Rattle.state_laws.proofs.Words.{are_at_stops, elements}
 use Rattle.std.specs.List.{list_all}
-use Rattle.mt_base.specs.declared.tables.StopRow.{StopRow}
-use Rattle.delay_model.specs.Changes.{is_stop}
 use Rattle.state_laws.proofs.Stretches.{All-from, All-up_to}
-use Rattle.edge_rules.specs.AtStops.{AreAtStops, IsAtStop}
 
 labelled-stop : (label : ℕ) (dep : Bool) (f : EventValues → EventValues) (c : Call) → (change_labelled label (change_event dep f) c).stop ≡ c.stop
 labelled-stop label dep f c = grind arith

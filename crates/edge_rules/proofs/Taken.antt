@@ -1,5 +1,5 @@
 -- What an iterator over parts takes.
-use Rattle.std.proofs.Common.{◌≡◌, List, ◌∷◌, ◌++◌, [], Option, Some, None}
+use Rattle.edge_rules.proofs.Words.{◌≡◌, List, ◌∷◌, ◌++◌, [], Option, Some, None}
 
 -- of all that were to come these are left: the one that was taken, or none, and what is left of its part and of the others
 abbrev pub IsTaken : {X : Type 0} → List X → Option X → List X → List X → Type 0

@@ -1,10 +1,6 @@
 -- The events of all trains, train by train.
-use Rattle.std.proofs.Common.{◌≡◌, ℕ, zero, suc, ◌+◌, List, [], ◌∷◌, ◌++◌, drop, slice_get, refl, sym, ◌∙◌, ap, arith}
-use Rattle.std.specs.Option.{option_map_or}
+use Rattle.edge_rules.proofs.Words.{◌≡◌, ℕ, zero, suc, ◌+◌, List, [], ◌∷◌, ◌++◌, drop, slice_get, refl, sym, ◌∙◌, ap, arith, option_map_or, Train, State, events_from, events_of, train_events}
 use Rattle.std.proofs.lemmas.List.{drop_all}
-use Rattle.delay_model.specs.declared.state.Train.{Train}
-use Rattle.delay_model.specs.declared.state.State.{State}
-use Rattle.delay_model.specs.Events.{events_from, events_of, train_events}
 
 on : (n i : ℕ) (ts : List Train) → option_map_or (events_of n) (slice_get ts i) [] ++ events_from (n + 1) (drop (i + 1) ts) ≡ events_from n (drop i ts)
 on n i [] = ap (events_from (n + 1)) (drop_all (i + 1) [] (omega arith)) ∙ sym (ap (events_from n) (drop_all i [] (omega arith)))

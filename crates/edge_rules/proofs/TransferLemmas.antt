@@ -1,24 +1,6 @@
 -- Of the edges between trains those at an event.
-use Rattle.std.proofs.Common.{◌≡◌, Bool, true, false, List, [], ◌∷◌, ◌++◌, flat_map, get_or, Some, refl, sym, ◌∙◌, ap, subst, arith}
-use Rattle.std.specs.List.{All, AllPairs, filter}
-use Rattle.std.proofs.lemmas.Bool.{cond-true}
+use Rattle.edge_rules.proofs.Words.{◌≡◌, Bool, true, false, List, [], ◌∷◌, ◌++◌, flat_map, get_or, Some, refl, sym, ◌∙◌, ap, subst, arith, All, AllPairs, filter, cond-true, All-cons, All-nil, All-tail, All-head, All-weaker, filter-append, Key, Node, is_same, same-itself, Event, Edge, events, event_named, edges, train_edges, transfer, transfer_edges, override_of, incoming, AllPairs-after, All-flat_map, AreApart, labels-apart, outgoing, edges_to, edges_from, along_to, along_from, HasOwnLabels, GraphState, transfer_between}
 use Rattle.std.proofs.lemmas.List.Concat.{flat_map-append}
-use Rattle.std.proofs.lemmas.List.Elements.{All-cons, All-nil, All-tail, All-head, All-weaker, filter-append}
-use Rattle.mt_base.specs.declared.keys.Key.{Key}
-use Rattle.mt_base.specs.declared.keys.Node.{Node}
-use Rattle.mt_base.specs.Order.{is_same}
-use Rattle.mt_base.proofs.KeyLemmas.{same-itself}
-use Rattle.delay_model.specs.declared.state.Event.{Event}
-use Rattle.delay_model.specs.declared.state.Edge.{Edge}
-use Rattle.delay_model.specs.Events.{events, event_named}
-use Rattle.delay_model.specs.Edges.{edges, train_edges, transfer, transfer_edges, override_of}
-use Rattle.delay_model.specs.Timing.{incoming}
-use Rattle.delay_model.proofs.Lists.{AllPairs-after, All-flat_map}
-use Rattle.delay_model.proofs.Apart.{AreApart, labels-apart}
-use Rattle.edge_rules.specs.AtEvent.{outgoing, edges_to, edges_from, along_to, along_from}
-use Rattle.edge_rules.specs.Inside.{HasOwnLabels}
-use Rattle.edge_rules.specs.GraphState.{GraphState}
-use Rattle.edge_rules.specs.Transfers.{transfer_between}
 use Rattle.edge_rules.proofs.InLine.{filter-none, append-none, AllPairs-before, apart-left}
 use Rattle.edge_rules.proofs.Caps.{IsThere, there}
 use Rattle.edge_rules.proofs.PieceLemmas.{pieces-none, pieces-same}

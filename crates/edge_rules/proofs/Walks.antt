@@ -1,7 +1,7 @@
 -- Walks along a train between two of its events.
-use Rattle.state_laws.proofs.Words.{◌≡◌, ℕ, Bool, true, false, List, [], ◌∷◌, None, Some, refl, arith, slice_get, option_map_or, common_steps}
-use Rattle.state_laws.proofs.Words.{node_at, is_call, is_event, calls_between, events_between, events_at, events_of, train_events, before, after, Call, Event, State, Train}
-use Rattle.state_laws.proofs.Words.{is_same_node}
+use Rattle.edge_rules.proofs.Words.{◌≡◌, ℕ, Bool, true, false, List, [], ◌∷◌, None, Some, refl, arith, slice_get, option_map_or, node_at, is_call, is_event, events_between, events_at, events_of, train_events, before, after, Call, Event, State, Train, is_same_node}
+use Rattle.state_laws.proofs.Words.{common_steps}
+use Rattle.state_laws.proofs.Words.{calls_between}
 use Rattle.delay_model.specs.Cuts as Cuts
 
 -- what is still to come of the events from the first that passes on: all, once one has passed

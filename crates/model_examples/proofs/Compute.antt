@@ -1,32 +1,26 @@
 -- How the definitions compute over a state of which it is known what was chosen for each connection.
-use Rattle.std.proofs.Common.{◌≡◌, ℕ, ◌+◌, ◌-◌, List, ◌∷◌, ◌++◌, Bool, true, false, cond, if◌then◌else◌, not, ◌&&◌, ◌||◌, filter, nat_eq, length, Option, Some, None, is_some, map, refl, sym, ◌∙◌, ap}
+use Rattle.model_examples.proofs.Words.{◌≡◌, ℕ, ◌+◌, List, ◌∷◌, ◌++◌, Bool, true, false, length, Option, Some, None, refl, sym, ◌∙◌, ap, len-empty, is_same_node, Network, State, Event, Full, Overrides, Override, connection_cmp, events, effect, time, event_time, refusal}
+use Rattle.std.proofs.Common.{◌-◌, cond, if◌then◌else◌, not, ◌&&◌, ◌||◌, filter, nat_eq, is_some, map}
 use Rattle.std.specs.Option.{option_or}
-use Rattle.std.specs.FinMap.{FinMap, empty, get, insert, remove, retain_keys, len, get-empty, len-empty, len-insert, same_map, get-insert, get-remove, get-retain_keys}
+use Rattle.std.specs.FinMap.{FinMap, empty, get, insert, remove, retain_keys, len, get-empty, len-insert, same_map, get-insert, get-remove, get-retain_keys}
 use Rattle.std.specs.Ordering.{eq_by_cmp, is_eq}
 use Rattle.std.specs.declared.cmp.Ordering.{Ordering}
 use Rattle.std.specs.declared.cmp.Ordering.TheVariants.{Less, Equal, Greater}
-use Rattle.mt_base.specs.Order.{node_of, is_same_node}
+use Rattle.mt_base.specs.Order.{node_of}
 use Rattle.mt_base.specs.declared.keys.Key.{Key}
 use Rattle.mt_base.specs.declared.keys.Node.{Node}
-use Rattle.delay_model.specs.declared.network.Network.{Network}
-use Rattle.delay_model.specs.declared.state.State.{State}
-use Rattle.delay_model.specs.declared.state.Event.{Event}
 use Rattle.delay_model.specs.declared.state.Edge.{Edge}
 use Rattle.delay_model.specs.declared.messages.Message.{Message}
 use Rattle.delay_model.specs.declared.messages.Message.TheVariants.{Keep, Drop}
 use Rattle.delay_model.specs.declared.messages.Refusal.{Refusal}
-use Rattle.delay_model.specs.declared.messages.Refusal.TheVariants.{Unknown, Known, NoConnection, Full}
-use Rattle.delay_model.specs.declared.messages.Short.TheVariants.{Overrides}
+use Rattle.delay_model.specs.declared.messages.Refusal.TheVariants.{Unknown, Known, NoConnection}
 use Rattle.delay_model.specs.declared.overrides.Connection.{Connection}
-use Rattle.delay_model.specs.declared.overrides.Override.{Override}
-use Rattle.delay_model.specs.Overrides.{connection_cmp, connection}
-use Rattle.delay_model.specs.Events.{events, live_events}
+use Rattle.delay_model.specs.Overrides.{connection}
+use Rattle.delay_model.specs.Events.{live_events}
 use Rattle.delay_model.specs.Edges.{edges, override_of, train_edges, transfer_edges}
 use Rattle.std.specs.List.{list_any}
-use Rattle.delay_model.specs.Effect.{effect}
-use Rattle.delay_model.specs.Timing.{time, event_time}
 use Rattle.delay_model.specs.Touched.{changed, differing, touched, named, is_fed_by}
-use Rattle.delay_model.specs.Refusals.{refusal, refused_if, is_unknown, is_known, has_no_connection, contradiction, against_rank}
+use Rattle.delay_model.specs.Refusals.{refused_if, is_unknown, is_known, has_no_connection, contradiction, against_rank}
 use Rattle.delay_model.proofs.ConnectionLemmas.{connections_total, exact_connections}
 use Rattle.model_examples.specs.TwoTrains.{times}
 

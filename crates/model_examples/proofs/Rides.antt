@@ -1,16 +1,10 @@
 -- The rides of the timetable's two trains, and how passengers go on from them.
-use Rattle.std.proofs.Common.{◌≡◌, ◌⊎◌, inl, inr, ℕ, zero, suc, ◌+◌, ◌≤◌, ◌<◌, length, List, [], ◌∷◌, ◌++◌, Bool, true, false, Option, Some, None, slice_get, All, MatchBool, refl, sym, ◌∙◌, ap, subst, arith}
+use Rattle.model_examples.proofs.Words.{◌≡◌, ℕ, ◌+◌, ◌≤◌, ◌<◌, length, List, [], ◌∷◌, ◌++◌, Bool, true, false, Option, Some, None, All, refl, sym, ◌∙◌, ap, subst, arith, Network, Call, Train, State, change, event_time, network, opts, stop_a, platform_b1, platform_b2, stop_c, stop_d, at_eight}
+use Rattle.std.proofs.Common.{◌⊎◌, inl, inr, zero, suc, slice_get, MatchBool}
 use Rattle.mt_base.specs.declared.journeys.PlanRide.{PlanRide}
-use Rattle.delay_model.specs.declared.network.Network.{Network}
-use Rattle.delay_model.specs.declared.state.Call.{Call}
-use Rattle.delay_model.specs.declared.state.Train.{Train}
-use Rattle.delay_model.specs.declared.state.State.{State}
-use Rattle.delay_model.specs.Changes.{change}
 use Rattle.delay_model.specs.Events.{arrival_of, departure_of}
-use Rattle.delay_model.specs.Timing.{event_time}
 use Rattle.delay_model.specs.Journeys.{IsRide, StopsAndGoesOn, IsInTime, GoesOn, IsJourney, MayBegin, is_one_station}
 use Rattle.mt_base.specs.declared.journeys.Query.{Query}
-use Rattle.model_examples.specs.TwoTrains.{network, opts, stop_a, platform_b1, platform_b2, stop_c, stop_d, at_eight}
 
 no_split : {A : Type 0} (xs : List A) (x : A) (ys : List A) → [] ≡ xs ++ x ∷ ys → ⊥
 no_split [] x ys e = cc

@@ -1,12 +1,5 @@
 -- Flags of the stops and kinds of events where entries were added.
-use Rattle.std.proofs.Common.{◌≡◌, ℕ, zero, suc, List, [], ◌∷◌, Bool, true, false, get_or, refl, sym, ◌∙◌, ap, inl, inr, All}
-use Rattle.std.proofs.Math.ListN.{set}
-use Rattle.std.specs.List.{filter}
-use Rattle.std.proofs.lemmas.Bool.{and_parts, cases_Bool, eqb-true}
-use Rattle.std.proofs.lemmas.List.Elements.{All-weaker}
-use Rattle.mt_base.specs.declared.index_entries.Entry.{Entry}
-use Rattle.station_index.specs.Indexed.{is_in_range, with_entry}
-use Rattle.station_index.specs.Slots.{slot_number, slot_of}
+use Rattle.station_index.proofs.Words.{◌≡◌, ℕ, zero, suc, List, [], ◌∷◌, Bool, true, false, get_or, refl, sym, ◌∙◌, ap, inl, inr, All, set, filter, and_parts, cases_Bool, eqb-true, All-weaker, Entry, is_in_range, with_entry, slot_number, slot_of}
 use Rattle.station_index.proofs.EntryLemmas.{beq-true}
 use Rattle.station_index.proofs.OrderLemmas.{with-all}
 use Rattle.station_index.proofs.PlaceLemmas.{none-pass}

@@ -1,17 +1,12 @@
 -- Entries: their order, and where the entries of a range stand in it.
-use Rattle.std.proofs.Common.{◌≡◌, ℕ, ◌≤◌, Bool, true, false, not, ◌&&◌, refl, sym, ◌∙◌, arith, Ordering}
-use Rattle.std.specs.declared.cmp.Ordering.TheVariants.{Less, Equal, Greater}
-use Rattle.std.specs.Cmp.{IsTotalOrder, bool_cmp_total}
-use Rattle.std.specs.Ordering.{nat_cmp, bool_cmp, ordering_then, is_lt, is_le, is_gt}
+use Rattle.station_index.proofs.Words.{◌≡◌, ℕ, ◌≤◌, Bool, true, false, not, ◌&&◌, refl, sym, ◌∙◌, arith, Ordering, Equal, IsTotalOrder, nat_cmp, bool_cmp, ordering_then, is_lt, beq, Entry, is_before_entry, entries_total, exact_entries, before_entry-itself, is_same_entry, is_in_range, LoadedEvent, entry_of, slot_number, slot_of, is_before_range, is_past_range}
+use Rattle.std.specs.declared.cmp.Ordering.TheVariants.{Less, Greater}
+use Rattle.std.specs.Cmp.{bool_cmp_total}
+use Rattle.std.specs.Ordering.{is_le, is_gt}
 use Rattle.std.proofs.lemmas.Cmp.{then_total, on_total, nat_cmp_total}
-use mathlib.Core.Bool.{beq}
-use Rattle.mt_base.specs.declared.index_entries.Entry.{Entry}
-use Rattle.mt_base.specs.Order.{is_before_entry, node_cmp}
-use Rattle.mt_base.proofs.KeyLemmas.{entries_total, exact_entries, before_entry-itself, same_node-is, same_node-itself}
-use Rattle.station_index.specs.Indexed.{is_same_entry, is_in_range}
-use Rattle.station_index.specs.declared.loaded_event.LoadedEvent.{LoadedEvent}
-use Rattle.station_index.specs.Slots.{entry_of, slot_number, slot_of}
-use Rattle.station_index.specs.Places.{is_before_range, is_past_range, range_cmp}
+use Rattle.mt_base.specs.Order.{node_cmp}
+use Rattle.mt_base.proofs.KeyLemmas.{same_node-is, same_node-itself}
+use Rattle.station_index.specs.Places.{range_cmp}
 
 abbrev pub IsBefore : Entry → Entry → Type 0
 IsBefore a b = is_before_entry a b ≡ true

@@ -1,16 +1,5 @@
 -- An entry among loaded ones.
-use Rattle.std.proofs.Common.{◌≡◌, ℕ, ◌+◌, ◌-◌, ◌<◌, ◌≤◌, List, Bool, true, false, not, length, map, get_or, take, drop, refl, sym, ◌∙◌, ap, arith, inl, inr, All}
-use Rattle.std.specs.List.{HoldsAt}
-use Rattle.std.specs.List.Sorted.{IsPartitionPoint, IsPartitionedBy}
-use Rattle.std.proofs.lemmas.Bool.{cases_Bool, cases_lt, eq-eqb}
-use Rattle.std.proofs.lemmas.Bool.Decides.{nat_tests}
-use Rattle.std.proofs.lemmas.List.{get_or-drop, get_or-map, get_or-take, get_or_default, length-map}
-use Rattle.mt_base.specs.declared.index_entries.Entry.{Entry}
-use Rattle.mt_base.specs.Order.{is_before_entry}
-use Rattle.station_index.specs.declared.loaded_event.LoadedEvent.{LoadedEvent}
-use Rattle.station_index.specs.Indexed.{AreInOrder, is_in_range, is_same_entry}
-use Rattle.station_index.specs.Places.{IsRangeAt}
-use Rattle.station_index.specs.Slots.{entry_of}
+use Rattle.station_index.proofs.Words.{◌≡◌, ℕ, ◌+◌, ◌-◌, ◌<◌, ◌≤◌, List, Bool, true, false, not, length, map, get_or, take, drop, refl, sym, ◌∙◌, ap, arith, inl, inr, All, HoldsAt, IsPartitionPoint, IsPartitionedBy, cases_Bool, cases_lt, eq-eqb, nat_tests, get_or-drop, get_or-map, get_or-take, get_or_default, length-map, Entry, is_before_entry, LoadedEvent, AreInOrder, is_in_range, is_same_entry, IsRangeAt, entry_of}
 use Rattle.station_index.proofs.EntryLemmas.{IsBefore, before_entry-connected, beq-itself, same_entry-is}
 use Rattle.station_index.proofs.PartLemmas.{some_event}
 use Rattle.station_index.proofs.PlaceLemmas.{AreInOrder-drop, AreInOrder-take, IsPlace, all-differ, parted}

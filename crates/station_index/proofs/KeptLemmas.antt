@@ -1,9 +1,6 @@
 -- The elements of a list whose flags are set.
-use Rattle.std.proofs.Common.{◌≡◌, ◌≢◌, ℕ, zero, suc, ◌<◌, ◌≤◌, List, [], ◌∷◌, Bool, true, false, length, get_or, take, drop, refl, sym, ap, arith, All, replicate}
-use Rattle.std.proofs.Math.ListN.{set}
-use Rattle.std.specs.List.{filter, HoldsAt}
-use Rattle.std.proofs.lemmas.List.Elements.{All-cons, All-head, All-nil, All-tail}
-use Rattle.station_index.specs.Merged.{kept}
+use Rattle.station_index.proofs.Words.{◌≡◌, ◌≢◌, ℕ, zero, suc, ◌<◌, ◌≤◌, List, [], ◌∷◌, Bool, true, false, length, get_or, take, drop, refl, sym, ap, arith, All, set, filter, HoldsAt, All-cons, All-head, All-nil, All-tail, kept}
+use Rattle.std.proofs.Common.{replicate}
 
 module _ {X : Type 0} where
   pub kept-all : (xs : List X) (n : ℕ) → n ≡ length xs → kept xs (replicate n true) ≡ xs

@@ -1,14 +1,6 @@
 -- Two lists of entries as one.
-use Rattle.std.proofs.Common.{◌≡◌, List, [], ◌∷◌, Bool, true, false, cond, refl, sym, ◌∙◌, ap, arith, inl, inr, All}
-use Rattle.std.specs.List.{filter}
-use Rattle.std.proofs.lemmas.Bool.{cases_Bool}
-use Rattle.std.proofs.lemmas.List.Elements.{All-cons, All-nil, All-head, All-tail, All-filter, All-weaker}
-use Rattle.std.proofs.lemmas.List.Sorted.{All-permutation, IsPermutation-sym}
-use Rattle.mt_base.specs.declared.index_entries.Entry.{Entry}
-use Rattle.mt_base.specs.Order.{is_before_entry}
-use Rattle.mt_base.proofs.KeyLemmas.{before_entry-trans, before_entry-asymmetric, before_entry-itself}
-use Rattle.station_index.specs.Indexed.{AreInOrder, with_entry}
-use Rattle.station_index.specs.Merged.{comes_first, merged}
+use Rattle.station_index.proofs.Words.{◌≡◌, List, [], ◌∷◌, Bool, true, false, cond, refl, sym, ◌∙◌, ap, arith, inl, inr, All, filter, cases_Bool, All-cons, All-nil, All-head, All-tail, All-filter, All-weaker, All-permutation, IsPermutation-sym, Entry, is_before_entry, before_entry-trans, before_entry-itself, AreInOrder, with_entry, comes_first, merged}
+use Rattle.mt_base.proofs.KeyLemmas.{before_entry-asymmetric}
 use Rattle.station_index.proofs.EntryLemmas.{IsBefore, before_entry-connected}
 use Rattle.station_index.proofs.OrderLemmas.{AreInOrder-cons, AreInOrder-after, AreInOrder-tail, AreInOrder-nil, with-moves, with-all}
 

@@ -1,14 +1,7 @@
 -- Entries by a number.
-use Rattle.std.proofs.Common.{◌≡◌, ◌≢◌, ℕ, ◌+◌, ◌/◌, ◌%◌, ◌^◌, ◌<◌, ◌≤◌, false, nat_eq, List, map, length, get_or, subst, arith, Ordering}
-use Rattle.std.specs.List.{AllPairs}
-use Rattle.std.specs.List.Sorted.{IsPermutation, IsSorted}
-use Rattle.std.specs.Ordering.{nat_cmp, bool_cmp, ordering_then, is_lt}
-use Rattle.std.proofs.lemmas.List.{get_or-map, length-map}
+use Rattle.station_index.proofs.Words.{◌≡◌, ◌≢◌, ℕ, ◌+◌, ◌/◌, ◌%◌, ◌<◌, ◌≤◌, false, nat_eq, List, map, length, get_or, subst, arith, Ordering, AllPairs, IsPermutation, IsSorted, nat_cmp, bool_cmp, ordering_then, is_lt, get_or-map, length-map, Entry, entry_cmp, AreInOrder, entry_of_number}
+use Rattle.std.proofs.Common.{◌^◌}
 use Rattle.std.proofs.lemmas.List.Sorted.{IsPermutation-map}
-use Rattle.mt_base.specs.declared.index_entries.Entry.{Entry}
-use Rattle.mt_base.specs.Order.{entry_cmp}
-use Rattle.station_index.specs.Indexed.{AreInOrder}
-use Rattle.station_index.specs.Numbers.{entry_of_number}
 use Rattle.station_index.proofs.OrderLemmas.{sorted-ascends}
 
 not-before : (a b : ℕ) (o : Ordering) → b ≤ a → (a ≡ b → is_lt o ≡ false) → is_lt (ordering_then (nat_cmp a b) o) ≡ false

@@ -1,22 +1,14 @@
 -- Lists of entries stay in their order.
-use Rattle.std.proofs.Common.{◌≡◌, ◌≢◌, suc, ◌≤◌, List, [], ◌∷◌, Bool, true, false, length, get_or, arith, inl, inr, All, Contains, Ordering}
+use Rattle.station_index.proofs.Words.{◌≡◌, ◌≢◌, suc, ◌≤◌, List, [], ◌∷◌, Bool, true, false, length, get_or, arith, inl, inr, All, Ordering, IsTotalOrder, AllPairs, filter, IsPermutation, IsSorted, Equal, is_lt, cases_Bool, All-cons, All-nil, All-weaker, All-permutation, Entry, entry_cmp, is_before_entry, entries_total, exact_entries, before_entry-trans, AreInOrder, with_entry}
+use Rattle.std.proofs.Common.{Contains}
 use Rattle.std.specs.Bool.{Decides}
-use Rattle.std.specs.Cmp.{IsTotalOrder}
-use Rattle.std.specs.List.{AllPairs, filter}
-use Rattle.std.specs.List.Sorted.{IsPermutation, IsSorted}
-use Rattle.std.specs.declared.cmp.Ordering.TheVariants.{Equal}
-use Rattle.std.specs.Ordering.{is_eq, is_lt}
-use Rattle.std.proofs.lemmas.Bool.{cases_Bool}
+use Rattle.std.specs.Ordering.{is_eq}
 use Rattle.std.proofs.lemmas.Cmp.{tied_itself}
-use Rattle.std.proofs.lemmas.List.Elements.{All-cons, All-nil, All-weaker, Contains-get_or}
+use Rattle.std.proofs.lemmas.List.Elements.{Contains-get_or}
 use Rattle.std.proofs.lemmas.List.Kept.{AllPairs-cons, AllPairs-filter}
-use Rattle.std.proofs.lemmas.List.Sorted.{All-permutation, IsPermutation-refl, IsPermutation-trans, IsPermutation-cons, IsPermutation-middle, ranks_by, sorted_far}
+use Rattle.std.proofs.lemmas.List.Sorted.{IsPermutation-refl, IsPermutation-trans, IsPermutation-cons, IsPermutation-middle, ranks_by, sorted_far}
 use Rattle.std.proofs.lemmas.Map.Keys.{IsDistinct-IsPermutation}
 use Rattle.std.proofs.lemmas.Map.Made.{AllPairs-from_IsDistinct, IsDistinct-from_AllPairs}
-use Rattle.mt_base.specs.declared.index_entries.Entry.{Entry}
-use Rattle.mt_base.specs.Order.{entry_cmp, is_before_entry}
-use Rattle.mt_base.proofs.KeyLemmas.{entries_total, exact_entries, before_entry-trans}
-use Rattle.station_index.specs.Indexed.{AreInOrder, with_entry}
 use Rattle.station_index.proofs.EntryLemmas.{IsBefore, before_entry-connected}
 
 module _ {X : Type 0} {R : X → X → Ordering} (o : IsTotalOrder R) (exact : (a b : X) → R a b ≡ Equal → a ≡ b) where

@@ -1,15 +1,7 @@
 -- The loaded events of a range, among those of a stop and kind.
-use Rattle.std.proofs.Common.{◌≡◌, ℕ, ◌+◌, ◌-◌, ◌<◌, ◌≤◌, List, Bool, true, false, ◌&&◌, nat_eq, nat_le, ltb, leb, length, map, get_or, take, drop, refl, sym, ◌∙◌, ap, arith, inl, inr}
-use Rattle.std.specs.List.Sorted.{IsPartitionPoint, IsNonDecreasingBy}
-use Rattle.std.proofs.lemmas.Bool.{cases_lt, eq-eqb}
-use Rattle.std.proofs.lemmas.Bool.Decides.{nat_tests}
-use Rattle.std.proofs.lemmas.List.{drop-drop, drop-map, drop-take, get_or-drop, get_or-map, get_or-take, get_or_default, length-drop, take-map, take-take}
-use mathlib.Core.Bool.{beq}
-use Rattle.mt_base.specs.declared.index_entries.Entry.{Entry}
-use Rattle.station_index.specs.declared.loaded_event.LoadedEvent.{LoadedEvent}
-use Rattle.station_index.specs.Indexed.{AreInOrder, is_in_range}
-use Rattle.station_index.specs.Places.{IsRangeAt}
-use Rattle.station_index.specs.Slots.{IsSlot, entry_of, is_at}
+use Rattle.station_index.proofs.Words.{◌≡◌, ℕ, ◌+◌, ◌-◌, ◌<◌, ◌≤◌, List, Bool, true, false, ◌&&◌, nat_eq, nat_le, ltb, leb, length, map, get_or, take, drop, refl, sym, ◌∙◌, ap, arith, inl, inr, IsPartitionPoint, cases_lt, eq-eqb, nat_tests, drop-map, get_or-drop, get_or-map, get_or-take, get_or_default, length-drop, beq, Entry, LoadedEvent, AreInOrder, is_in_range, IsRangeAt, IsSlot, entry_of, is_at}
+use Rattle.std.specs.List.Sorted.{IsNonDecreasingBy}
+use Rattle.std.proofs.lemmas.List.{drop-drop, drop-take, take-map, take-take}
 use Rattle.station_index.proofs.EntryLemmas.{IsBefore, before-times, beq-itself}
 
 pub some_event : LoadedEvent

@@ -1,17 +1,6 @@
 -- Lists of entries in their order: places, and what an edit there does.
-use Rattle.std.proofs.Common.{◌≡◌, ◌≢◌, ℕ, zero, suc, ◌+◌, ◌-◌, ◌<◌, ◌≤◌, List, [], ◌∷◌, Bool, true, false, not, ◌&&◌, length, get_or, take, drop, refl, sym, ◌∙◌, ap, arith, inl, inr, All}
-use Rattle.std.proofs.Math.ListN.{set}
-use Rattle.std.specs.List.{filter, insert, remove, HoldsAt}
-use Rattle.std.specs.List.Sorted.{IsPartitionPoint, IsPartitionedBy}
-use Rattle.std.proofs.lemmas.Bool.{cases_lt}
-use Rattle.std.proofs.lemmas.List.{get_or-drop, get_or-take, length-drop, length-take}
-use Rattle.std.proofs.lemmas.List.Elements.{at_read}
-use Rattle.mt_base.specs.declared.index_entries.Entry.{Entry}
-use Rattle.mt_base.specs.Order.{is_before_entry}
-use Rattle.mt_base.proofs.KeyLemmas.{before_entry-trans}
-use Rattle.station_index.specs.Indexed.{AreInOrder, is_same_entry, is_in_range, with_entry, without_entry}
-use Rattle.station_index.specs.Merged.{kept}
-use Rattle.station_index.specs.Places.{IsRangeAt, is_before_range, is_past_range}
+use Rattle.station_index.proofs.Words.{◌≡◌, ◌≢◌, ℕ, zero, suc, ◌+◌, ◌-◌, ◌<◌, ◌≤◌, List, [], ◌∷◌, Bool, true, false, not, ◌&&◌, length, get_or, take, drop, refl, sym, ◌∙◌, ap, arith, inl, inr, All, set, filter, HoldsAt, IsPartitionPoint, IsPartitionedBy, cases_lt, get_or-drop, get_or-take, length-drop, length-take, at_read, Entry, is_before_entry, before_entry-trans, AreInOrder, is_same_entry, is_in_range, with_entry, without_entry, kept, IsRangeAt, is_before_range, is_past_range}
+use Rattle.std.specs.List.{insert, remove}
 use Rattle.station_index.proofs.KeptLemmas.{kept-clear, kept-from, kept-up_to}
 use Rattle.station_index.proofs.EntryLemmas.{IsBefore, before_entry-connected, before-differs, after-differs, same_entry-itself, before-range, past-range, in-range}
 

@@ -1,15 +1,7 @@
 -- What comes next in a range.
-use Rattle.std.proofs.Common.{◌≡◌, ℕ, ◌+◌, ◌-◌, ◌<◌, ◌≤◌, List, [], ◌∷◌, Bool, true, false, length, get_or, take, drop, map, min, refl, sym, ◌∙◌, ap, arith, All}
-use Rattle.std.proofs.lemmas.List.{drop-map, get_or-drop, length-drop, length-map, length-take}
-use Rattle.std.proofs.lemmas.Slice.{between_to_end}
-use Rattle.std.proofs.lemmas.List.Elements.{All-nil, All-tail}
-use Rattle.mt_base.specs.declared.index_entries.Entry.{Entry}
-use Rattle.mt_base.proofs.KeyLemmas.{before_entry-itself}
-use Rattle.station_index.specs.Indexed.{AreInOrder}
+use Rattle.station_index.proofs.Words.{◌≡◌, ℕ, ◌+◌, ◌-◌, ◌<◌, ◌≤◌, List, [], ◌∷◌, Bool, true, false, length, get_or, take, drop, map, min, refl, sym, ◌∙◌, ap, arith, All, drop-map, get_or-drop, length-drop, length-map, length-take, between_to_end, All-nil, All-tail, Entry, before_entry-itself, AreInOrder, loaded_left, entry_of, comes_first, kept, merged}
 use Rattle.station_index.specs.declared.range.Range.TheInside.{Inside}
-use Rattle.station_index.specs.Ranged.{IsRange, loaded_left}
-use Rattle.station_index.specs.Slots.{entry_of}
-use Rattle.station_index.specs.Merged.{comes_first, kept, merged}
+use Rattle.station_index.specs.Ranged.{IsRange}
 use Rattle.station_index.proofs.OrderLemmas.{AreInOrder-tail}
 use Rattle.station_index.proofs.PlaceLemmas.{AreInOrder-drop}
 use Rattle.station_index.proofs.KeptLemmas.{kept-holds, kept-dead}

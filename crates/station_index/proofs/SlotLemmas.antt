@@ -1,16 +1,11 @@
 -- The parts in which loaded entries lie.
-use Rattle.std.proofs.Common.{◌≡◌, ◌≢◌, ℕ, zero, suc, ◌+◌, ◌-◌, ◌*◌, ◌/◌, ◌%◌, ◌<◌, ◌≤◌, min, List, [], ◌∷◌, ◌++◌, Bool, true, false, cond, nat_eq, nat_le, length, map, get_or, take, drop, refl, sym, ◌∙◌, ap, arith, inl, inr, All}
-use Rattle.std.specs.List.Sorted.{IsPartitionPoint, IsPartitionedBy}
-use Rattle.std.proofs.lemmas.Bool.{and_parts, cases_Bool, cases_lt, eqb-true, eq-eqb}
-use Rattle.std.proofs.lemmas.Bool.Decides.{nat_tests}
-use Rattle.std.proofs.lemmas.List.{get_or_append_left, get_or_default, get_or_past, length_push, length-drop, length-take-le}
+use Rattle.station_index.proofs.Words.{◌≡◌, ◌≢◌, ℕ, zero, suc, ◌+◌, ◌-◌, ◌/◌, ◌%◌, ◌<◌, ◌≤◌, min, List, [], ◌∷◌, Bool, true, false, cond, nat_eq, nat_le, length, map, get_or, take, drop, refl, sym, ◌∙◌, ap, arith, inl, inr, All, IsPartitionPoint, IsPartitionedBy, and_parts, cases_Bool, cases_lt, eqb-true, eq-eqb, nat_tests, get_or_default, length-drop, length-take-le, Entry, LoadedEvent, AreInOrder, IsSlot, entry_of, event_in, is_at, slot_number, slot_of}
+use Rattle.std.proofs.Common.{◌*◌, ◌++◌}
+use Rattle.std.proofs.lemmas.List.{get_or_append_left, get_or_past, length_push}
 use Rattle.std.proofs.lemmas.List.Elements.{All-push}
 use Rattle.std.proofs.Math.Seq.{get_or-append_seam}
 use Rattle.std.proofs.lemmas.List.Sums.{count_by-le-length, sum_by-append}
-use Rattle.mt_base.specs.declared.index_entries.Entry.{Entry}
-use Rattle.station_index.specs.declared.loaded_event.LoadedEvent.{LoadedEvent}
-use Rattle.station_index.specs.Indexed.{AreInOrder}
-use Rattle.station_index.specs.Slots.{AreEnds, AreEndsOf, IsSlot, entry_in, entry_of, event_in, is_at, rebuilt, slot_at, slot_number, slot_of, start_of}
+use Rattle.station_index.specs.Slots.{AreEnds, AreEndsOf, entry_in, rebuilt, slot_at, start_of}
 use Rattle.station_index.proofs.EntryLemmas.{before-slots, beq-true}
 
 -- the stop and the kind of a part

@@ -1,22 +1,8 @@
 -- Bounds of the first rules that make the same trains wait, with one more rule.
-use Rattle.std.proofs.Common.{◌≡◌, ℕ, Bool, true, false, cond, ◌&&◌, ◌||◌, List, [], ◌∷◌, ◌++◌, get_or, length, Option, Some, None, Ordering, inl, inr, refl, sym, ◌∙◌, ap, subst, arith}
-use Rattle.std.specs.declared.cmp.Ordering.TheVariants.{Less, Equal, Greater}
-use Rattle.std.specs.BTreeMap.{BTreeMap, get, is_at}
-use Rattle.std.specs.List.{list_any, position, position_or_len}
-use Rattle.std.specs.Option.{is_some, option_cmp, option_map_or}
-use Rattle.std.specs.Ordering.{is_eq, nat_cmp}
-use Rattle.std.proofs.lemmas.Bool.{cases_Bool, le-ltb, false≢true}
-use Rattle.std.proofs.lemmas.List.Folds.{list_any-append}
+use Rattle.waiting_rules.proofs.Words.{◌≡◌, ℕ, Bool, true, false, cond, ◌&&◌, ◌||◌, List, [], ◌∷◌, ◌++◌, get_or, length, Option, Some, None, Ordering, inl, inr, refl, sym, ◌∙◌, ap, subst, arith, Less, Equal, Greater, BTreeMap, get, is_at, list_any, position, position_or_len, is_some, option_cmp, option_map_or, is_eq, nat_cmp, cases_Bool, le-ltb, false≢true, list_any-append, RuleRow, Part, Connecting, Scope, ArePartsOf, IsPartOf, HasSome, HasPlaces, scope, has_wait, connecting_cmp, connecting_of, is_connecting, has_scope}
 use Rattle.std.proofs.lemmas.Map.Lookups.{exact_unsigned}
-use Rattle.mt_base.specs.declared.tables.RuleRow.{RuleRow}
 use Rattle.waiting_rules.specs.declared.bounds.Bounds.{Bounds}
-use Rattle.waiting_rules.specs.declared.parts.Part.{Part}
-use Rattle.waiting_rules.specs.declared.scopes.Connecting.{Connecting}
-use Rattle.waiting_rules.specs.declared.scopes.Scope.{Scope}
-use Rattle.waiting_rules.specs.Bounded.{ArePartsOf, IsPartOf, HasSome, HasBounds, part_with, part_in}
-use Rattle.waiting_rules.specs.Indexed.{HasPlaces, scope}
-use Rattle.waiting_rules.specs.Rules.{has_wait}
-use Rattle.waiting_rules.specs.Scopes.{connecting_cmp, connecting_of, is_connecting, has_scope}
+use Rattle.waiting_rules.specs.Bounded.{HasBounds, part_with, part_in}
 use Rattle.std.proofs.lemmas.List.Elements.{All-cons, All-nil}
 use Rattle.waiting_rules.proofs.Anys.{none-weaker}
 use Rattle.waiting_rules.proofs.PartLemmas.{six-trains}

@@ -1,17 +1,6 @@
 -- The rules that fit are those of six parts.
-use Rattle.std.proofs.Common.{◌≡◌, ℕ, ◌+◌, ◌<◌, min, Bool, true, false, ◌&&◌, ◌||◌, List, length, take, get_or, map, Option, Some, None, Ordering, refl, sym, ◌∙◌, ap}
-use Rattle.std.specs.declared.cmp.Ordering.TheVariants.{Less, Equal, Greater}
-use Rattle.std.specs.List.{list_any, position_or_len}
-use Rattle.std.specs.Option.{option_cmp}
-use Rattle.std.specs.Ordering.{nat_cmp, ordering_then, is_eq}
+use Rattle.waiting_rules.proofs.Words.{◌≡◌, ℕ, ◌+◌, ◌<◌, min, Bool, true, false, ◌&&◌, ◌||◌, List, length, take, get_or, map, Option, Some, None, Ordering, refl, sym, ◌∙◌, ap, Less, Equal, Greater, list_any, position_or_len, option_cmp, nat_cmp, ordering_then, is_eq, RuleRow, is_empty_or, Part, Connecting, is_in, scope, makes_wait, is_for, connecting_cmp, connecting_of, is_connecting, has_scope, all_connecting}
 use Rattle.std.proofs.lemmas.List.Folds.{list_any_more}
-use Rattle.mt_base.specs.declared.tables.RuleRow.{RuleRow}
-use Rattle.delay_model.specs.Waits.{is_empty_or}
-use Rattle.waiting_rules.specs.declared.parts.Part.{Part}
-use Rattle.waiting_rules.specs.declared.scopes.Connecting.{Connecting}
-use Rattle.waiting_rules.specs.Indexed.{is_in, scope}
-use Rattle.waiting_rules.specs.Rules.{makes_wait, is_for}
-use Rattle.waiting_rules.specs.Scopes.{connecting_cmp, connecting_of, is_connecting, has_scope, all_connecting}
 use Rattle.waiting_rules.proofs.Anys.{any-and, any-map}
 use Rattle.waiting_rules.proofs.Firsts.{first-either, first-agree}
 use Rattle.waiting_rules.proofs.Orders.{then-eq, tie-eq}

@@ -1,20 +1,9 @@
 -- Flags of locations, and the trains that wait.
-use Rattle.std.proofs.Common.{All, map, ◌≡◌, ◌<◌, ℕ, zero, suc, Bool, true, false, List, [], ◌∷◌, ◌++◌, length, Option, Some, None, get_or, nat_eq, cond, ◌&&◌, ◌||◌, refl, sym, ◌∙◌, ap, arith, is_none}
-use Rattle.std.specs.BTreeMap.{is_at}
+use Rattle.waiting_rules.proofs.Words.{All, map, ◌≡◌, ◌<◌, ℕ, zero, suc, Bool, true, false, List, [], ◌∷◌, ◌++◌, length, Option, Some, None, get_or, nat_eq, cond, ◌&&◌, ◌||◌, refl, sym, ◌∙◌, ap, arith, is_at, list_any, option_map_or, list_any-append, RuleRow, is_empty_or, Connecting, Part, Scope, ArePartsOf, IsPartOf, has_wait, makes_wait, connecting_cmp, connecting_of, is_connecting, all_connecting, names_stop, flag_at, HasWaiting, in_waiting, station_in, some_waits}
+use Rattle.std.proofs.Common.{is_none}
 use Rattle.std.specs.BTreeSet.{BTreeSet}
-use Rattle.std.specs.List.{list_any}
-use Rattle.std.specs.Option.{option_map_or}
-use Rattle.std.proofs.lemmas.List.Folds.{list_any-append}
-use Rattle.mt_base.specs.declared.tables.RuleRow.{RuleRow}
-use Rattle.delay_model.specs.Waits.{is_empty_or}
-use Rattle.waiting_rules.specs.declared.scopes.Connecting.{Connecting}
-use Rattle.waiting_rules.specs.declared.parts.Part.{Part}
-use Rattle.waiting_rules.specs.declared.scopes.Scope.{Scope}
-use Rattle.waiting_rules.specs.Bounded.{ArePartsOf, IsPartOf}
-use Rattle.waiting_rules.specs.Rules.{has_wait, makes_wait}
-use Rattle.waiting_rules.specs.Scopes.{connecting_cmp, connecting_of, is_connecting, all_connecting}
-use Rattle.waiting_rules.specs.Waiting.{names_stop, names_none, flag_at, AreFlags, HasFlags, HasWaiting, in_waiting}
-use Rattle.waiting_rules.specs.WaitTable.{station_in, some_waits, may_wait}
+use Rattle.waiting_rules.specs.Waiting.{names_none, AreFlags, HasFlags}
+use Rattle.waiting_rules.specs.WaitTable.{may_wait}
 use Rattle.waiting_rules.proofs.Anys.{any-swapped, any-either, none-weaker}
 use Rattle.waiting_rules.proofs.FitLemmas.{six-connecting}
 use Rattle.waiting_rules.proofs.Orders.{connecting_laws}

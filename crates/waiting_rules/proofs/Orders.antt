@@ -1,11 +1,8 @@
 -- The orders of what rules are for.
-use Rattle.std.proofs.Common.{◌≡◌, ℕ, ◌&&◌, nat_eq, Ordering, refl, sym, ◌∙◌}
-use Rattle.std.specs.declared.cmp.Ordering.TheVariants.{Less, Equal, Greater}
-use Rattle.std.specs.Cmp.{IsEquivalence, IsTotalOrder, unsigned_ties}
+use Rattle.waiting_rules.proofs.Words.{◌≡◌, ℕ, ◌&&◌, nat_eq, Ordering, refl, sym, ◌∙◌, Less, Equal, Greater, IsEquivalence, eq_by_cmp, nat_cmp, ordering_then, is_eq, eq_by_cmp_equiv, connecting_cmp, scope_cmp}
+use Rattle.std.specs.Cmp.{IsTotalOrder, unsigned_ties}
 use Rattle.std.specs.Cmp.Lexicographic.{options_total}
-use Rattle.std.specs.Ordering.{eq_by_cmp, nat_cmp, ordering_then, is_eq}
-use Rattle.std.proofs.lemmas.Cmp.{eq_by_cmp_equiv, then_total, on_total, nat_cmp_total, nat_eq_equiv}
-use Rattle.waiting_rules.specs.Scopes.{connecting_cmp, scope_cmp}
+use Rattle.std.proofs.lemmas.Cmp.{then_total, on_total, nat_cmp_total, nat_eq_equiv}
 
 -- the order of the trains that wait is total
 pub connecting_total : IsTotalOrder connecting_cmp

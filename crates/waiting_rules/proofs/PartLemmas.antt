@@ -1,21 +1,15 @@
 -- The part of the first rules that makes the same trains wait.
-use Rattle.std.proofs.Common.{◌≡◌, ℕ, zero, suc, ◌+◌, ◌-◌, ◌<◌, ◌≤◌, List, [], ◌∷◌, Bool, true, false, cond, length, get_or, take, drop, slice_get, slice_range, refl, sym, ◌∙◌, ap, arith, Some, None, Ordering, inl, inr}
+use Rattle.waiting_rules.proofs.Words.{◌≡◌, ℕ, zero, suc, ◌+◌, ◌<◌, ◌≤◌, List, [], ◌∷◌, Bool, true, false, cond, length, get_or, take, drop, slice_get, refl, sym, ◌∙◌, ap, arith, Some, None, Ordering, inl, inr, is_at, lookup, Less, Equal, Greater, option_cmp, nat_cmp, is_eq, is_le, is_lt, ordering_then, cases_lt, Connecting, Scope, connecting_cmp, scope_cmp, place_of, scope}
+use Rattle.std.proofs.Common.{◌-◌, slice_range}
 use Rattle.std.specs.List.{HoldsAt, AllByRecursion}
 use Rattle.std.specs.List.Sorted.{IsNonDecreasingBy, IsPartitionPoint, IsPartitionedBy, IsStrictlySortedBy}
-use Rattle.std.specs.BTreeMap.{is_at}
-use Rattle.std.specs.Map.{lookup, keys_of}
-use Rattle.std.specs.declared.cmp.Ordering.TheVariants.{Less, Equal, Greater}
-use Rattle.std.specs.Option.{option_cmp}
-use Rattle.std.specs.Ordering.{nat_cmp, is_eq, is_le, is_lt, ordering_index, ordering_then, ordering_reverse}
-use Rattle.std.proofs.lemmas.Bool.{cases_lt}
+use Rattle.std.specs.Map.{keys_of}
+use Rattle.std.specs.Ordering.{ordering_index, ordering_reverse}
 use Rattle.std.proofs.lemmas.List.{get_or-drop, length-drop}
 use Rattle.std.proofs.lemmas.List.Sorted.{searchable_from_sorted}
 use Rattle.std.proofs.lemmas.Map.Entries.{lookup_from_place, length-keys_of}
 use Rattle.std.proofs.lemmas.Map.Keys.{Less-from_sorted, IsDistinct-from_sorted}
-use Rattle.waiting_rules.specs.declared.scopes.Connecting.{Connecting}
-use Rattle.waiting_rules.specs.declared.scopes.Scope.{Scope}
-use Rattle.waiting_rules.specs.Scopes.{connecting_cmp, scope_cmp}
-use Rattle.waiting_rules.specs.Indexed.{AreSorted, IsPart, place_of, scope}
+use Rattle.waiting_rules.specs.Indexed.{AreSorted, IsPart}
 use Rattle.waiting_rules.proofs.Orders.{connecting_total, scopes_total}
 use Rattle.waiting_rules.proofs.PlaceLemmas.{laws, place-alike}
 

@@ -1,17 +1,6 @@
 -- The places of first rules, with one more rule.
-use Rattle.std.proofs.Common.{◌≡◌, ℕ, true, false, cond, List, [], ◌∷◌, ◌++◌, length, min, ◌≤◌, unwrap_or, Option, Some, None, inl, inr, refl, sym, ◌∙◌, ap}
-use Rattle.std.specs.BTreeMap.{BTreeMap, get, is_at}
-use Rattle.std.specs.Cmp.{IsEquivalence}
-use Rattle.std.specs.List.{position_or_len}
-use Rattle.std.specs.Map.{lookup}
-use Rattle.std.specs.Option.{option_or, is_some}
-use Rattle.std.specs.Ordering.{eq_by_cmp}
-use Rattle.std.proofs.lemmas.Bool.{cases_Bool}
-use Rattle.std.proofs.lemmas.Cmp.{eq_by_cmp_equiv}
-use Rattle.mt_base.specs.declared.tables.RuleRow.{RuleRow}
-use Rattle.waiting_rules.specs.declared.scopes.Scope.{Scope}
-use Rattle.waiting_rules.specs.Scopes.{scope_cmp, has_scope, scope_of}
-use Rattle.waiting_rules.specs.Indexed.{HasPlaces, place_of}
+use Rattle.waiting_rules.proofs.Words.{◌≡◌, ℕ, true, false, cond, List, [], ◌∷◌, ◌++◌, length, min, ◌≤◌, unwrap_or, Option, Some, None, inl, inr, refl, sym, ◌∙◌, ap, BTreeMap, get, is_at, IsEquivalence, position_or_len, lookup, option_or, is_some, eq_by_cmp, cases_Bool, eq_by_cmp_equiv, RuleRow, Scope, scope_cmp, has_scope, HasPlaces, place_of}
+use Rattle.waiting_rules.specs.Scopes.{scope_of}
 use Rattle.waiting_rules.proofs.Firsts.{min-position, position-end}
 use Rattle.waiting_rules.proofs.Orders.{scopes_total}
 

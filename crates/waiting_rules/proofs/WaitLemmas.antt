@@ -1,17 +1,17 @@
 -- The wait from the first rule that fits.
-use Rattle.std.proofs.Common.{Bool, ◌||◌, ◌≡◌, ◌≤◌, ℕ, max, fold, zero, suc, true, false, List, [], ◌∷◌, All, map, Option, Some, None, unwrap_or, slice_get, nat_lt, ◌&&◌, inl, inr, refl, sym, subst, ◌∙◌, ap, arith}
-use Rattle.std.specs.List.{find, list_any, position_or_len}
-use Rattle.std.specs.Option.{option_map, option_map_or}
-use Rattle.std.proofs.lemmas.Bool.{cases_Bool, cases_lt, lt-ltb, and_parts, false≢true}
+use Rattle.waiting_rules.proofs.Words.{Bool, ◌||◌, ◌≡◌, ◌≤◌, ℕ, zero, suc, true, false, List, [], ◌∷◌, All, map, Option, Some, None, unwrap_or, slice_get, nat_lt, ◌&&◌, inl, inr, refl, sym, subst, ◌∙◌, ap, arith, list_any, position_or_len, option_map_or, cases_Bool, cases_lt, lt-ltb, false≢true, RuleRow, has_wait, makes_wait, is_for, station_in, some_waits, WaitTable}
+use Rattle.std.proofs.Common.{max, fold}
+use Rattle.std.specs.List.{find}
+use Rattle.std.specs.Option.{option_map}
+use Rattle.std.proofs.lemmas.Bool.{and_parts}
 use Rattle.std.proofs.lemmas.List.Folds.{find_at}
 use Rattle.std.proofs.lemmas.Option.{slice_get-map, slice_get_cases}
-use Rattle.mt_base.specs.declared.tables.RuleRow.{RuleRow}
 use Rattle.mt_base.specs.declared.tables.StopRow.{StopRow}
 use Rattle.mt_base.specs.Places.{is_platform}
 use Rattle.delay_model.specs.Changes.{station, station_by}
 use Rattle.delay_model.specs.Waits.{wait}
-use Rattle.waiting_rules.specs.Rules.{has_wait, makes_wait, is_for, longest_wait}
-use Rattle.waiting_rules.specs.WaitTable.{parent_station, station_in, some_waits, WaitTable}
+use Rattle.waiting_rules.specs.Rules.{longest_wait}
+use Rattle.waiting_rules.specs.WaitTable.{parent_station}
 
 station-by : (a : ℕ) (row : Option StopRow) → option_map_or (station_by a) row a ≡ unwrap_or (unwrap_or (option_map parent_station row) None) a
 station-by a None = refl

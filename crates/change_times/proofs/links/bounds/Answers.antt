@@ -1,7 +1,5 @@
-use Rattle.std.proofs.Common.{rules}
-use Rattle.std.proofs.Math.Dec.{ltb, leb}
-use Rattle.std.proofs.lemmas.List.Sorted.{IsPartitionPoint-from_clause, IsPartitionedBy-leb, IsPartitionedBy-ltb}
-use Rattle.change_times.specs.Stored.{place_of}
+use Rattle.change_times.proofs.Words.{rules, ltb, leb, IsPartitionPoint-from_clause, IsPartitionedBy-ltb, place_of}
+use Rattle.std.proofs.lemmas.List.Sorted.{IsPartitionedBy-leb}
 use Rattle.change_times.proofs.SortLemmas.{Between, between-order, between-part}
 use Rattle.change_times.proofs.links.bounds.Goals as goal
 

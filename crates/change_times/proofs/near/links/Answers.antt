@@ -1,8 +1,4 @@
-use Rattle.std.proofs.Common.{◌∙◌, map, ap, arith}
-use Rattle.std.proofs.lemmas.List.{take_all}
-use Rattle.std.proofs.lemmas.Result.{IfOk-weaker}
-use Rattle.std.specs.List.Sorted.{IsPermutation}
-use Rattle.change_times.specs.Near.{link_of, HaveRows}
+use Rattle.change_times.proofs.Words.{◌∙◌, map, ap, arith, take_all, IfOk-weaker, IsPermutation, link_of, HaveRows}
 use Rattle.change_times.proofs.NearLemmas.{have-rows}
 use Rattle.change_times.proofs.near.links.Goals as goal
 

@@ -1,5 +1,4 @@
-use Rattle.std.proofs.Common.{◌≡◌, take, map}
-use Rattle.change_times.specs.Near.{link_of}
+use Rattle.change_times.proofs.Words.{◌≡◌, take, map, link_of}
 use Rattle.change_times.proofs.near.links.Given as goal
 
 abbrev pub invariant-loop-row : goal.invariant-loop-row

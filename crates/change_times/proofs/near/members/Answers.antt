@@ -1,9 +1,4 @@
-use Rattle.std.proofs.Common.{rules, ◌≡◌, ◌∙◌, ◌++◌, ◌∷◌, [], map, length, sym, ap, arith}
-use Rattle.std.proofs.lemmas.List.FromFn.{map-range_with_len_more}
-use Rattle.std.proofs.lemmas.Result.{IfOk-weaker}
-use Rattle.std.specs.List.{range_with_len}
-use Rattle.std.specs.List.Sorted.{IsPermutation}
-use Rattle.change_times.specs.Near.{member, HaveMembers}
+use Rattle.change_times.proofs.Words.{rules, ◌≡◌, ◌∙◌, ◌++◌, ◌∷◌, [], map, length, sym, ap, arith, map-range_with_len_more, IfOk-weaker, range_with_len, IsPermutation, member, HaveMembers}
 use Rattle.change_times.proofs.NearLemmas.{have-members}
 use Rattle.change_times.proofs.near.members.Goals as goal
 

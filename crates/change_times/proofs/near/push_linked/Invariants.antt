@@ -1,6 +1,4 @@
-use Rattle.std.proofs.Common.{◌≡◌, ◌++◌, drop}
-use Rattle.std.specs.List.{flat_map}
-use Rattle.change_times.specs.Near.{with_members}
+use Rattle.change_times.proofs.Words.{◌≡◌, ◌++◌, drop, flat_map, with_members}
 use Rattle.change_times.proofs.near.push_linked.Given as goal
 
 abbrev pub invariant-loop-link : goal.invariant-loop-link

@@ -1,5 +1,4 @@
-use Rattle.std.proofs.Common.{◌≡◌, ◌++◌, drop, map}
-use Rattle.change_times.specs.Near.{other_of}
+use Rattle.change_times.proofs.Words.{◌≡◌, ◌++◌, drop, map, other_of}
 use Rattle.change_times.proofs.near.push_others.Given as goal
 
 abbrev pub invariant-loop-link : goal.invariant-loop-link

@@ -1,5 +1,4 @@
-use Rattle.std.proofs.Common.{rules, ◌≡◌, ◌∙◌, ◌++◌, ◌∷◌, [], length, get_or, ap, sym, arith}
-use Rattle.change_times.specs.Reach.{reached_back}
+use Rattle.change_times.proofs.Words.{rules, ◌≡◌, ◌∙◌, ◌++◌, ◌∷◌, [], length, get_or, ap, sym, arith, reached_back}
 use Rattle.change_times.proofs.CountLemmas.{lists-more, back-all}
 use Rattle.change_times.proofs.reach.back.Goals as goal
 

@@ -1,5 +1,4 @@
-use Rattle.std.proofs.Common.{◌≡◌}
-use Rattle.change_times.specs.Reach.{reached_back}
+use Rattle.change_times.proofs.Words.{◌≡◌, reached_back}
 use Rattle.change_times.proofs.CountLemmas.{lists_of}
 use Rattle.change_times.proofs.reach.back.Given as goal
 

@@ -1,9 +1,4 @@
-use Rattle.std.proofs.Common.{rules, ◌≡◌, ◌∙◌, ◌++◌, All, ap, subst}
-use Rattle.std.proofs.lemmas.Result.{IfOk-equal}
-use Rattle.std.specs.List.{Contains, filter_map}
-use Rattle.delay_model.specs.Changes.{station}
-use Rattle.change_times.specs.Listed.{change_at}
-use Rattle.change_times.specs.Near.{near, links_in}
+use Rattle.change_times.proofs.Words.{rules, ◌≡◌, ◌∙◌, ◌++◌, All, ap, subst, IfOk-equal, Contains, filter_map, station, change_at, near, links_in}
 use Rattle.change_times.proofs.ListedLemmas.{listed-is}
 use Rattle.change_times.proofs.reach.fill.Goals as goal
 

@@ -1,6 +1,4 @@
-use Rattle.std.proofs.Common.{rules, ◌≡◌, ◌∙◌, true, false, sym}
-use Rattle.std.proofs.lemmas.Result.{IfOk-equal}
-use Rattle.delay_model.specs.Changes.{is_stop}
+use Rattle.change_times.proofs.Words.{rules, ◌≡◌, ◌∙◌, true, false, sym, IfOk-equal, is_stop}
 use Rattle.change_times.proofs.CountLemmas.{back-at-stop, back-elsewhere}
 use Rattle.change_times.proofs.reach.fill_back.Goals as goal
 

@@ -1,8 +1,4 @@
-use Rattle.std.proofs.Common.{rules, ◌≡◌, ◌∙◌, ◌+◌, ◌++◌, ◌∷◌, [], length, get_or, refl, ap, sym, arith}
-use Rattle.std.specs.Prelude.{cond}
-use Rattle.delay_model.specs.Changes.{is_stop_or_station}
-use Rattle.change_times.specs.declared.near.Direction.TheVariants.{Onward}
-use Rattle.change_times.specs.Listed.{listed}
+use Rattle.change_times.proofs.Words.{rules, ◌≡◌, ◌∙◌, ◌+◌, ◌++◌, ◌∷◌, [], length, get_or, refl, ap, sym, arith, cond, is_stop_or_station, Onward, listed}
 use Rattle.change_times.proofs.CountLemmas.{lists-more, onward-all, counted, counted-next, counted-below, counted-all}
 use Rattle.change_times.proofs.reach.onward.Goals as goal
 

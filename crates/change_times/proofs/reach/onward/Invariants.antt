@@ -1,6 +1,4 @@
-use Rattle.std.proofs.Common.{◌≡◌, ◌≤◌}
-use Rattle.change_times.specs.declared.near.Direction.TheVariants.{Onward}
-use Rattle.change_times.specs.Listed.{listed}
+use Rattle.change_times.proofs.Words.{◌≡◌, ◌≤◌, Onward, listed}
 use Rattle.change_times.proofs.CountLemmas.{lists_of, counted}
 use Rattle.change_times.proofs.reach.onward.Given as goal
 

@@ -1,6 +1,4 @@
-use Rattle.std.proofs.Common.{◌≡◌, ◌++◌, drop}
-use Rattle.std.specs.List.{filter_map}
-use Rattle.change_times.specs.Listed.{change_at}
+use Rattle.change_times.proofs.Words.{◌≡◌, ◌++◌, drop, filter_map, change_at}
 use Rattle.change_times.proofs.reach.push_changes.Given as goal
 
 abbrev pub invariant-loop-other : goal.invariant-loop-other

@@ -1,6 +1,4 @@
-use Rattle.std.proofs.Common.{◌≡◌, ◌++◌, drop}
-use Rattle.std.specs.List.{filter}
-use Rattle.delay_model.specs.Changes.{is_looked_at}
+use Rattle.change_times.proofs.Words.{◌≡◌, ◌++◌, drop, filter, is_looked_at}
 use Rattle.change_times.proofs.table.looked_at.Given as goal
 
 abbrev pub invariant-loop-row : goal.invariant-loop-row

@@ -1,9 +1,5 @@
-use Rattle.std.proofs.Common.{rules, All, subst, sym}
-use Rattle.std.proofs.lemmas.List.Elements.{All-contains_itself}
-use Rattle.std.proofs.lemmas.List.Filters.{All-dedup}
-use Rattle.std.proofs.lemmas.List.Sorted.{answers_always, IsNonDecreasingBy-from_sort, IsPermutation-trans, All-permutation}
-use Rattle.std.specs.List.{Contains}
-use Rattle.change_times.specs.Stored.{from_of, to_of, is_same_pair, HaveOwnPairs, HaveSameFirsts, IsByPair}
+use Rattle.change_times.proofs.Words.{rules, All, subst, sym, All-contains_itself, All-dedup, answers_always, IsNonDecreasingBy-from_sort, Contains, from_of, to_of, is_same_pair, HaveOwnPairs, HaveSameFirsts, IsByPair}
+use Rattle.std.proofs.lemmas.List.Sorted.{IsPermutation-trans, All-permutation}
 use Rattle.change_times.proofs.PairLemmas.{stays-by-pair, own-pairs}
 use Rattle.change_times.proofs.RowLemmas.{AreSorted, by-pair, same-firsts}
 use Rattle.change_times.proofs.transfers.firsts_by_pair.Goals as goal

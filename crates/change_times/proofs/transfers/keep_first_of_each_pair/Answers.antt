@@ -1,6 +1,5 @@
-use Rattle.std.proofs.Common.{rules}
+use Rattle.change_times.proofs.Words.{rules, is_same_pair}
 use Rattle.std.proofs.lemmas.Fn.{dedup_same}
-use Rattle.change_times.specs.Stored.{is_same_pair}
 use Rattle.change_times.proofs.transfers.keep_first_of_each_pair.Goals as goal
 
 pub returns : goal.returns

@@ -1,7 +1,4 @@
-use Rattle.std.proofs.Common.{rules}
-use Rattle.std.proofs.Math.Dec.{ltb}
-use Rattle.std.proofs.lemmas.List.Sorted.{IsPartitionPoint-from_clause, IsPartitionedBy-ltb}
-use Rattle.change_times.specs.Stored.{from_of}
+use Rattle.change_times.proofs.Words.{rules, ltb, IsPartitionPoint-from_clause, IsPartitionedBy-ltb, from_of}
 use Rattle.change_times.proofs.transfers.start_from.Goals as goal
 
 pub returns : goal.returns

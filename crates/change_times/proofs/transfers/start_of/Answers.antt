@@ -1,9 +1,4 @@
-use Rattle.std.proofs.Common.{rules, ◌≡◌, true, false, arith}
-use Rattle.std.proofs.Math.Dec.{ltb}
-use Rattle.std.proofs.lemmas.Bool.{ltb-false, ltb-true}
-use Rattle.std.proofs.lemmas.List.Sorted.{IsPartitionPoint-from_clause, IsPartitionedBy-ltb}
-use Rattle.std.specs.List.Sorted.{IsPartitionPoint}
-use Rattle.change_times.specs.Stored.{to_of}
+use Rattle.change_times.proofs.Words.{rules, ◌≡◌, true, false, arith, ltb, ltb-false, ltb-true, IsPartitionPoint-from_clause, IsPartitionedBy-ltb, IsPartitionPoint, to_of}
 use Rattle.change_times.proofs.SortLemmas.{first-is}
 use Rattle.change_times.proofs.transfers.start_of.Goals as goal
 

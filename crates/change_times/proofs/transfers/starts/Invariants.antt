@@ -1,5 +1,4 @@
-use Rattle.std.proofs.Common.{◌≡◌, length}
-use Rattle.change_times.specs.Stored.{HaveStarts}
+use Rattle.change_times.proofs.Words.{◌≡◌, length, HaveStarts}
 use Rattle.change_times.proofs.transfers.starts.Given as goal
 
 abbrev pub invariant-loop-place : goal.invariant-loop-place

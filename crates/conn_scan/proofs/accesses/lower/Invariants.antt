@@ -1,5 +1,5 @@
-use Rattle.std.proofs.Common.{◌≡◌, drop}
-use Rattle.conn_scan.specs.Lowered.{lowered}
+use Rattle.conn_scan.proofs.Words.{◌≡◌, lowered}
+use Rattle.std.proofs.Common.{drop}
 use Rattle.conn_scan.proofs.accesses.lower.Given as goal
 
 -- the changes that are left make of what is known what all of them make of what was

@@ -1,8 +1,4 @@
-use Rattle.std.proofs.Common.{◌≡◌, false, true, sym, ◌∙◌, subst}
-use Rattle.mt_base.specs.declared.journeys.Query.{Query}
-use Rattle.delay_model.specs.Journeys.{is_one_station, IsEarliest}
-use Rattle.conn_scan.specs.Lowered.{access_of}
-use Rattle.conn_scan.specs.Scan.{IsAtEnd, LeadsTo}
+use Rattle.conn_scan.proofs.Words.{◌≡◌, false, true, sym, ◌∙◌, subst, Query, is_one_station, IsEarliest, access_of, IsAtEnd, LeadsTo}
 use Rattle.conn_scan.proofs.Answer.{at-once, found, none}
 use Rattle.conn_scan.proofs.StationLemmas.{stations-are}
 use Rattle.conn_scan.proofs.earliest_arrival.earliest.Goals as goal

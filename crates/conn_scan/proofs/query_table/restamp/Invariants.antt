@@ -1,5 +1,4 @@
-use Rattle.std.proofs.Common.{◌≡◌, ◌<◌, ℕ, length, get_or}
-use Rattle.conn_scan.specs.declared.query_table.Stamped.{Stamped}
+use Rattle.conn_scan.proofs.Words.{◌≡◌, ◌<◌, ℕ, length, get_or, Stamped}
 use Rattle.conn_scan.proofs.query_table.restamp.Given as goal
 
 -- the rows so far are of no query

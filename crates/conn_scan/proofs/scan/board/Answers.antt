@@ -1,4 +1,4 @@
-use Rattle.std.proofs.Common.{sym, ◌∙◌}
+use Rattle.conn_scan.proofs.Words.{sym, ◌∙◌}
 use Rattle.conn_scan.proofs.AtCall.{at-call, boarded, not-boarded}
 use Rattle.conn_scan.proofs.scan.board.Goals as goal
 

@@ -1,7 +1,4 @@
-use Rattle.std.proofs.Common.{◌≡◌, None, is_some, get_or, refl, sym, ◌∙◌, ap, subst}
-use Rattle.conn_scan.specs.Passed.{ArePassed, IsPassed}
-use Rattle.conn_scan.specs.Scanned.{departed}
-use Rattle.conn_scan.specs.declared.known.Known.{Known}
+use Rattle.conn_scan.proofs.Words.{◌≡◌, None, is_some, get_or, refl, sym, ◌∙◌, ap, subst, ArePassed, IsPassed, departed, Known}
 use Rattle.conn_scan.proofs.AtCall.{at-call}
 use Rattle.conn_scan.proofs.Passed.{departed-idle, departed-still, noted-passed, passed-on}
 use Rattle.conn_scan.proofs.scan.depart.Goals as goal

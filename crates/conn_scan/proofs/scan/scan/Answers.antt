@@ -1,12 +1,4 @@
-use Rattle.std.proofs.Common.{◌≡◌, ◌≤◌, List, ◌∷◌, length, refl, sym, ◌∙◌, ap, subst, All}
-use Rattle.std.proofs.lemmas.Bool.{cond-false}
-use Rattle.std.proofs.lemmas.List.Elements.{All-tail}
-use Rattle.timetable.specs.Departures.{departures_from, IsDeparture}
-use Rattle.timetable.proofs.Departing.{later-each, later-not-before}
-use Rattle.dep_order.specs.declared.departure.Departure.{Departure}
-use Rattle.conn_scan.specs.Passed.{ArePassed}
-use Rattle.conn_scan.specs.Scanned.{departed, is_there_by, scanned}
-use Rattle.conn_scan.specs.declared.known.Known.{Known}
+use Rattle.conn_scan.proofs.Words.{◌≡◌, ◌≤◌, List, ◌∷◌, length, refl, sym, ◌∙◌, ap, subst, All, cond-false, All-tail, departures_from, IsDeparture, later-each, later-not-before, Departure, ArePassed, departed, is_there_by, scanned, Known}
 use Rattle.conn_scan.proofs.Passed.{length-departed}
 use Rattle.conn_scan.proofs.scan.scan.Goals as goal
 

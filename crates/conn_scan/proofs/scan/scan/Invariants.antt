@@ -1,7 +1,4 @@
-use Rattle.std.proofs.Common.{◌≡◌, ◌≤◌, length, All}
-use Rattle.timetable.specs.Departures.{departures_from, IsDeparture}
-use Rattle.conn_scan.specs.Passed.{ArePassed}
-use Rattle.conn_scan.specs.Scanned.{scanned}
+use Rattle.conn_scan.proofs.Words.{◌≡◌, ◌≤◌, length, All, departures_from, IsDeparture, ArePassed, scanned}
 use Rattle.conn_scan.proofs.scan.scan.Given as goal
 
 -- the departures that are left make of what is known what all of them make of what was

@@ -1,11 +1,4 @@
-use Rattle.std.proofs.Common.{◌≤◌, Option, None, length, sym, ◌∙◌, ap, subst}
-use Rattle.std.proofs.lemmas.List.{length-replicate}
-use Rattle.mt_base.specs.declared.journeys.PlanRide.{PlanRide}
-use Rattle.timetable.specs.Departures.{departures_from}
-use Rattle.conn_scan.specs.Lowered.{lowered, access_of}
-use Rattle.conn_scan.specs.Scan.{IsAtEnd}
-use Rattle.conn_scan.specs.Scanned.{scanned}
-use Rattle.conn_scan.specs.declared.known.Known.{Known}
+use Rattle.conn_scan.proofs.Words.{◌≤◌, Option, None, length, sym, ◌∙◌, ap, subst, length-replicate, PlanRide, departures_from, lowered, access_of, IsAtEnd, scanned, Known}
 use Rattle.conn_scan.proofs.LoweredLemmas.{length-lowered}
 use Rattle.conn_scan.proofs.ScanEnds.{search-ends}
 use Rattle.conn_scan.proofs.search.search.Goals as goal

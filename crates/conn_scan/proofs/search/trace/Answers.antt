@@ -1,5 +1,4 @@
-use Rattle.std.proofs.Common.{◌<◌, sym, ◌∙◌, subst, arith}
-use Rattle.conn_scan.specs.Lowered.{access_of}
+use Rattle.conn_scan.proofs.Words.{◌<◌, sym, ◌∙◌, subst, arith, access_of}
 use Rattle.conn_scan.proofs.WayBack.{last-fits, left_of, way-ends, way-fits, way-more, way-smaller, IsOnWay}
 use Rattle.conn_scan.proofs.search.trace.Goals as goal
 

@@ -1,5 +1,5 @@
-use Rattle.std.proofs.Common.{◌≡◌, vec_capacity}
-use Rattle.conn_scan.specs.Lowered.{access_of}
+use Rattle.conn_scan.proofs.Words.{◌≡◌, access_of}
+use Rattle.std.proofs.Common.{vec_capacity}
 use Rattle.conn_scan.proofs.WayBack.{left_of, IsOnWay}
 use Rattle.conn_scan.proofs.search.trace.Given as goal
 

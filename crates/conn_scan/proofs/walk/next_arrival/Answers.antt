@@ -1,4 +1,4 @@
-use Rattle.std.proofs.Common.{is_some, sym, ◌∙◌, ap}
+use Rattle.conn_scan.proofs.Words.{is_some, sym, ◌∙◌, ap}
 use Rattle.conn_scan.proofs.CallLemmas.{next-named, arrival-dead, arrival-live}
 use Rattle.conn_scan.proofs.walk.next_arrival.Goals as goal
 

@@ -1,6 +1,4 @@
-use Rattle.std.proofs.Common.{sym, ◌∙◌, ap}
-use Rattle.std.proofs.lemmas.Bool.{cond-true, cond-false}
-use Rattle.conn_scan.specs.Scanned.{ride_to, took}
+use Rattle.conn_scan.proofs.Words.{sym, ◌∙◌, ap, cond-true, cond-false, ride_to, took}
 use Rattle.conn_scan.proofs.WalkLemmas.{next-left}
 use Rattle.conn_scan.proofs.walk.take_next.Goals as goal
 use Rattle.conn_scan.proofs.walk.take_next.Goals.{then-arrival, else-arrival}

@@ -1,7 +1,4 @@
-use Rattle.std.proofs.Common.{◌≡◌, true, length}
-use Rattle.train_nodes.specs.Calls.{has_call}
-use Rattle.conn_scan.specs.Calls.{calls_after}
-use Rattle.conn_scan.specs.Scanned.{rides_on, took_all}
+use Rattle.conn_scan.proofs.Words.{◌≡◌, true, length, has_call, calls_after, rides_on, took_all}
 use Rattle.conn_scan.proofs.walk.take_on.Given as goal
 
 -- the rides that are left make of what is known what all of them make of what was

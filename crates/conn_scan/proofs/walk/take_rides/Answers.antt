@@ -1,8 +1,4 @@
-use Rattle.std.proofs.Common.{◌≡◌, is_some, sym, ◌∙◌, ap, subst}
-use Rattle.conn_scan.specs.Calls.{calls_after}
-use Rattle.conn_scan.specs.Passed.{IsPassed}
-use Rattle.conn_scan.specs.Scanned.{boarding_of, rides_on, took_all}
-use Rattle.conn_scan.specs.declared.walk.Boarding.{Boarding}
+use Rattle.conn_scan.proofs.Words.{◌≡◌, is_some, sym, ◌∙◌, ap, subst, calls_after, IsPassed, boarding_of, rides_on, took_all, Boarding}
 use Rattle.conn_scan.proofs.AtCall.{at-call, departing-rides}
 use Rattle.conn_scan.proofs.Passed.{took-passed}
 use Rattle.conn_scan.proofs.walk.take_rides.Goals as goal

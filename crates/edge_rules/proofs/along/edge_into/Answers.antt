@@ -1,7 +1,4 @@
-use Rattle.std.proofs.Common.{◌≡◌, [], ◌∷◌, Some, None, sym, ◌∙◌, ap}
-use Rattle.mt_base.specs.Order.{node_of}
-use Rattle.delay_model.specs.declared.state.Event.{Event}
-use Rattle.delay_model.specs.Edges.{edge_on}
+use Rattle.edge_rules.proofs.Words.{◌≡◌, [], ◌∷◌, Some, None, sym, ◌∙◌, ap, node_of, Event, edge_on}
 use Rattle.edge_rules.proofs.Neighbours.{into-event, named-there}
 use Rattle.edge_rules.proofs.along.edge_into.Goals as goal
 

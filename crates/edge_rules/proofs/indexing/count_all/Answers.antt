@@ -1,6 +1,4 @@
-use Rattle.std.proofs.Common.{length, ap, arith}
-use Rattle.delay_model.specs.Events.{train_events}
-use Rattle.edge_rules.specs.Indexing.{entries_of}
+use Rattle.edge_rules.proofs.Words.{length, ap, arith, train_events, entries_of}
 use Rattle.edge_rules.proofs.Listing.{counted-one, listed-all}
 use Rattle.edge_rules.proofs.indexing.count_all.Goals as goal
 

@@ -1,6 +1,4 @@
-use Rattle.std.proofs.Common.{◌≡◌, ◌+◌, length, drop}
-use Rattle.delay_model.specs.Events.{events, events_from}
-use Rattle.edge_rules.specs.Indexing.{entries_of}
+use Rattle.edge_rules.proofs.Words.{◌≡◌, ◌+◌, length, drop, events, events_from, entries_of}
 use Rattle.edge_rules.proofs.indexing.count_all.Given as goal
 
 -- those of the trains so far are counted

@@ -1,6 +1,4 @@
-use Rattle.std.proofs.Common.{◌≡◌, ◌+◌, length}
-use Rattle.delay_model.specs.Events.{train_events}
-use Rattle.edge_rules.specs.Indexing.{entries_of}
+use Rattle.edge_rules.proofs.Words.{◌≡◌, ◌+◌, length, train_events, entries_of}
 use Rattle.edge_rules.proofs.indexing.count_more.Given as goal
 
 abbrev pub invariant-loop-event : goal.invariant-loop-event

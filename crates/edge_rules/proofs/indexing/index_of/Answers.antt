@@ -1,8 +1,4 @@
-use Rattle.std.proofs.Common.{◌≡◌, sym, subst}
-use Rattle.std.proofs.Math.Logic.{◌≢◌}
-use Rattle.std.specs.List.{All, AllPairs}
-use Rattle.mt_base.specs.declared.index_entries.Entry.{Entry}
-use Rattle.delay_model.specs.Events.{events}
+use Rattle.edge_rules.proofs.Words.{◌≡◌, sym, subst, ◌≢◌, All, AllPairs, Entry, events}
 use Rattle.edge_rules.proofs.EventChanges.{entries-distinct}
 use Rattle.edge_rules.proofs.Listing.{entries-dep}
 use Rattle.edge_rules.proofs.indexing.index_of.Goals as goal

@@ -1,5 +1,4 @@
-use Rattle.std.proofs.Common.{◌≡◌, ◌+◌, drop}
-use Rattle.edge_rules.specs.Indexing.{AreNew, new_entries, with_entries}
+use Rattle.edge_rules.proofs.Words.{◌≡◌, ◌+◌, drop, AreNew, new_entries, with_entries}
 use Rattle.edge_rules.proofs.indexing.insert_calls.Given as goal
 
 -- those that are left can be put in, and then all are

@@ -1,6 +1,4 @@
-use Rattle.std.proofs.Common.{◌≡◌}
-use Rattle.delay_model.specs.Events.{train_events}
-use Rattle.edge_rules.specs.Indexing.{AreNew, entries_of, with_entries}
+use Rattle.edge_rules.proofs.Words.{◌≡◌, train_events, AreNew, entries_of, with_entries}
 use Rattle.edge_rules.proofs.indexing.insert_train.Given as goal
 
 -- those that are left can be put in, and then all are

@@ -1,6 +1,4 @@
-use Rattle.std.proofs.Common.{◌+◌, ◌++◌, drop, ap, ◌∙◌, append_assoc}
-use Rattle.delay_model.specs.Events.{events_from, train_events}
-use Rattle.edge_rules.specs.Indexing.{entries_of}
+use Rattle.edge_rules.proofs.Words.{◌+◌, ◌++◌, drop, ap, ◌∙◌, append_assoc, events_from, train_events, entries_of}
 use Rattle.edge_rules.proofs.Listing.{listed-all, listed-one}
 use Rattle.edge_rules.proofs.indexing.list_all.Goals as goal
 

@@ -1,4 +1,4 @@
-use Rattle.std.proofs.Common.{◌∙◌, refl}
+use Rattle.edge_rules.proofs.Words.{◌∙◌, refl}
 use Rattle.edge_rules.proofs.Walks.{between-events}
 use Rattle.edge_rules.proofs.indexing.remove_between.Goals as goal
 

@@ -1,8 +1,4 @@
-use Rattle.std.proofs.Common.{◌≡◌, true, false}
-use Rattle.delay_model.specs.Cuts.{before}
-use Rattle.delay_model.specs.Effect.{events_between, node_at}
-use Rattle.delay_model.specs.Events.{is_event}
-use Rattle.edge_rules.specs.Indexing.{AreThere, entries_of, without_entries}
+use Rattle.edge_rules.proofs.Words.{◌≡◌, true, false, before, events_between, node_at, is_event, AreThere, entries_of, without_entries}
 use Rattle.edge_rules.proofs.Walks.{after_once}
 use Rattle.edge_rules.proofs.indexing.remove_between.Given as goal
 

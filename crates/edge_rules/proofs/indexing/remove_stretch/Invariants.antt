@@ -1,8 +1,4 @@
-use Rattle.std.proofs.Common.{◌≡◌, true, false}
-use Rattle.delay_model.specs.Cuts.{up_to}
-use Rattle.delay_model.specs.Effect.{node_at, stretch}
-use Rattle.delay_model.specs.Events.{is_event}
-use Rattle.edge_rules.specs.Indexing.{AreThere, entries_of, without_entries}
+use Rattle.edge_rules.proofs.Words.{◌≡◌, true, false, up_to, node_at, stretch, is_event, AreThere, entries_of, without_entries}
 use Rattle.edge_rules.proofs.Walks.{from_once}
 use Rattle.edge_rules.proofs.indexing.remove_stretch.Given as goal
 

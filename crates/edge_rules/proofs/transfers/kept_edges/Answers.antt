@@ -1,4 +1,4 @@
-use Rattle.std.proofs.Common.{sym, ◌∙◌}
+use Rattle.edge_rules.proofs.Words.{sym, ◌∙◌}
 use Rattle.edge_rules.proofs.NoneFound.{kept-other, kept-no_overrides}
 use Rattle.edge_rules.proofs.transfers.kept_edges.Goals as goal
 

@@ -1,5 +1,4 @@
-use Rattle.std.proofs.Common.{flat_map, sym, ◌∙◌, ap}
-use Rattle.edge_rules.specs.Found.{of_name, planned_with}
+use Rattle.edge_rules.proofs.Words.{flat_map, sym, ◌∙◌, ap, of_name, planned_with}
 use Rattle.edge_rules.proofs.EdgesFound.{names-in}
 use Rattle.edge_rules.proofs.NoneFound.{names-none_near, planned-unwaited}
 use Rattle.edge_rules.proofs.transfers.names_near.Goals as goal

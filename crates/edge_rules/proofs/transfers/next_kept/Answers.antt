@@ -1,6 +1,4 @@
-use Rattle.std.proofs.Common.{◌++◌, flat_map, sym, ◌∙◌, ap}
-use Rattle.std.specs.Option.{option_to_list}
-use Rattle.edge_rules.specs.Found.{of_name, kept_with}
+use Rattle.edge_rules.proofs.Words.{◌++◌, flat_map, sym, ◌∙◌, ap, option_to_list, of_name, kept_with}
 use Rattle.edge_rules.proofs.transfers.next_kept.Goals as goal
 
 pub returns-in-Some-kept_edge : goal.returns-in-Some-kept_edge

@@ -1,5 +1,4 @@
-use Rattle.std.proofs.Common.{◌≡◌, flat_map}
-use Rattle.edge_rules.specs.Found.{of_name, kept_with}
+use Rattle.edge_rules.proofs.Words.{◌≡◌, flat_map, of_name, kept_with}
 use Rattle.edge_rules.proofs.transfers.next_kept.Given as goal
 
 -- the names so far have no edge

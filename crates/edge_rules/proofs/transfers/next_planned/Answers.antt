@@ -1,8 +1,4 @@
-use Rattle.std.proofs.Common.{◌≡◌, ◌++◌, true, flat_map, sym, ◌∙◌, ap}
-use Rattle.std.specs.Option.{option_to_list}
-use Rattle.std.proofs.lemmas.List.Elements.{All-tail}
-use Rattle.train_nodes.specs.Calls.{has_event}
-use Rattle.edge_rules.specs.Found.{of_name, planned_with}
+use Rattle.edge_rules.proofs.Words.{◌≡◌, ◌++◌, true, flat_map, sym, ◌∙◌, ap, option_to_list, All-tail, has_event, of_name, planned_with}
 use Rattle.edge_rules.proofs.transfers.next_planned.Goals as goal
 
 pub returns-in-Some-planned_edge-clause-left : goal.returns-in-Some-planned_edge-clause-left

@@ -1,5 +1,4 @@
-use Rattle.std.proofs.Common.{◌≡◌, flat_map}
-use Rattle.edge_rules.specs.Found.{AreNames, of_name, planned_with}
+use Rattle.edge_rules.proofs.Words.{◌≡◌, flat_map, AreNames, of_name, planned_with}
 use Rattle.edge_rules.proofs.transfers.next_planned.Given as goal
 
 -- the names so far have no edge

@@ -1,4 +1,4 @@
-use Rattle.std.proofs.Common.{sym, ◌∙◌}
+use Rattle.edge_rules.proofs.Words.{sym, ◌∙◌}
 use Rattle.edge_rules.proofs.NoneFound.{planned-cannot, planned-no_rules}
 use Rattle.edge_rules.proofs.transfers.planned_edges.Goals.{then-not-can_be_at-via-then-not-can_be_at, then-not-can_be_at-via-else-not-can_be_at+then-has_no_rules}
 use Rattle.edge_rules.proofs.transfers.planned_edges.Goals as goal

@@ -1,6 +1,4 @@
-use Rattle.std.proofs.Common.{sym}
-use Rattle.edge_rules.specs.Found.{waits_at}
-use Rattle.edge_rules.specs.declared.wanted.Wanted.TheVariants.{Into}
+use Rattle.edge_rules.proofs.Words.{sym, waits_at, Into}
 use Rattle.edge_rules.proofs.NoneFound.{planned-cannot, planned-no_wait}
 use Rattle.edge_rules.proofs.transfers.planned_to.Goals as goal
 

@@ -1,5 +1,4 @@
-use Rattle.std.proofs.Common.{refl}
-use Rattle.delay_model.specs.Changes.{change}
+use Rattle.model_examples.proofs.Words.{refl, change}
 use Rattle.model_examples.proofs.changes.which_row_decides.Goals as goal
 
 pub returns : goal.returns

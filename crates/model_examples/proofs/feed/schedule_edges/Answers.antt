@@ -1,5 +1,5 @@
-use Rattle.std.proofs.Common.{◌∙◌, ap}
-use Rattle.delay_model.specs.Events.{events, events_from}
+use Rattle.model_examples.proofs.Words.{◌∙◌, ap, events}
+use Rattle.delay_model.specs.Events.{events_from}
 use Rattle.model_examples.proofs.feed.schedule_edges.Goals as goal
 
 pub list_edges-requires-clause-all : goal.list_edges-requires-clause-all

@@ -1,7 +1,4 @@
-use Rattle.std.proofs.Common.{refl}
-use Rattle.delay_model.specs.Changes.{change}
-use Rattle.delay_model.specs.Waits.{wait}
-use Rattle.delay_model.specs.Edges.{transfer}
+use Rattle.model_examples.proofs.Words.{refl, change, wait, transfer}
 use Rattle.model_examples.proofs.holds.no_connection_to_itself.Goals as goal
 
 pub returns : goal.returns

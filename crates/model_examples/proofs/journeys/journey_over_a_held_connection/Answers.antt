@@ -1,13 +1,4 @@
-use Rattle.std.proofs.Common.{[], ◌∷◌, refl, sym, lit≤}
-use Rattle.mt_base.specs.Order.{is_same, is_same_node, is_before}
-use Rattle.delay_model.specs.Changes.{change}
-use Rattle.delay_model.specs.Waits.{wait}
-use Rattle.delay_model.specs.Events.{events}
-use Rattle.delay_model.specs.Edges.{transfer}
-use Rattle.delay_model.specs.Effect.{effect}
-use Rattle.delay_model.specs.After.{after_messages}
-use Rattle.delay_model.specs.Timing.{time, time_within, local, incoming, cap}
-use Rattle.model_examples.specs.TwoTrains.{clock, opts, start, at_b1}
+use Rattle.model_examples.proofs.Words.{[], ◌∷◌, refl, sym, lit≤, is_same, is_same_node, is_before, change, wait, events, transfer, effect, after_messages, time, time_within, local, incoming, cap, clock, opts, start, at_b1}
 use Rattle.model_examples.proofs.Compute.{no_overrides, time-is}
 use Rattle.model_examples.proofs.Rides.{Sight, sight, passes_none, from_a_to_d}
 use Rattle.model_examples.proofs.journeys.journey_over_a_held_connection.Goals as goal

@@ -1,12 +1,4 @@
-use Rattle.std.proofs.Common.{refl, lit≤}
-use Rattle.mt_base.specs.Order.{is_same, is_same_node, is_before}
-use Rattle.delay_model.specs.Changes.{change}
-use Rattle.delay_model.specs.Waits.{wait}
-use Rattle.delay_model.specs.Events.{events}
-use Rattle.delay_model.specs.Edges.{transfer}
-use Rattle.delay_model.specs.Effect.{effect}
-use Rattle.delay_model.specs.Timing.{time, time_within, local, incoming, cap}
-use Rattle.model_examples.specs.TwoTrains.{clock, opts, start, at_eight, platform_b1, platform_b2}
+use Rattle.model_examples.proofs.Words.{refl, lit≤, is_same, is_same_node, is_before, change, wait, events, transfer, effect, time, time_within, local, incoming, cap, clock, opts, start, at_eight, platform_b1, platform_b2}
 use Rattle.model_examples.proofs.Compute.{no_overrides, time-is}
 use Rattle.model_examples.proofs.Rides.{Sight, sight, not_before_query}
 use Rattle.model_examples.proofs.journeys.journey_without_a_ride.Goals as goal

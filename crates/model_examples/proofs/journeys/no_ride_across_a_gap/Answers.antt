@@ -1,6 +1,4 @@
-use Rattle.std.proofs.Common.{refl, lit<}
-use Rattle.mt_base.specs.Order.{is_same_node}
-use Rattle.delay_model.specs.Effect.{effect}
+use Rattle.model_examples.proofs.Words.{refl, lit<, is_same_node, effect}
 use Rattle.model_examples.proofs.Rides.{alights_before_a_gap}
 use Rattle.model_examples.proofs.journeys.no_ride_across_a_gap.Goals as goal
 

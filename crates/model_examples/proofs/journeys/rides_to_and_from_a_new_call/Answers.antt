@@ -1,12 +1,4 @@
-use Rattle.std.proofs.Common.{[], ◌∷◌, true, false, refl, sym, lit≤}
-use Rattle.mt_base.specs.Order.{is_same, is_same_node, is_before}
-use Rattle.delay_model.specs.Changes.{change}
-use Rattle.delay_model.specs.Waits.{wait}
-use Rattle.delay_model.specs.Events.{events}
-use Rattle.delay_model.specs.Edges.{transfer}
-use Rattle.delay_model.specs.Effect.{effect}
-use Rattle.delay_model.specs.Timing.{time, time_within, local, incoming, cap}
-use Rattle.model_examples.specs.TwoTrains.{clock, call, at, stop_a}
+use Rattle.model_examples.proofs.Words.{[], ◌∷◌, true, false, refl, sym, lit≤, is_same, is_same_node, is_before, change, wait, events, transfer, effect, time, time_within, local, incoming, cap, clock, call, at, stop_a}
 use Rattle.model_examples.proofs.Compute.{no_overrides, still_none, time-is}
 use Rattle.model_examples.proofs.Rides.{passes_none}
 use Rattle.model_examples.proofs.journeys.rides_to_and_from_a_new_call.Goals as goal

@@ -1,12 +1,6 @@
-use Rattle.std.proofs.Common.{[], ◌∷◌, refl, sym, lit≤}
+use Rattle.model_examples.proofs.Words.{[], ◌∷◌, refl, sym, lit≤, is_same, is_same_node, is_before, change, wait, events, transfer, time, time_within, local, incoming, cap, clock, opts, network, at_eight, t1_at_b, stop_a, stop_d}
 use Rattle.std.proofs.lemmas.List.Elements.{All-cons}
-use Rattle.mt_base.specs.Order.{is_same, is_same_node, is_before}
-use Rattle.delay_model.specs.Changes.{change}
-use Rattle.delay_model.specs.Waits.{wait}
-use Rattle.delay_model.specs.Events.{events}
-use Rattle.delay_model.specs.Edges.{transfer}
-use Rattle.delay_model.specs.Timing.{time, time_within, local, incoming, cap}
-use Rattle.model_examples.specs.TwoTrains.{clock, opts, network, both_to_d, at_eight, t1_at_b, stop_a, stop_d}
+use Rattle.model_examples.specs.TwoTrains.{both_to_d}
 use Rattle.model_examples.proofs.Compute.{no_overrides, time-is}
 use Rattle.model_examples.proofs.Rides.{rides, ends_then, not_before_rides, passes_none}
 use Rattle.model_examples.proofs.journeys.two_earliest_journeys.Goals as goal

@@ -1,15 +1,4 @@
-use Rattle.std.proofs.Common.{[], None, Some, refl}
-use Rattle.mt_base.specs.Order.{is_same, is_same_node, is_before}
-use Rattle.delay_model.specs.declared.messages.Refusal.TheVariants.{AgainstRank}
-use Rattle.delay_model.specs.Changes.{change}
-use Rattle.delay_model.specs.Waits.{wait}
-use Rattle.delay_model.specs.Events.{events}
-use Rattle.delay_model.specs.Edges.{transfer}
-use Rattle.delay_model.specs.Effect.{effect}
-use Rattle.delay_model.specs.After.{after_messages}
-use Rattle.delay_model.specs.Refusals.{refusal}
-use Rattle.delay_model.specs.Timing.{cap}
-use Rattle.model_examples.specs.TwoTrains.{opts, network, start, arrival, departure}
+use Rattle.model_examples.proofs.Words.{[], None, Some, refl, is_same, is_same_node, is_before, AgainstRank, change, wait, events, transfer, effect, after_messages, refusal, cap, opts, network, start, arrival, departure}
 use Rattle.model_examples.proofs.Compute.{no_overrides, keep-answer, drop-answer}
 use Rattle.model_examples.proofs.overrides.change_too_long_to_keep.Goals as goal
 

@@ -1,14 +1,4 @@
-use Rattle.std.proofs.Common.{[], ◌∷◌, None, refl}
-use Rattle.mt_base.specs.Order.{is_same, is_same_node, is_before}
-use Rattle.delay_model.specs.Changes.{change}
-use Rattle.delay_model.specs.Waits.{wait}
-use Rattle.delay_model.specs.Events.{events}
-use Rattle.delay_model.specs.Edges.{transfer}
-use Rattle.delay_model.specs.Effect.{effect}
-use Rattle.delay_model.specs.After.{after_messages}
-use Rattle.delay_model.specs.Refusals.{refusal}
-use Rattle.delay_model.specs.Timing.{time, time_within, local, incoming, cap}
-use Rattle.model_examples.specs.TwoTrains.{clock, opts, network, start, at_b1, arrival, departure, keep_at_b}
+use Rattle.model_examples.proofs.Words.{[], ◌∷◌, None, refl, is_same, is_same_node, is_before, change, wait, events, transfer, effect, after_messages, refusal, time, time_within, local, incoming, cap, clock, opts, network, start, at_b1, arrival, departure, keep_at_b}
 use Rattle.model_examples.proofs.Compute.{no_overrides, with_override, without_override, times-are, count-is, keep-answer, drop-answer, ◌and◌}
 use Rattle.model_examples.proofs.overrides.keep_drop_and_rule.Goals as goal
 

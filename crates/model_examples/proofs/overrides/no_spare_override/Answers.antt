@@ -1,16 +1,5 @@
-use Rattle.std.proofs.Common.{[], ◌∷◌, None, Some, refl, ap, ◌+◌}
-use Rattle.mt_base.specs.Order.{is_same, is_same_node, is_before}
-use Rattle.delay_model.specs.declared.messages.Refusal.TheVariants.{Full}
-use Rattle.delay_model.specs.declared.messages.Short.TheVariants.{Overrides}
-use Rattle.delay_model.specs.Changes.{change}
-use Rattle.delay_model.specs.Waits.{wait}
-use Rattle.delay_model.specs.Events.{events}
-use Rattle.delay_model.specs.Edges.{transfer}
-use Rattle.delay_model.specs.Effect.{effect}
-use Rattle.delay_model.specs.After.{after_messages}
-use Rattle.delay_model.specs.Refusals.{refusal}
-use Rattle.delay_model.specs.Timing.{cap}
-use Rattle.model_examples.specs.TwoTrains.{opts, network, start, arrival, departure, keep_at_b, extra}
+use Rattle.model_examples.proofs.Words.{[], ◌∷◌, None, Some, refl, ap, ◌+◌, is_same, is_same_node, is_before, Full, Overrides, change, wait, events, transfer, effect, after_messages, refusal, cap, opts, network, start, arrival, departure, keep_at_b}
+use Rattle.model_examples.specs.TwoTrains.{extra}
 use Rattle.model_examples.proofs.Compute.{no_overrides, with_override, without_override, keep-answer, drop-answer, spare-less, spare-more}
 use Rattle.model_examples.proofs.overrides.no_spare_override.Goals as goal
 

@@ -1,12 +1,4 @@
-use Rattle.std.proofs.Common.{refl}
-use Rattle.mt_base.specs.Order.{is_same, is_same_node, is_before}
-use Rattle.delay_model.specs.Changes.{change}
-use Rattle.delay_model.specs.Waits.{wait}
-use Rattle.delay_model.specs.Events.{events}
-use Rattle.delay_model.specs.Edges.{transfer}
-use Rattle.delay_model.specs.Effect.{effect}
-use Rattle.delay_model.specs.Refusals.{refusal}
-use Rattle.delay_model.specs.Timing.{time, time_within, local, incoming, cap}
+use Rattle.model_examples.proofs.Words.{refl, is_same, is_same_node, is_before, change, wait, events, transfer, effect, refusal, time, time_within, local, incoming, cap}
 use Rattle.model_examples.proofs.Compute.{no_overrides, still_none, touched-are}
 use Rattle.model_examples.proofs.reports.touched_events.Goals as goal
 

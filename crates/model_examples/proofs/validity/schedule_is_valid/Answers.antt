@@ -1,19 +1,9 @@
-use Rattle.std.proofs.Common.{◌≡◌, ◌≢◌, ◌<◌, [], ◌∷◌, false, true, None, Some, All, refl, sym, subst, ◌∙◌, arith, lit≤, lit<}
-use Rattle.std.proofs.Common.{◌+◌, ◌^◌}
-use Rattle.std.specs.FinMap.{len-empty}
-use Rattle.delay_model.specs.declared.overrides.Override.{Override}
-use Rattle.delay_model.specs.Overrides.{connection_cmp}
-use Rattle.delay_model.specs.declared.state.Train.{Train}
+use Rattle.model_examples.proofs.Words.{◌≡◌, ◌<◌, [], ◌∷◌, false, true, None, Some, All, refl, sym, subst, ◌∙◌, arith, lit≤, lit<, ◌+◌, len-empty, Override, connection_cmp, Train, is_before, Call, Event, change, wait, events, transfer, network, opts, start, t1_at_b, call, at, clock, stop_a, stop_c, stop_d}
+use Rattle.std.proofs.Common.{◌≢◌}
+use Rattle.std.proofs.Common.{◌^◌}
 use Rattle.std.proofs.lemmas.List.Elements.{All-from_recursion}
-use Rattle.mt_base.specs.Order.{is_before}
-use Rattle.delay_model.specs.declared.state.Call.{Call}
-use Rattle.delay_model.specs.declared.state.Event.{Event}
-use Rattle.delay_model.specs.Changes.{change}
-use Rattle.delay_model.specs.Waits.{wait}
-use Rattle.delay_model.specs.Events.{events}
-use Rattle.delay_model.specs.Edges.{transfer}
 use Rattle.delay_model.specs.Valid.{IsForward, IsTrain, IsSmall}
-use Rattle.model_examples.specs.TwoTrains.{network, opts, start, t1, t2, t1_at_b, t2_at_b, call, at, clock, stop_a, stop_c, stop_d}
+use Rattle.model_examples.specs.TwoTrains.{t1, t2, t2_at_b}
 use Rattle.model_examples.proofs.Compute.{no_overrides, none, by, edges_by, edges-are}
 use Rattle.model_examples.proofs.validity.schedule_is_valid.Goals as goal
 

@@ -1,5 +1,4 @@
-use Rattle.std.proofs.Common.{refl}
-use Rattle.delay_model.specs.Windows.{windows}
+use Rattle.model_examples.proofs.Words.{refl, windows}
 use Rattle.model_examples.proofs.windows.a_window_has_256_lines.Goals as goal
 
 pub returns : goal.returns

@@ -1,4 +1,4 @@
-use Rattle.std.proofs.Common.{refl, arith}
+use Rattle.model_examples.proofs.Words.{refl, arith}
 use Rattle.model_examples.specs.TwoTrains.{answered}
 use Rattle.model_examples.proofs.windows.counts_of_a_client.Goals as goal
 

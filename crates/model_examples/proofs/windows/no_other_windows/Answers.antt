@@ -1,4 +1,4 @@
-use Rattle.std.proofs.Common.{refl, [], arith}
+use Rattle.model_examples.proofs.Words.{refl, [], arith}
 use Rattle.model_examples.proofs.windows.no_other_windows.Goals as goal
 
 pub returns-clause-windows : goal.returns-clause-windows

@@ -1,7 +1,4 @@
-use Rattle.std.proofs.Common.{rules, arith, not, length, drop}
-use Rattle.std.proofs.lemmas.List.Sorted.{IsPartitionPoint-from_clause}
-use Rattle.std.proofs.lemmas.Slice.{between_to_end}
-use Rattle.station_index.specs.Places.{is_before_range, is_past_range}
+use Rattle.station_index.proofs.Words.{rules, arith, not, length, drop, IsPartitionPoint-from_clause, between_to_end, is_before_range, is_past_range}
 use Rattle.station_index.proofs.PlaceLemmas.{range-parted, past-parted, range-at, AreInOrder-drop}
 use Rattle.station_index.proofs.entries.bounds.Goals as goal
 

@@ -1,4 +1,4 @@
-use Rattle.station_index.specs.Indexed.{is_in_range}
+use Rattle.station_index.proofs.Words.{is_in_range}
 use Rattle.station_index.proofs.PlaceLemmas.{range-is}
 use Rattle.station_index.proofs.entries.part.Goals as goal
 

@@ -1,6 +1,4 @@
-use Rattle.std.proofs.Common.{rules}
-use Rattle.std.proofs.lemmas.List.Sorted.{IsPartitionPoint-from_clause}
-use Rattle.mt_base.specs.Order.{is_before_entry}
+use Rattle.station_index.proofs.Words.{rules, IsPartitionPoint-from_clause, is_before_entry}
 use Rattle.station_index.proofs.PlaceLemmas.{parted}
 use Rattle.station_index.proofs.entries.place.Goals as goal
 

@@ -1,4 +1,4 @@
-use Rattle.std.proofs.Common.{arith, ◌∙◌}
+use Rattle.station_index.proofs.Words.{arith, ◌∙◌}
 use Rattle.station_index.proofs.PlaceLemmas.{with-at}
 use Rattle.station_index.proofs.entries.put.Goals as goal
 

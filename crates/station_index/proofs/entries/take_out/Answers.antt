@@ -1,4 +1,4 @@
-use Rattle.std.proofs.Common.{arith, sym, ◌∙◌}
+use Rattle.station_index.proofs.Words.{arith, sym, ◌∙◌}
 use Rattle.station_index.proofs.PlaceLemmas.{without-found, without-missed, without-past}
 use Rattle.station_index.proofs.entries.take_out.Goals as goal
 use Rattle.station_index.proofs.entries.take_out.Goals.{else-place-len-via-then-place-len+else-not-is_before, else-place-len-via-else-place-len}

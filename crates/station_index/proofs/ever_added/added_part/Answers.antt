@@ -1,4 +1,4 @@
-use Rattle.std.proofs.Common.{sym, ◌∙◌}
+use Rattle.station_index.proofs.Words.{sym, ◌∙◌}
 use Rattle.station_index.proofs.AddedLemmas.{none-ever_added}
 use Rattle.station_index.proofs.ever_added.added_part.Goals as goal
 

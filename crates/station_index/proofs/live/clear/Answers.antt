@@ -1,4 +1,4 @@
-use Rattle.std.proofs.Common.{sym}
+use Rattle.station_index.proofs.Words.{sym}
 use Rattle.station_index.proofs.KeptLemmas.{kept-pass}
 use Rattle.station_index.proofs.PlaceLemmas.{clear-there, differs}
 use Rattle.station_index.proofs.live.clear.Goals as goal

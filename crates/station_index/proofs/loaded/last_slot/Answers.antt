@@ -1,4 +1,4 @@
-use Rattle.std.proofs.Common.{length, sym}
+use Rattle.station_index.proofs.Words.{length, sym}
 use Rattle.station_index.proofs.SlotLemmas.{last-slot, some-from}
 use Rattle.station_index.proofs.loaded.last_slot.Goals as goal
 

@@ -1,7 +1,4 @@
-use Rattle.std.proofs.Common.{rules}
-use Rattle.std.proofs.lemmas.List.Sorted.{IsPartitionPoint-from_clause}
-use Rattle.mt_base.specs.Order.{is_before_entry}
-use Rattle.station_index.specs.Slots.{entry_of}
+use Rattle.station_index.proofs.Words.{rules, IsPartitionPoint-from_clause, is_before_entry, entry_of}
 use Rattle.station_index.proofs.FindLemmas.{events-parted}
 use Rattle.station_index.proofs.loaded.place_of.Goals as goal
 

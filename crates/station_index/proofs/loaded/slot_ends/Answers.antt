@@ -1,6 +1,4 @@
-use Rattle.std.proofs.Common.{rules, arith, nat_le}
-use Rattle.std.proofs.lemmas.List.Sorted.{IsPartitionPoint-from_clause}
-use Rattle.station_index.specs.Slots.{slot_of}
+use Rattle.station_index.proofs.Words.{rules, arith, nat_le, IsPartitionPoint-from_clause, slot_of}
 use Rattle.station_index.proofs.SlotLemmas.{filled-all, filled-more, slots-parted}
 use Rattle.station_index.proofs.loaded.slot_ends.Goals as goal
 

@@ -1,4 +1,4 @@
-use Rattle.std.proofs.Common.{◌≡◌, ℕ, ◌<◌, true, false, get_or}
+use Rattle.station_index.proofs.Words.{◌≡◌, ℕ, ◌<◌, true, false, get_or}
 use Rattle.station_index.proofs.range.dead_at_front.Given as goal
 
 -- no flag so far is set

@@ -1,5 +1,4 @@
-use Rattle.std.proofs.Common.{◌≡◌, map, take}
-use Rattle.station_index.specs.Numbers.{entry_of_number}
+use Rattle.station_index.proofs.Words.{◌≡◌, map, take, entry_of_number}
 use Rattle.station_index.proofs.sorting.list_entries.Given as goal
 
 -- the entries so far are of the numbers so far

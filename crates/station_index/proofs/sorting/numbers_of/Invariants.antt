@@ -1,5 +1,4 @@
-use Rattle.std.proofs.Common.{◌≡◌, map, take}
-use Rattle.station_index.specs.Numbers.{entry_of_number}
+use Rattle.station_index.proofs.Words.{◌≡◌, map, take, entry_of_number}
 use Rattle.station_index.proofs.sorting.numbers_of.Given as goal
 
 -- the numbers so far are of the entries so far

@@ -1,4 +1,4 @@
-use Rattle.std.proofs.Common.{◌∙◌}
+use Rattle.station_index.proofs.Words.{◌∙◌}
 use Rattle.std.proofs.lemmas.Result.{on_ok_weaker}
 use Rattle.station_index.proofs.NumberLemmas.{numbers-move, numbers-ordered}
 use Rattle.station_index.proofs.OrderLemmas.{sorted-ascends}

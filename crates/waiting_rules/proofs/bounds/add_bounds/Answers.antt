@@ -1,5 +1,4 @@
-use Rattle.std.proofs.Common.{sym, ◌∙◌}
-use Rattle.waiting_rules.specs.Scopes.{connecting_of}
+use Rattle.waiting_rules.proofs.Words.{sym, ◌∙◌, connecting_of}
 use Rattle.waiting_rules.proofs.BoundLemmas.{some-known, some-new}
 use Rattle.waiting_rules.proofs.bounds.add_bounds.Goals as goal
 

@@ -1,6 +1,5 @@
-use Rattle.std.proofs.Common.{subst}
+use Rattle.waiting_rules.proofs.Words.{subst, HasSome}
 use Rattle.std.proofs.lemmas.List.{take_all}
-use Rattle.waiting_rules.specs.Bounded.{HasSome}
 use Rattle.waiting_rules.proofs.BoundLemmas.{bounds-all}
 use Rattle.waiting_rules.proofs.bounds.all_bounds.Goals as goal
 

@@ -1,5 +1,4 @@
-use Rattle.std.proofs.Common.{take}
-use Rattle.waiting_rules.specs.Bounded.{HasSome}
+use Rattle.waiting_rules.proofs.Words.{take, HasSome}
 use Rattle.waiting_rules.proofs.bounds.all_bounds.Given as goal
 
 -- the bounds are those of the rules so far

@@ -1,7 +1,5 @@
-use Rattle.std.proofs.Common.{rules}
-use Rattle.std.specs.Ordering.{is_le, is_lt}
+use Rattle.waiting_rules.proofs.Words.{rules, is_le, is_lt, connecting_cmp}
 use Rattle.std.proofs.lemmas.List.Sorted.{IsPartitionPoint-from_clause}
-use Rattle.waiting_rules.specs.Scopes.{connecting_cmp}
 use Rattle.waiting_rules.proofs.PartLemmas.{start-parted, end-parted, part-is}
 use Rattle.waiting_rules.proofs.bounds.bounds_of.Goals as goal
 

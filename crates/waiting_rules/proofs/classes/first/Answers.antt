@@ -1,6 +1,4 @@
-use Rattle.std.proofs.Common.{[], ◌≡◌, ◌≤◌, length, get_or, arith}
-use Rattle.std.specs.List.{position_or_len}
-use Rattle.waiting_rules.specs.Indexed.{is_in, scope}
+use Rattle.waiting_rules.proofs.Words.{[], ◌≡◌, ◌≤◌, length, get_or, arith, position_or_len, is_in, scope}
 use Rattle.waiting_rules.proofs.Firsts.{first-none}
 use Rattle.waiting_rules.proofs.FitLemmas.{first-more}
 use Rattle.waiting_rules.proofs.PlaceLemmas.{earlier-place}

@@ -1,7 +1,4 @@
-use Rattle.std.proofs.Common.{◌≡◌, ◌≤◌, List, length, min, take}
-use Rattle.std.specs.List.{position_or_len}
-use Rattle.mt_base.specs.declared.tables.RuleRow.{RuleRow}
-use Rattle.waiting_rules.specs.Indexed.{HasPlaces, is_in}
+use Rattle.waiting_rules.proofs.Words.{◌≡◌, ◌≤◌, List, length, min, take, position_or_len, RuleRow, HasPlaces, is_in}
 use Rattle.waiting_rules.proofs.classes.first.Given as goal
 
 -- the earliest of the place and those of the parts so far

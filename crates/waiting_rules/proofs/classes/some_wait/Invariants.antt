@@ -1,6 +1,4 @@
-use Rattle.std.proofs.Common.{◌≡◌, drop}
-use Rattle.std.specs.List.{list_any}
-use Rattle.waiting_rules.specs.declared.parts.Part.{Part}
+use Rattle.waiting_rules.proofs.Words.{◌≡◌, drop, list_any, Part}
 use Rattle.waiting_rules.proofs.classes.some_wait.Given as goal
 
 -- some of the rest wait where some of all do

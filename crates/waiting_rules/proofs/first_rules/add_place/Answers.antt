@@ -1,4 +1,4 @@
-use Rattle.std.proofs.Common.{◌∙◌, sym}
+use Rattle.waiting_rules.proofs.Words.{◌∙◌, sym}
 use Rattle.waiting_rules.proofs.PlaceLemmas.{places-known, places-new}
 use Rattle.waiting_rules.proofs.first_rules.add_place.Goals as goal
 

@@ -1,5 +1,4 @@
-use Rattle.std.proofs.Common.{subst, sym}
-use Rattle.std.proofs.lemmas.Result.{IfOk-weaker}
+use Rattle.waiting_rules.proofs.Words.{subst, sym, IfOk-weaker}
 use Rattle.waiting_rules.specs.Indexed.{AreFirst}
 use Rattle.waiting_rules.proofs.first_rules.first_rules.Goals as goal
 

@@ -1,5 +1,4 @@
-use Rattle.std.proofs.Common.{take}
-use Rattle.waiting_rules.specs.Indexed.{HasPlaces}
+use Rattle.waiting_rules.proofs.Words.{take, HasPlaces}
 use Rattle.waiting_rules.proofs.first_rules.places.Given as goal
 
 -- the places are those of the rules so far

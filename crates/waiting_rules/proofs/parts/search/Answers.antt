@@ -1,6 +1,5 @@
-use Rattle.std.proofs.Common.{rules}
+use Rattle.waiting_rules.proofs.Words.{rules, scope_cmp}
 use Rattle.std.proofs.lemmas.Fn.{always_returns_same}
-use Rattle.waiting_rules.specs.Scopes.{scope_cmp}
 use Rattle.waiting_rules.proofs.PartLemmas.{found, missed, scopes-rise}
 use Rattle.waiting_rules.proofs.parts.search.Goals as goal
 

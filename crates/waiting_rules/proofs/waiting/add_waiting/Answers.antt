@@ -1,6 +1,4 @@
-use Rattle.std.proofs.Common.{◌∙◌}
-use Rattle.std.proofs.lemmas.Bool.{lt-ltb}
-use Rattle.waiting_rules.specs.Waiting.{in_waiting}
+use Rattle.waiting_rules.proofs.Words.{◌∙◌, lt-ltb, in_waiting}
 use Rattle.waiting_rules.proofs.FlagLemmas.{waiting-more, waiting-step}
 use Rattle.waiting_rules.proofs.waiting.add_waiting.Goals as goal
 

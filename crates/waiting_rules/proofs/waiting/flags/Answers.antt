@@ -1,4 +1,4 @@
-use Rattle.std.proofs.lemmas.Result.{IfOk-weaker}
+use Rattle.waiting_rules.proofs.Words.{IfOk-weaker}
 use Rattle.waiting_rules.proofs.FlagLemmas.{flags-are}
 use Rattle.waiting_rules.proofs.waiting.flags.Goals as goal
 

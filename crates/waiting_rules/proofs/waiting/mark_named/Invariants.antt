@@ -1,6 +1,4 @@
-use Rattle.std.proofs.Common.{◌≡◌, ◌<◌, ℕ, false, ◌||◌, drop, length, slice_index_or}
-use Rattle.std.specs.List.{list_any}
-use Rattle.waiting_rules.specs.Waiting.{names_stop}
+use Rattle.waiting_rules.proofs.Words.{◌≡◌, ◌<◌, ℕ, false, ◌||◌, drop, length, slice_index_or, list_any, names_stop}
 use Rattle.waiting_rules.proofs.waiting.mark_named.Given as goal
 
 -- with what the rest of the rules name, the marks are those of all

@@ -1,5 +1,4 @@
-use Rattle.std.proofs.Common.{take}
-use Rattle.waiting_rules.specs.Waiting.{HasWaiting}
+use Rattle.waiting_rules.proofs.Words.{take, HasWaiting}
 use Rattle.waiting_rules.proofs.waiting.waiting.Given as goal
 
 -- the trains are those of the rules so far

@@ -1,6 +1,4 @@
-use Rattle.std.proofs.Common.{◌≡◌, ◌<◌, ℕ, true, ◌||◌, length, slice_index_or}
-use Rattle.waiting_rules.specs.Waiting.{flag_at}
-use Rattle.waiting_rules.specs.WaitTable.{station_in}
+use Rattle.waiting_rules.proofs.Words.{◌≡◌, ◌<◌, ℕ, true, ◌||◌, length, slice_index_or, flag_at, station_in}
 use Rattle.waiting_rules.proofs.waiting.with_stations.Given as goal
 
 -- the flags are those of the locations so far

@@ -1,8 +1,7 @@
-use Rattle.std.proofs.Common.{rules, ap, ◌∙◌, unwrap_or}
+use Rattle.waiting_rules.proofs.Words.{rules, ap, ◌∙◌, unwrap_or, RuleRow}
 use Rattle.std.proofs.lemmas.Iterator.{YieldsList-from_slice, YieldsList-from_map}
 use Rattle.std.proofs.lemmas.Iterator.Consumers.{reduce_from_yields_List}
 use Rattle.std.proofs.lemmas.List.Folds.{max_of_map}
-use Rattle.mt_base.specs.declared.tables.RuleRow.{RuleRow}
 use Rattle.waiting_rules.proofs.waits.longest_wait.Goals as goal
 
 pub returns : goal.returns

@@ -1,4 +1,4 @@
-use Rattle.std.proofs.Common.{◌∙◌, arith}
+use Rattle.change_times.proofs.Words.{◌∙◌, arith}
 use Rattle.std.proofs.lemmas.Result.{err_from_is_err_and}
 use Rattle.change_times.proofs.CountLemmas.{onward-is}
 use Rattle.change_times.proofs.SameLemmas.{pairs-same}

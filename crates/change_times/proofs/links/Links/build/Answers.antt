@@ -1,6 +1,4 @@
-use Rattle.std.proofs.Common.{rules}
-use Rattle.std.proofs.lemmas.List.Sorted.{answers_always, IsNonDecreasingBy-from_sort}
-use Rattle.change_times.specs.Stored.{place_of}
+use Rattle.change_times.proofs.Words.{rules, answers_always, IsNonDecreasingBy-from_sort, place_of}
 use Rattle.change_times.proofs.links.Links.build.Goals as goal
 
 pub invariant_of-result : goal.invariant_of-result

@@ -1,5 +1,4 @@
-use Rattle.std.proofs.Common.{rules, ◌∙◌, ◌-◌, ◌≤◌, ap, [], get_or, length, take, drop, arith}
-use Rattle.change_times.specs.Cuts.{cut}
+use Rattle.change_times.proofs.Words.{rules, ◌∙◌, ◌-◌, ◌≤◌, ap, [], get_or, length, take, drop, arith, cut}
 use Rattle.change_times.proofs.CutLemmas.{bounded, IsPart}
 use Rattle.change_times.proofs.lists.Lists.get.Goals as goal
 

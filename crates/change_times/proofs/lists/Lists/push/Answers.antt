@@ -1,4 +1,4 @@
-use Rattle.std.proofs.Common.{rules, ◌≡◌, ◌∙◌, ◌++◌, ◌∷◌, [], length, ap}
+use Rattle.change_times.proofs.Words.{rules, ◌≡◌, ◌∙◌, ◌++◌, ◌∷◌, [], length, ap}
 use Rattle.change_times.proofs.CutLemmas.{one-more, more-ends}
 use Rattle.change_times.proofs.lists.Lists.push.Goals as goal
 

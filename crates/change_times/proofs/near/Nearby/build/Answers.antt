@@ -1,8 +1,4 @@
-use Rattle.std.proofs.Common.{List, subst}
-use Rattle.mt_base.specs.declared.tables.StopRow.{StopRow}
-use Rattle.mt_base.specs.declared.tables.TransferRow.{TransferRow}
-use Rattle.change_times.specs.declared.near.Direction.TheVariants.{Onward, Back}
-use Rattle.change_times.specs.Near.{HaveMembers, HaveRows}
+use Rattle.change_times.proofs.Words.{List, subst, StopRow, TransferRow, Onward, Back, HaveMembers, HaveRows}
 use Rattle.change_times.proofs.near.Nearby.build.Goals as goal
 
 pub returns : goal.returns

@@ -1,12 +1,9 @@
-use Rattle.std.proofs.Common.{rules, ◌≡◌, subst, All, append_assoc}
+use Rattle.change_times.proofs.Words.{rules, ◌≡◌, subst, All, All-contains_itself, All-weaker, Contains-permutation, Contains, near, links_in}
+use Rattle.std.proofs.Common.{append_assoc}
 use Rattle.std.proofs.Math.Dec.{eqb}
-use Rattle.std.proofs.lemmas.List.Elements.{All-contains_itself, All-weaker}
 use Rattle.std.proofs.lemmas.List.Filters.{dedup_is}
 use Rattle.std.proofs.lemmas.List.Kept.{Contains-dedup_nat}
-use Rattle.std.proofs.lemmas.List.Sorted.{Contains-permutation}
 use Rattle.std.proofs.lemmas.Map.Keys.{IsStrictlyIncreasing-dedup}
-use Rattle.std.specs.List.{Contains}
-use Rattle.change_times.specs.Near.{near, links_in}
 use Rattle.change_times.proofs.near.Nearby.find.Goals as goal
 
 pub returns-clause-order : goal.returns-clause-order

@@ -1,5 +1,4 @@
-use Rattle.std.proofs.Common.{◌≡◌, take, map}
-use Rattle.change_times.specs.ChangeTables.{without_id}
+use Rattle.change_times.proofs.Words.{◌≡◌, take, map, without_id}
 use Rattle.change_times.specs.Stored.{row_of}
 use Rattle.change_times.proofs.places.Places.build.Given as goal
 

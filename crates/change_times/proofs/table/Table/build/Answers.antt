@@ -1,9 +1,4 @@
-use Rattle.std.proofs.Common.{◌∙◌, ◌<◌, All, map, length, subst, sym, ap}
-use Rattle.std.specs.List.{filter}
-use Rattle.mt_base.specs.declared.tables.Tables.{Tables}
-use Rattle.delay_model.specs.Changes.{is_looked_at}
-use Rattle.change_times.specs.ChangeTables.{without_id}
-use Rattle.change_times.specs.Stored.{from_of}
+use Rattle.change_times.proofs.Words.{◌∙◌, ◌<◌, All, map, length, subst, sym, ap, filter, Tables, is_looked_at, without_id, from_of}
 use Rattle.change_times.proofs.TableLemmas.{IsMade, looked-within, made-kept, made-same}
 use Rattle.change_times.proofs.table.Table.build.Goals as goal
 

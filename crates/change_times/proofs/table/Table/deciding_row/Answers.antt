@@ -1,8 +1,5 @@
-use Rattle.std.proofs.Common.{◌∙◌, find, ap}
-use Rattle.std.specs.Option.{option_or}
-use Rattle.delay_model.specs.Changes.{deciding_row}
-use Rattle.change_times.specs.ChangeTables.{ChangeTables}
-use Rattle.change_times.specs.Stored.{is_to, seen_table}
+use Rattle.change_times.proofs.Words.{◌∙◌, find, ap, option_or, deciding_row, ChangeTables, is_to}
+use Rattle.change_times.specs.Stored.{seen_table}
 use Rattle.change_times.proofs.TableLemmas.{deciding-is}
 use Rattle.change_times.proofs.table.Table.deciding_row.Goals as goal
 

@@ -1,9 +1,4 @@
-use Rattle.std.proofs.Common.{◌+◌, ◌<◌, List, length, subst, sym, arith}
-use Rattle.std.proofs.lemmas.List.Elements.{All-weaker, All-contains}
-use Rattle.std.specs.List.{Contains}
-use Rattle.std.specs.List.Sorted.{IsNonDecreasingBy}
-use Rattle.mt_base.specs.declared.tables.TransferRow.{TransferRow}
-use Rattle.change_times.specs.Stored.{from_of, HaveStarts}
+use Rattle.change_times.proofs.Words.{◌+◌, ◌<◌, List, length, subst, sym, arith, All-weaker, All-contains, Contains, IsNonDecreasingBy, TransferRow, from_of, HaveStarts}
 use Rattle.change_times.proofs.transfers.Transfers.build.Goals as goal
 
 pub starts-requires-clause-order : goal.starts-requires-clause-order

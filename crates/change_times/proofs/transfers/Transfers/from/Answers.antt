@@ -1,7 +1,4 @@
-use Rattle.std.proofs.Common.{rules, ◌≡◌, ◌∙◌, ◌-◌, ◌≤◌, ap, subst, sym, length, take, drop, arith}
-use Rattle.std.specs.List.{filter}
-use Rattle.std.specs.List.Sorted.{IsNonDecreasingBy}
-use Rattle.change_times.specs.Stored.{is_from, to_of}
+use Rattle.change_times.proofs.Words.{rules, ◌≡◌, ◌∙◌, ◌-◌, ◌≤◌, ap, subst, sym, length, take, drop, arith, filter, IsNonDecreasingBy, is_from, to_of}
 use Rattle.change_times.proofs.CutLemmas.{IsPart}
 use Rattle.change_times.proofs.RowLemmas.{bounded-rows}
 use Rattle.change_times.proofs.transfers.Transfers.from.Goals as goal

@@ -1,7 +1,4 @@
-use Rattle.std.proofs.Common.{◌≡◌, length, sym, ◌∙◌, ap, subst, arith}
-use Rattle.std.proofs.lemmas.List.{length-map}
-use Rattle.conn_scan.specs.Stamped.{found_for, AreStamped}
-use Rattle.conn_scan.specs.declared.query_table.QueryTable.TheInside.{Inside}
+use Rattle.conn_scan.proofs.Words.{◌≡◌, length, sym, ◌∙◌, ap, subst, arith, length-map, found_for, AreStamped, Inside}
 use Rattle.conn_scan.proofs.StampedLemmas.{cleared}
 use Rattle.conn_scan.proofs.query_table.QueryTable.clear.Goals as goal
 use Rattle.conn_scan.proofs.query_table.QueryTable.clear.Goals.{then-self, else-self}

@@ -1,5 +1,4 @@
-use Rattle.std.proofs.Common.{[], length}
-use Rattle.edge_rules.specs.Inside.{network_of}
+use Rattle.edge_rules.proofs.Words.{[], length, network_of}
 use Rattle.edge_rules.proofs.EventChanges.{extra-change}
 use Rattle.edge_rules.proofs.InsideLemmas.{consistent-after}
 use Rattle.edge_rules.proofs.IndexChanges.{changed}

@@ -1,5 +1,4 @@
-use Rattle.std.proofs.Common.{[]}
-use Rattle.edge_rules.specs.Inside.{network_of}
+use Rattle.edge_rules.proofs.Words.{[], network_of}
 use Rattle.edge_rules.proofs.EventChanges.{cancel-change, cancel-exchange, out-of}
 use Rattle.edge_rules.proofs.InsideLemmas.{consistent-after}
 use Rattle.edge_rules.proofs.IndexChanges.{changed, out-there}

@@ -1,11 +1,4 @@
-use Rattle.std.proofs.Common.{◌∙◌, ap}
-use Rattle.std.proofs.lemmas.List.Sorted.{IsPermutation-sym}
-use Rattle.std.proofs.lemmas.List.Kept.{AllPairs-filter}
-use Rattle.mt_base.specs.Order.{node_of}
-use Rattle.delay_model.specs.Edges.{DifferInEnds}
-use Rattle.edge_rules.specs.AtEvent.{along_from, edges_from}
-use Rattle.edge_rules.specs.Deciding.{may_change}
-use Rattle.edge_rules.specs.GraphState.{GraphState}
+use Rattle.edge_rules.proofs.Words.{◌∙◌, ap, IsPermutation-sym, AllPairs-filter, node_of, DifferInEnds, along_from, edges_from, may_change, GraphState}
 use Rattle.edge_rules.proofs.EachOnce.{once-from, differ-turned}
 use Rattle.edge_rules.proofs.EdgesFound.{edges-changing_found, holds}
 use Rattle.edge_rules.proofs.Reordered.{pairs-permuted}

@@ -1,8 +1,5 @@
-use Rattle.std.proofs.Common.{◌≡◌, sym, ◌∙◌, ap, subst}
+use Rattle.edge_rules.proofs.Words.{◌≡◌, sym, ◌∙◌, ap, subst, wait_between, waits_at, GraphState}
 use Rattle.std.proofs.lemmas.Option.{IfSome_then}
-use Rattle.delay_model.specs.Edges.{wait_between}
-use Rattle.edge_rules.specs.Found.{waits_at}
-use Rattle.edge_rules.specs.GraphState.{GraphState}
 use Rattle.edge_rules.proofs.graph.Graph.class.Goals as goal
 
 pub returns-clause-class : goal.returns-clause-class

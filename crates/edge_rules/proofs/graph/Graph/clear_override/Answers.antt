@@ -1,6 +1,5 @@
-use Rattle.std.proofs.Common.{refl}
+use Rattle.edge_rules.proofs.Words.{refl, connection}
 use Rattle.delay_model.specs.Effect.{without_override}
-use Rattle.delay_model.specs.Overrides.{connection}
 use Rattle.edge_rules.proofs.EventChanges.{index-kept}
 use Rattle.edge_rules.proofs.InsideLemmas.{consistent-after}
 use Rattle.edge_rules.proofs.graph.Graph.clear_override.Goals as goal

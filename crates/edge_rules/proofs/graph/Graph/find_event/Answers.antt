@@ -1,4 +1,4 @@
-use Rattle.std.proofs.Common.{sym, ◌∙◌}
+use Rattle.edge_rules.proofs.Words.{sym, ◌∙◌}
 use Rattle.edge_rules.proofs.NoneFound.{no-event}
 use Rattle.edge_rules.proofs.graph.Graph.find_event.Goals as goal
 

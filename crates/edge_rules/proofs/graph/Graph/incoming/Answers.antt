@@ -1,10 +1,4 @@
-use Rattle.std.proofs.Common.{◌∙◌, ap}
-use Rattle.std.proofs.lemmas.List.Sorted.{IsPermutation-sym}
-use Rattle.mt_base.specs.Order.{node_of}
-use Rattle.delay_model.specs.Edges.{DifferInEnds}
-use Rattle.edge_rules.specs.AtEvent.{along_to}
-use Rattle.edge_rules.specs.Found.{waits_at}
-use Rattle.edge_rules.specs.GraphState.{GraphState}
+use Rattle.edge_rules.proofs.Words.{◌∙◌, ap, IsPermutation-sym, node_of, DifferInEnds, along_to, waits_at, GraphState}
 use Rattle.edge_rules.proofs.EachOnce.{once-to, differ-turned}
 use Rattle.edge_rules.proofs.EdgesFound.{edges-to_found, holds}
 use Rattle.edge_rules.proofs.Reordered.{pairs-permuted}

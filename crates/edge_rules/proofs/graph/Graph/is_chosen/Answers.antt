@@ -1,7 +1,4 @@
-use Rattle.std.proofs.Common.{is_some, sym, ◌∙◌, ap}
-use Rattle.mt_base.specs.Order.{node_of}
-use Rattle.delay_model.specs.Edges.{override_of}
-use Rattle.edge_rules.specs.GraphState.{GraphState}
+use Rattle.edge_rules.proofs.Words.{is_some, sym, ◌∙◌, ap, node_of, override_of, GraphState}
 use Rattle.edge_rules.proofs.NoneFound.{not-chosen}
 use Rattle.edge_rules.proofs.graph.Graph.is_chosen.Goals as goal
 

@@ -1,9 +1,4 @@
-use Rattle.std.proofs.Common.{[], not, sym, ◌∙◌, ap}
-use Rattle.std.proofs.lemmas.List.Sorted.{All-permutation, IsPermutation-sym}
-use Rattle.mt_base.specs.Order.{node_of}
-use Rattle.edge_rules.specs.Asking.{IsReady}
-use Rattle.edge_rules.specs.Found.{waits_at}
-use Rattle.edge_rules.specs.Transfers.{transfers_to}
+use Rattle.edge_rules.proofs.Words.{[], not, sym, ◌∙◌, ap, All-permutation, IsPermutation-sym, node_of, IsReady, waits_at, transfers_to}
 use Rattle.edge_rules.proofs.EdgesFound.{holds, transfers-to_found}
 use Rattle.edge_rules.proofs.LocalRule.{later-none, later-permuted, none-there}
 use Rattle.edge_rules.proofs.graph.Graph.later_by_transfers.Goals as goal

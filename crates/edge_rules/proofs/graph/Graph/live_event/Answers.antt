@@ -1,7 +1,4 @@
-use Rattle.std.proofs.Common.{◌≡◌, Some, sym, ◌∙◌, ap, subst}
-use Rattle.mt_base.specs.declared.keys.Node.{Node}
-use Rattle.delay_model.specs.Events.{event_named, is_live}
-use Rattle.edge_rules.specs.GraphState.{GraphState}
+use Rattle.edge_rules.proofs.Words.{◌≡◌, Some, sym, ◌∙◌, ap, subst, Node, event_named, is_live, GraphState}
 use Rattle.edge_rules.proofs.Neighbours.{live-there, named-is}
 use Rattle.edge_rules.proofs.graph.Graph.live_event.Goals as goal
 

@@ -1,11 +1,4 @@
-use Rattle.std.proofs.Common.{unwrap_or, ◌∙◌, ap, subst, Some, ◌≡◌}
-use Rattle.std.specs.List.{fold}
-use Rattle.mt_base.specs.declared.keys.Node.{Node}
-use Rattle.mt_base.specs.Order.{node_of}
-use Rattle.delay_model.specs.Events.{event_named}
-use Rattle.delay_model.specs.Timing.{capped, later}
-use Rattle.train_nodes.specs.Reports.{report_after}
-use Rattle.edge_rules.specs.AtEvent.{edges_to, stored_time}
+use Rattle.edge_rules.proofs.Words.{unwrap_or, ◌∙◌, ap, subst, Some, ◌≡◌, fold, Node, node_of, event_named, capped, later, report_after, edges_to, stored_time}
 use Rattle.edge_rules.proofs.Neighbours.{named-there}
 use Rattle.edge_rules.proofs.LocalRule.{later-parts, ready-parts, rule-at}
 use Rattle.edge_rules.proofs.graph.Graph.local.Goals as goal

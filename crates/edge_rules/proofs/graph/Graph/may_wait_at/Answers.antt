@@ -1,6 +1,4 @@
-use Rattle.std.proofs.Common.{◌≡◌, sym, subst}
-use Rattle.delay_model.specs.Waits.{wait}
-use Rattle.edge_rules.specs.GraphState.{GraphState}
+use Rattle.edge_rules.proofs.Words.{◌≡◌, sym, subst, wait, GraphState}
 use Rattle.edge_rules.proofs.graph.Graph.may_wait_at.Goals as goal
 
 pub returns : goal.returns

@@ -1,9 +1,4 @@
-use Rattle.std.proofs.Common.{◌∙◌, ap}
-use Rattle.std.proofs.lemmas.List.Sorted.{IsPermutation-sym}
-use Rattle.mt_base.specs.Order.{node_of}
-use Rattle.delay_model.specs.Edges.{DifferInEnds}
-use Rattle.edge_rules.specs.AtEvent.{along_from}
-use Rattle.edge_rules.specs.GraphState.{GraphState}
+use Rattle.edge_rules.proofs.Words.{◌∙◌, ap, IsPermutation-sym, node_of, DifferInEnds, along_from, GraphState}
 use Rattle.edge_rules.proofs.EachOnce.{once-from, differ-turned}
 use Rattle.edge_rules.proofs.EdgesFound.{edges-from_found, holds}
 use Rattle.edge_rules.proofs.Reordered.{pairs-permuted}

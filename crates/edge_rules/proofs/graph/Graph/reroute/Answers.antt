@@ -1,5 +1,4 @@
-use Rattle.std.proofs.Common.{◌-◌, length, arith}
-use Rattle.edge_rules.specs.Inside.{network_of}
+use Rattle.edge_rules.proofs.Words.{◌-◌, length, arith, network_of}
 use Rattle.edge_rules.proofs.EventChanges.{out-of, reroute-change, reroute-exchange, reroute-next, reroute-there}
 use Rattle.edge_rules.proofs.InsideLemmas.{consistent-after}
 use Rattle.edge_rules.proofs.IndexChanges.{changed, out-there}

@@ -1,7 +1,6 @@
-use Rattle.std.proofs.Common.{refl}
+use Rattle.edge_rules.proofs.Words.{refl, network_of}
 use Rattle.delay_model.specs.Effect.{reported}
 use Rattle.state_laws.proofs.Values.{put_report}
-use Rattle.edge_rules.specs.Inside.{network_of}
 use Rattle.edge_rules.proofs.EventChanges.{set-kept}
 use Rattle.edge_rules.proofs.InsideLemmas.{consistent-after}
 use Rattle.edge_rules.proofs.StopsKept.{set-stops}

@@ -1,7 +1,4 @@
-use Rattle.std.proofs.Common.{◌≤◌, subst}
-use Rattle.std.specs.List.{All}
-use Rattle.mt_base.specs.declared.tables.RuleRow.{RuleRow}
-use Rattle.edge_rules.specs.GraphState.{GraphState}
+use Rattle.edge_rules.proofs.Words.{◌≤◌, subst, All, RuleRow, GraphState}
 use Rattle.edge_rules.proofs.ShortWaits.{to-short, from-short}
 use Rattle.edge_rules.proofs.graph.Graph.waits_are_short.Goals as goal
 

@@ -1,5 +1,5 @@
-use Rattle.std.proofs.Common.{[], flat_map, length, unwrap_or}
-use Rattle.edge_rules.specs.Found.{AreNames, AreWaitsAt, HaveEvents, of_name, planned_by, planned_with}
+use Rattle.edge_rules.proofs.Words.{[], flat_map, length, unwrap_or, AreNames, HaveEvents, of_name, planned_by, planned_with}
+use Rattle.edge_rules.specs.Found.{AreWaitsAt}
 use Rattle.edge_rules.proofs.Taken.{IsTaken}
 use Rattle.edge_rules.proofs.transfers.PlannedEdgesIterator.next.Given as goal
 

@@ -1,6 +1,5 @@
-use Rattle.std.proofs.Common.{◌≡◌, arith, ◌∙◌}
+use Rattle.station_index.proofs.Words.{◌≡◌, arith, ◌∙◌, All-permutation, IsPermutation-sym, length_permutation}
 use Rattle.std.proofs.lemmas.List.{length-replicate}
-use Rattle.std.proofs.lemmas.List.Sorted.{All-permutation, IsPermutation-sym, length_permutation}
 use Rattle.station_index.proofs.KeptLemmas.{kept-all}
 use Rattle.station_index.proofs.OrderLemmas.{AreInOrder-nil}
 use Rattle.station_index.proofs.index.StationIndex.build.Goals as goal

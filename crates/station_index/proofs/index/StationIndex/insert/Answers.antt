@@ -1,7 +1,4 @@
-use Rattle.std.proofs.Common.{◌≢◌, ◌-◌, arith, ap}
-use Rattle.std.proofs.lemmas.List.Sorted.{length_permutation}
-use Rattle.station_index.specs.Indexed.{Indexed, entry_at}
-use Rattle.station_index.specs.Merged.{kept, merged}
+use Rattle.station_index.proofs.Words.{◌≢◌, ◌-◌, arith, ap, length_permutation, Indexed, entry_at, kept, merged}
 use Rattle.station_index.proofs.OrderLemmas.{with-ascends, with-moves, absent-differs}
 use Rattle.station_index.proofs.MergeLemmas.{merged-with, merged-second}
 use Rattle.station_index.proofs.AddedLemmas.{with-added}

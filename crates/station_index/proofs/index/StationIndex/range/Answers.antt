@@ -1,8 +1,4 @@
-use Rattle.std.proofs.Common.{◌+◌, ◌-◌, ◌≡◌, ◌≤◌, arith, ap, sym, map, length, drop, ◌∙◌}
-use Rattle.std.proofs.lemmas.List.{length-drop, length-take-le}
-use Rattle.std.specs.List.{filter}
-use Rattle.station_index.specs.Indexed.{is_in_range}
-use Rattle.station_index.specs.Merged.{kept, merged}
+use Rattle.station_index.proofs.Words.{◌+◌, ◌-◌, ◌≡◌, ◌≤◌, arith, ap, sym, map, length, drop, ◌∙◌, length-drop, length-take-le, filter, is_in_range, kept, merged}
 use Rattle.station_index.proofs.OrderLemmas.{filter-ascends}
 use Rattle.station_index.proofs.MergeLemmas.{filter-merged}
 use Rattle.station_index.proofs.PlaceLemmas.{AreInOrder-drop, AreInOrder-take, range-kept}

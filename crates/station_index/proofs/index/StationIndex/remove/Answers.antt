@@ -1,10 +1,6 @@
-use Rattle.std.proofs.Common.{arith, not, ap, sym, ◌∙◌, ◌≡◌}
-use Rattle.mt_base.specs.declared.index_entries.Entry.{Entry}
-use Rattle.station_index.specs.Indexed.{Indexed, entry_at, is_same_entry, without_entry}
-use Rattle.station_index.specs.Merged.{kept, merged}
+use Rattle.station_index.proofs.Words.{arith, not, ap, sym, ◌∙◌, ◌≡◌, Entry, Indexed, entry_at, is_same_entry, without_entry, kept, merged, All-filter}
 use Rattle.station_index.proofs.OrderLemmas.{filter-ascends, filter-fewer}
 use Rattle.station_index.proofs.MergeLemmas.{filter-merged}
-use Rattle.std.proofs.lemmas.List.Elements.{All-filter}
 use Rattle.station_index.proofs.AddedLemmas.{IsEverAdded}
 use Rattle.station_index.proofs.index.StationIndex.remove.Goals as goal
 

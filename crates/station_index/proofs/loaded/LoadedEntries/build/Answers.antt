@@ -1,5 +1,4 @@
-use Rattle.std.proofs.lemmas.List.{length-map}
-use Rattle.station_index.specs.Slots.{event_in}
+use Rattle.station_index.proofs.Words.{length-map, event_in}
 use Rattle.station_index.proofs.SlotLemmas.{rebuilt-all}
 use Rattle.station_index.proofs.loaded.LoadedEntries.build.Goals as goal
 

@@ -1,10 +1,4 @@
-use Rattle.std.proofs.Common.{◌≡◌, ℕ, ◌+◌, List, length, arith, sym, ◌∙◌, subst}
-use Rattle.mt_base.specs.declared.index_entries.Entry.{Entry}
-use Rattle.station_index.specs.declared.loaded_event.LoadedEvent.{LoadedEvent}
-use Rattle.station_index.specs.Indexed.{is_in_range}
-use Rattle.station_index.specs.Places.{IsRangeAt}
-use Rattle.std.proofs.lemmas.List.Elements.{at_read}
-use Rattle.station_index.specs.Slots.{entry_of}
+use Rattle.station_index.proofs.Words.{◌≡◌, ℕ, ◌+◌, List, length, arith, sym, ◌∙◌, subst, Entry, LoadedEvent, is_in_range, IsRangeAt, at_read, entry_of}
 use Rattle.station_index.proofs.EntryLemmas.{IsBefore}
 use Rattle.station_index.proofs.FindLemmas.{find-none, find-some, found-ordered, not-true, not-false}
 use Rattle.station_index.proofs.loaded.LoadedEntries.find.Goals as goal

@@ -1,7 +1,5 @@
-use Rattle.std.proofs.Common.{rules, arith, ltb, leb, length, drop}
-use Rattle.std.proofs.lemmas.List.{length-take-le}
-use Rattle.std.proofs.lemmas.List.Sorted.{IsNonDecreasingBy-drop, IsPartitionPoint-from_clause, IsPartitionedBy-leb, IsPartitionedBy-ltb}
-use Rattle.std.proofs.lemmas.Slice.{between_to_end}
+use Rattle.station_index.proofs.Words.{rules, arith, ltb, leb, length, drop, length-take-le, IsPartitionPoint-from_clause, between_to_end}
+use Rattle.std.proofs.lemmas.List.Sorted.{IsNonDecreasingBy-drop, IsPartitionedBy-leb, IsPartitionedBy-ltb}
 use Rattle.station_index.proofs.PartLemmas.{events-found, range-found, times-rise}
 use Rattle.station_index.proofs.loaded.LoadedEntries.part.Goals as goal
 

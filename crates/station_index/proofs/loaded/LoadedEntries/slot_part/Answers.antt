@@ -1,4 +1,4 @@
-use Rattle.std.proofs.Common.{length, ◌∙◌}
+use Rattle.station_index.proofs.Words.{length, ◌∙◌}
 use Rattle.station_index.proofs.SlotLemmas.{length-rebuilt, part-is, slot-found}
 use Rattle.station_index.proofs.loaded.LoadedEntries.slot_part.Goals as goal
 

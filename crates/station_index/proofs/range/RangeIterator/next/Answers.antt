@@ -1,8 +1,4 @@
-use Rattle.std.proofs.Common.{arith, drop, length, map, sym, ◌∙◌, ap}
-use Rattle.std.proofs.lemmas.List.{length-map}
-use Rattle.station_index.specs.Merged.{comes_first}
-use Rattle.station_index.specs.Ranged.{loaded_left}
-use Rattle.station_index.specs.Slots.{entry_of}
+use Rattle.station_index.proofs.Words.{arith, drop, length, map, sym, ◌∙◌, ap, length-map, comes_first, loaded_left, entry_of}
 use Rattle.station_index.proofs.RangeLemmas.{Waits, added-later, added-step, front-from, later-flags, later-ordered, loaded-step, none-step, rest-flags, rest-map, rest-ordered, waits-none, waits-some}
 use Rattle.station_index.proofs.range.RangeIterator.next.Goals as goal
 use Rattle.station_index.proofs.range.RangeIterator.next.Goals.{in-Some+else-comes_first, in_default}

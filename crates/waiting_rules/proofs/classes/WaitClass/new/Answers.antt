@@ -1,5 +1,4 @@
-use Rattle.std.proofs.Common.{None, arith}
-use Rattle.waiting_rules.specs.Indexed.{is_in}
+use Rattle.waiting_rules.proofs.Words.{None, arith, is_in}
 use Rattle.waiting_rules.proofs.Firsts.{first-small}
 use Rattle.waiting_rules.proofs.classes.WaitClass.new.Goals as goal
 

@@ -1,6 +1,5 @@
-use Rattle.std.proofs.Common.{None, sym, ◌∙◌, ap, arith}
-use Rattle.waiting_rules.specs.Indexed.{is_in}
-use Rattle.waiting_rules.specs.WaitTable.{WaitsAt, station_in}
+use Rattle.waiting_rules.proofs.Words.{None, sym, ◌∙◌, ap, arith, is_in, station_in}
+use Rattle.waiting_rules.specs.WaitTable.{WaitsAt}
 use Rattle.waiting_rules.proofs.Firsts.{first-small}
 use Rattle.waiting_rules.proofs.FitLemmas.{first-fits}
 use Rattle.waiting_rules.proofs.WaitLemmas.{wait-first, wait-bound}

@@ -1,6 +1,4 @@
-use Rattle.std.proofs.Common.{sym, ◌∙◌, ap}
-use Rattle.waiting_rules.specs.Waiting.{flag_at}
-use Rattle.waiting_rules.specs.WaitTable.{WaitTable, some_waits}
+use Rattle.waiting_rules.proofs.Words.{sym, ◌∙◌, ap, flag_at, WaitTable, some_waits}
 use Rattle.waiting_rules.proofs.WaitLemmas.{wait-none}
 use Rattle.waiting_rules.proofs.waits.Waits.may_wait_at.Goals as goal
 
