@@ -45,3 +45,7 @@ stepped r m =
 -- the state after a message, which changes nothing if it is refused
 abbrev pub state_after : Network → State → Message → State
 state_after nw st m = if is_none (refusal nw st m) then effect st m else st
+
+-- the timetable after a message, which changes nothing if it is refused
+abbrev pub taken : TimetableState → Message → TimetableState
+taken r m = if is_none (refusal r.network r.state m) then stepped r m else r

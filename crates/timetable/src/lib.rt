@@ -13,6 +13,7 @@ mod lists;
 mod loading;
 mod marking;
 mod prepare;
+mod replay;
 mod scheduled;
 pub mod timetable;
 

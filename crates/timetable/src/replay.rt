@@ -1,0 +1,35 @@
+//! A timetable as a value that takes messages one after another, as the copies of a board do.
+
+ghost use Rattle.std.specs.Prelude.{◌≡◌, ◌<◌};
+ghost use Rattle.timetable.specs.TimetableState.{taken};
+
+use crate::timetable::Timetable;
+use snapshot_board::Replay;
+use std::marker::Brand;
+use std::sync::ledger::{Blank, Ledger};
+use train_nodes::{Msg, Steps};
+
+/// Takes a message. A refused one changes nothing. The steps that it counts are not used.
+fn take<L: Ledger>(timetable: &mut Timetable, m: &Msg, blank: Blank)
+    requires name { blank.name ≡ L.name }
+    requires parts { blank.parts ≡ L.parts }
+    requires some { 0 < blank.parts }
+    ensures { timetable.new ≡ taken timetable.old m.now }
+{
+    let mut steps = Steps::<L>::open(blank);
+    let _ = timetable.step(m, &mut steps);
+}
+
+impl Replay for Timetable {
+    type Msg = Msg;
+
+    type State = Timetable;
+
+    ghost meaning = { λ t. t };
+
+    ghost after = { taken };
+
+    fn step(&mut self, m: &Msg) {
+        take::<Brand>(self, m, Blank::new(1))
+    }
+}
