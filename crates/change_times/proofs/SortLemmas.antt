@@ -1,5 +1,5 @@
 -- Lists in the order of a number: the part of one number, and what a stable sort keeps.
-use Rattle.change_times.proofs.Words.{rules, ◌≡◌, ℕ, suc, zero, ◌-◌, ◌<◌, ◌≤◌, List, [], ◌∷◌, true, false, cond, nat_eq, None, Some, find, length, get_or, take, drop, refl, sym, ◌∙◌, ap, arith, inl, inr, ltb, leb, cases_lt, ltb-false, ltb-true, slice_get, if◌then◌else◌, filter, IsPartitionPoint, IsNonDecreasingBy, part-is}
+use Rattle.change_times.proofs.Words.{◌≡◌, ℕ, suc, zero, ◌-◌, ◌<◌, ◌≤◌, List, [], ◌∷◌, true, false, cond, nat_eq, None, Some, find, length, get_or, take, drop, refl, sym, ◌∙◌, ap, arith, inl, inr, ltb, leb, cases_lt, ltb-false, ltb-true, slice_get, if◌then◌else◌, filter, IsPartitionPoint, IsNonDecreasingBy, part-is}
 use Rattle.std.proofs.lemmas.Bool.{leb-true, leb-false}
 use Rattle.change_times.specs.Stored.{of_number}
 use Rattle.feed_tables.proofs.OrderLemmas.{eq-same, eq-less, eq-more}

@@ -1,6 +1,6 @@
 -- Lists in the order of a number of each element: what a stable sort by the number gives, and what the order keeps.
-use Rattle.std.proofs.Common.{rules, ◌≡◌, ℕ, suc, ◌<◌, ◌≤◌, List, [], ◌∷◌, Bool, true, false, nat_eq, nat_le, cond, All, length, get_or, refl, sym, ◌∙◌, ap, subst, arith, inl, inr}
-use Rattle.std.proofs.lemmas.Bool.{cases_Bool, cases_lt, cases_order, cond_both}
+use Rattle.std.proofs.Common.{rules, ◌≡◌, ℕ, suc, ◌<◌, ◌≤◌, List, [], ◌∷◌, Bool, true, false, nat_eq, nat_le, cond, All, length, get_or, refl, sym, ◌∙◌, ap, arith, inl, inr}
+use Rattle.std.proofs.lemmas.Bool.{cases_lt, cases_order, cond_both}
 use Rattle.std.proofs.lemmas.List.Elements.{All-cons, All-head, All-tail, filter_agree}
 use Rattle.std.specs.List.{filter}
 use Rattle.std.specs.List.Sorted.{ties, IsNonDecreasingBy}
@@ -50,11 +50,7 @@ put-after key x y ys l = search rules
 
 put-rises : {X : Type 0} (key : X → ℕ) (low : ℕ) (x : X) (ys : List X) → low ≤ key x → Rises key low ys → Rises key low (put key x ys)
 put-rises key low x [] l h = (l, tt)
-put-rises key low x (y ∷ ys) l h =
-    elim (cases_lt (key y) (key x)) [
-      | inl k ↦ subst (Rises key low) (sym (put-after key x y ys k)) (h.0, put-rises key (key y) x ys (omega arith) h.1)
-      | inr k ↦ subst (Rises key low) (sym (put-before key x y ys k)) (l, (k, h.1))
-    ]
+put-rises key low x (y ∷ ys) l h = grind (arith, put-rises key (key y) x ys)
 
 pub in_order-rises : {X : Type 0} (key : X → ℕ) (xs : List X) → Rises key 0 (in_order key xs)
 in_order-rises key [] = tt
@@ -73,8 +69,7 @@ in_order-all P key (x ∷ xs) h =
 
 put-length : {X : Type 0} (key : X → ℕ) (x : X) (xs : List X) → length (put key x xs) ≡ suc (length xs)
 put-length key x [] = refl
-put-length key x (y ∷ ys) =
-    cond_both (nat_le (key x) (key y)) (x ∷ y ∷ ys) (y ∷ put key x ys) (λ zs. length zs ≡ suc (suc (length ys))) (λ _. refl) (λ _. ap suc (put-length key x ys))
+put-length key x (y ∷ ys) = grind (arith, put-length key x ys)
 
 -- there are as many elements in their order
 pub in_order-length : {X : Type 0} (key : X → ℕ) (xs : List X) → length (in_order key xs) ≡ length xs
@@ -89,80 +84,41 @@ filter-without p x xs e = ap (λ b. cond b (x ∷ filter p xs) (filter p xs)) e
 
 -- elements of other numbers change places
 filter-swap : {X : Type 0} (key : X → ℕ) (z x y : X) (ys : List X) → key y < key x → filter (tie key z) (y ∷ x ∷ ys) ≡ filter (tie key z) (x ∷ y ∷ ys)
-filter-swap key z x y ys l =
-    elim (cases_lt (key z) (key x)) [
-      | inl k ↦
-          ap (λ b. cond (tie key z y) (y ∷ cond b (x ∷ filter (tie key z) ys) (filter (tie key z) ys)) (cond b (x ∷ filter (tie key z) ys) (filter (tie key z) ys))) (tie-less key z x k)
-          ∙ sym (ap (λ b. cond b (x ∷ filter (tie key z) (y ∷ ys)) (filter (tie key z) (y ∷ ys))) (tie-less key z x k))
-      | inr k ↦
-          filter-without (tie key z) y (x ∷ ys) (tie-more key z y (omega arith))
-          ∙ ap (λ r. cond (tie key z x) (x ∷ r) r) (sym (filter-without (tie key z) y ys (tie-more key z y (omega arith))))
-    ]
+filter-swap key z x y ys l = grind (arith, tie-less key z x, tie-more key z y)
 
 put-filter : {X : Type 0} (key : X → ℕ) (z x : X) (ys : List X) → filter (tie key z) (put key x ys) ≡ filter (tie key z) (x ∷ ys)
 put-filter key z x [] = refl
 put-filter key z x (y ∷ ys) =
     elim (cases_lt (key y) (key x)) [
-      | inl k ↦
-          ap (filter (tie key z)) (put-after key x y ys k)
-          ∙ ap (λ r. cond (tie key z y) (y ∷ r) r) (put-filter key z x ys)
-          ∙ filter-swap key z x y ys k
+      | inl k ↦ rw (put-after key x y ys k) (grind (arith, put-filter key z x ys, filter-swap key z x y ys k))
       | inr k ↦ ap (filter (tie key z)) (put-before key x y ys k)
     ]
 
 pub in_order-filter : {X : Type 0} (key : X → ℕ) (z : X) (xs : List X) → filter (tie key z) (in_order key xs) ≡ filter (tie key z) xs
 in_order-filter key z [] = refl
-in_order-filter key z (x ∷ xs) =
-    put-filter key z x (in_order key xs) ∙ ap (λ r. cond (tie key z x) (x ∷ r) r) (in_order-filter key z xs)
+in_order-filter key z (x ∷ xs) = grind (arith, put-filter key z x (in_order key xs), in_order-filter key z xs)
 
 -- no element has a number below the first
 none-below : {X : Type 0} (key : X → ℕ) (z : X) (low : ℕ) (ys : List X) → key z < low → Rises key low ys → filter (tie key z) ys ≡ []
 none-below key z low [] l h = refl
-none-below key z low (y ∷ ys) l h =
-    filter-without (tie key z) y ys (tie-less key z y (omega (arith, h.0))) ∙ none-below key z (key y) ys (omega (arith, h.0)) h.1
-
-head-eq : {X : Type 0} (x y : X) (xs ys : List X) → x ∷ xs ≡ y ∷ ys → x ≡ y
-head-eq x y xs ys e = ap (λ zs. get_or zs 0 x) e
-
-rest : {X : Type 0} → List X → List X
-rest [] = []
-rest (x ∷ xs) = xs
+none-below key z low (y ∷ ys) l h = grind (arith, tie-less key z y, none-below key z (key y) ys)
 
 tail-same : {X : Type 0} (key : X → ℕ) (z x y : X) (xs ys : List X) → x ≡ y → filter (tie key z) (x ∷ xs) ≡ filter (tie key z) (y ∷ ys) → filter (tie key z) xs ≡ filter (tie key z) ys
-unfolding rest
-tail-same key z x y xs ys e same =
-    elim (cases_Bool (tie key z x)) [
-      | inl t ↦
-          ap rest (sym (filter-with (tie key z) x xs t) ∙ same ∙ filter-with (tie key z) y ys (sym (ap (tie key z) e) ∙ t))
-      | inr f ↦
-          sym (filter-without (tie key z) x xs f) ∙ same ∙ filter-without (tie key z) y ys (sym (ap (tie key z) e) ∙ f)
-    ]
+tail-same key z x y xs ys e same = grind arith
 
 -- lists that rise, and that have the same elements of each number in the same order, are one list
 pub one-list : {X : Type 0} (key : X → ℕ) (low low' : ℕ) (xs ys : List X) → Rises key low xs → Rises key low' ys → ((z : X) → filter (tie key z) xs ≡ filter (tie key z) ys) → xs ≡ ys
 one-list key low low' [] [] h k same = refl
-one-list key low low' [] (y ∷ ys) h k same =
-    let e = ap length (same y ∙ filter-with (tie key y) y ys (tie-same key y y refl)) in
-    absurd (omega (arith, e))
-one-list key low low' (x ∷ xs) [] h k same =
-    let e = ap length (sym (same x) ∙ filter-with (tie key x) x xs (tie-same key x x refl)) in
-    absurd (omega (arith, e))
+one-list key low low' [] (y ∷ ys) h k same = grind (arith, same y, tie-same key y y refl)
+one-list key low low' (x ∷ xs) [] h k same = grind (arith, same x, tie-same key x x refl)
 one-list key low low' (x ∷ xs) (y ∷ ys) h k same =
     elim (cases_order (key x) (key y)) [
       | inl e ↦
-          let heads = sym (filter-with (tie key x) x xs (tie-same key x x refl)) ∙ same x ∙ filter-with (tie key x) y ys (tie-same key x y e) in
-          let one = head-eq x y (filter (tie key x) xs) (filter (tie key x) ys) heads in
+          let one : x ≡ y = grind (arith, same x, tie-same key x x refl, tie-same key x y e) in
           let tails : (z : _) → filter (tie key z) xs ≡ filter (tie key z) ys = λ z. tail-same key z x y xs ys one (same z) in
           ap (λ w. w ∷ xs) one ∙ ap (λ zs. y ∷ zs) (one-list key (key x) (key y) xs ys h.1 k.1 tails)
       | inr o ↦
-          elim o [
-            | inl l ↦
-                let e = ap length (sym (filter-with (tie key x) x xs (tie-same key x x refl)) ∙ same x ∙ none-below key x (key y) (y ∷ ys) l (omega arith, k.1)) in
-                absurd (omega (arith, e))
-            | inr l ↦
-                let e = ap length (sym (filter-with (tie key y) y ys (tie-same key y y refl)) ∙ sym (same y) ∙ none-below key y (key x) (x ∷ xs) l (omega arith, h.1)) in
-                absurd (omega (arith, e))
-          ]
+          grind (arith, same x, same y, tie-same key x x refl, tie-same key y y refl, none-below key x (key y) (y ∷ ys), none-below key y (key x) (x ∷ xs))
     ]
 
 rising-put : {X : Type 0} (key : X → ℕ) (x : X) (xs : List X) → Rises key (key x) xs → put key x xs ≡ x ∷ xs
