@@ -7,7 +7,7 @@ ghost use Rattle.mt_base.specs.Options.{IsInRange};
 ghost use Rattle.command_words.specs.Held.{asked_view};
 ghost use Rattle.command_words.specs.Times.{times_app};
 ghost use Rattle.command_words.specs.Words.{asked_of, values_ask};
-ghost use Rattle.command_words.specs.declared.words.WordsFault.TheVariants.{Memory};
+ghost use Rattle.command_words.specs.declared.words.WordsFault.TheVariants.{OutOfMemory};
 
 use crate::command::times_command;
 use crate::values::{first_date, number_within, options, value};
@@ -42,14 +42,14 @@ pub enum WordsFault {
     Usage,
 
     /// There was no memory.
-    Memory,
+    OutOfMemory,
 }
 
 impl From<AllocError> for WordsFault {
-    ghost from_gives = { λ _ e. e ≡ Memory };
+    ghost from_gives = { λ _ e. e ≡ OutOfMemory };
 
     fn from(_: AllocError) -> WordsFault {
-        WordsFault::Memory
+        WordsFault::OutOfMemory
     }
 }
 
@@ -64,7 +64,7 @@ fn times_matches<'a>(alloc: Global, words: &'a [String]) -> Result<ArgMatches<'a
     match command.try_get_matches_from(words) {
         Ok(matches) => Ok(matches),
         Err(error) => match error.kind() {
-            ErrorKind::OutOfMemory => Err(WordsFault::Memory),
+            ErrorKind::OutOfMemory => Err(WordsFault::OutOfMemory),
             _ => Err(WordsFault::Usage),
         },
     }
@@ -89,7 +89,7 @@ fn values_ask<'a>(given: &ArgMatches<'a>) -> Option<Asked<'a>>
 
 /// What the words after the program's name ask for, of which the first is the command. `Usage` only
 /// where they ask for nothing that the program does, and then always, unless there is no memory;
-/// `Memory` where there is no memory.
+/// `OutOfMemory` where there is no memory.
 #[tactic(auto, unfolding(crate::specs::Words::asked_of))]
 pub fn read_words<'a>(alloc: Global, words: &'a [String]) -> Result<Asked<'a>, WordsFault>
     // what is asked for, and when an error comes

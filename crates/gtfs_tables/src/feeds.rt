@@ -152,7 +152,10 @@ fn read_calendar_in<F: Feed>(
     folder: &str,
     services: &mut Numbering,
 ) -> Result<(Rows<CalendarRow>, bool), FeedError>
+    // the services that are numbered so far
     requires { IsNumbered services.old }
+
+    // the rows, and whether the table is absent
     ensures made { (files : List ℕ → List ℕ → Option (List ℕ)) → F.tables feed.old ≡ Some files
         → Gives (λ r. record { services = names_of services.new; rows = r.0 }) result
         (calendar_in (contents_of files folder.now) (names_of services.old)) }
@@ -163,6 +166,8 @@ fn read_calendar_in<F: Feed>(
         × (calendar_in contents (names_of services.old)
         ≡ Ok (record { services = names_of services.new; rows = r.0 }))
         × (is_absent (contents tables.Calendar) ≡ r.1)) }
+
+    // what becomes of the feed
     ensures failed { IsErrOf result FeedError.ReadFault
         → Rose (F.faults feed.old) (F.faults feed.new) }
     ensures later { F.faults feed.old ≤ F.faults feed.new }

@@ -15,7 +15,7 @@ use Rattle.mt_io.proofs.Gives.{consumes_none}
 use Rattle.mt_io.proofs.Runs.{ends}
 use Rattle.schedule_build.specs.Directory.{Names}
 use Rattle.information_service.specs.declared.fault.LinesFault.{LinesFault}
-use Rattle.information_service.specs.declared.fault.LinesFault.TheVariants.{ReadFault, WriteFault, Memory, TooLong}
+use Rattle.information_service.specs.declared.fault.LinesFault.TheVariants.{ReadFault, WriteFault, OutOfMemory, TooLong}
 use Rattle.information_service.specs.Causes.{WhereLinesStop}
 use Rattle.information_service.specs.Fronts.{AreAnswered, AppendsReplies}
 use Rattle.information_service.specs.Output.{IsOutput}
@@ -55,5 +55,5 @@ handed_on (Err e) f Q is q = subst Q (sym is) q
 pub where_also : (T U : Type 0) (f : LinesFault) → (T → U) → WhereLinesStop T f → WhereLinesStop U f
 where_also T U ReadFault h t = h t
 where_also T U WriteFault h t = tt
-where_also T U Memory h t = tt
+where_also T U OutOfMemory h t = tt
 where_also T U TooLong h t = h t

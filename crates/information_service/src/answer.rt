@@ -90,11 +90,16 @@ fn reply_to_message<L: Ledger>(
     message: &Msg,
     blank: Blank,
 ) -> Result<Reply, OutOfMemory>
+    // the message that the line says, and room to count it
     requires resolved { resolved service.old.names wire.now ≡ Ok message.now }
     requires count { service.old.count < 2 ^ 64 - 1 }
+
+    // the blank has the name and the parts of the ledger
     requires name { blank.name ≡ L.name }
     requires parts { blank.parts ≡ L.parts }
     requires some { 0 < blank.parts }
+
+    // the reply, and the service after it; nothing changes where there is no memory
     ensures reply { IfOk result (λ r. r ≡ reply_to_message service.old.network service.old.names
         service.old.state service.old.count number wire.now (Ok message.now)) }
     ensures next { OnOk result (service.new ≡ after_message service.old wire.now

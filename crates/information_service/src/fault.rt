@@ -1,6 +1,6 @@
 //! Why answering lines stops before the end of the input.
 
-use mt_base::memory::OutOfMemory;
+use std::alloc::AllocError;
 use mt_io::Failed;
 
 /// Why answering lines, or writing the table, stops before its end.
@@ -11,19 +11,19 @@ pub enum LinesFault {
     /// A write of the output failed.
     WriteFault,
     /// There was no memory.
-    Memory,
+    OutOfMemory,
     /// As many bytes of the input as may be were taken, and no end was read.
     TooLong,
 }
 
-impl From<OutOfMemory> for LinesFault {
+impl From<AllocError> for LinesFault {
     ghost use Rattle.std.specs.Prelude.{◌≡◌};
-    ghost use Rattle.information_service.specs.declared.fault.LinesFault.TheVariants.{Memory};
+    ghost use Rattle.information_service.specs.declared.fault.LinesFault.TheVariants.{OutOfMemory};
 
-    ghost from_gives = { λ _ e. e ≡ Memory };
+    ghost from_gives = { λ _ e. e ≡ OutOfMemory };
 
-    fn from(_want: OutOfMemory) -> LinesFault {
-        LinesFault::Memory
+    fn from(_want: AllocError) -> LinesFault {
+        LinesFault::OutOfMemory
     }
 }
 

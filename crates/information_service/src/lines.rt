@@ -41,8 +41,8 @@ fn write_reply<K: Sink>(
 /// Answers each line of the input, from line 1 on, and writes its reply before the next line is
 /// read, until the input is at its end: for a new reader, and a service that has accepted no
 /// message. It fails with `ReadFault` or `TooLong` where the reader does, when all lines before are
-/// answered, with `WriteFault` where a write of the output failed, and with `Memory` where there was
-/// none, or behind line 2^64 - 2; then the last line may have no reply, or a part of one.
+/// answered, with `WriteFault` where a write of the output failed, and with `OutOfMemory` where
+/// there was none, or behind line 2^64 - 2; then the last line may have no reply, or a part of one.
 pub(crate) fn answer_lines<S: Source, K: Sink>(
     alloc: Global,
     service: &mut InformationService,
@@ -50,8 +50,11 @@ pub(crate) fn answer_lines<S: Source, K: Sink>(
     input: &mut S,
     out: &mut K,
 ) -> Result<(), LinesFault>
+    // a new reader, and no message accepted
     requires reader { reader.old ≡ fresh reader.old.budget }
     requires count { service.old.count ≡ 0 }
+
+    // what is answered at the end, or where it stops
     ensures all { OnOk result ((bytes : List ℕ) × (lines : List Line) × IsDone reader.new
         × AreAnswered service.old service.new reader.new (S.left input.old) (S.left input.new)
         (K.written out.old) (K.written out.new) bytes lines) }
@@ -62,6 +65,8 @@ pub(crate) fn answer_lines<S: Source, K: Sink>(
     ensures begun { IfErr result (λ f. (bytes : List ℕ) × (lines : List Line)
         × Begun service.old reader.new (S.left input.old) (S.left input.new) (K.written out.old)
         (K.written out.new) bytes lines) }
+
+    // faults have causes, and their counts do not fall
     ensures fault { IfErr result (HasLinesFaultCause
         (Rose (S.faults input.old) (S.faults input.new))
         (Rose (K.faults out.old) (K.faults out.new))
@@ -82,5 +87,5 @@ pub(crate) fn answer_lines<S: Source, K: Sink>(
         };
         write_reply(alloc, &service.directory, out, &reply)?;
     }
-    Err(LinesFault::Memory)
+    Err(LinesFault::OutOfMemory)
 }

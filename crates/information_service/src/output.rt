@@ -15,11 +15,11 @@ use mt_io::{LineReader, Sink, Source};
 use std::alloc::Global;
 
 /// Answers each line of the input at once, and at its end writes the table of all times: for a
-/// service that has accepted no message. It fails with `ReadFault` where a read of the input failed,
-/// and with `TooLong` where `budget` bytes of it were taken and no end was read; then the lines that
-/// are whole among the bytes taken are answered. It fails with `WriteFault` where a write of the
-/// output failed, and with `Memory` where there was none, or behind line 2^64 - 2; then a front of
-/// an output is written.
+/// service that has accepted no message. It fails with `ReadFault` where a read of the input
+/// failed, and with `TooLong` where `budget` bytes of it were taken and no end was read; then the
+/// lines that are whole among the bytes taken are answered. It fails with `WriteFault` where a
+/// write of the output failed, and with `OutOfMemory` where there was none, or behind line
+/// 2^64 - 2; then a front of an output is written.
 pub fn write_output<S: Source, K: Sink>(
     alloc: Global,
     service: &mut InformationService,

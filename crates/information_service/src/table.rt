@@ -15,8 +15,8 @@ use mt_io::{Sink, put};
 use std::alloc::Global;
 
 /// Writes the table of all times: its header, and the rows of each train in the order of their
-/// numbers. It fails with `WriteFault` where the output failed, or with `Memory`; then a part of
-/// the table may be written.
+/// numbers. It fails with `WriteFault` where the output failed, or with `OutOfMemory`; then a part
+/// of the table may be written.
 pub(crate) fn write_table<K: Sink>(
     alloc: Global,
     service: &InformationService,

@@ -16,7 +16,7 @@ pub stopped_lines : (run : Result (Unit {0}) Fault) (T : Type 0) (f : LinesFault
     → (run ≡ Err faults.ReadFault) ⊎ (run ≡ Err faults.TooLong) → T
 stopped_lines run T lines.ReadFault is t stop = t
 stopped_lines run T lines.WriteFault is t stop = grind arith
-stopped_lines run T lines.Memory is t stop = grind arith
+stopped_lines run T lines.OutOfMemory is t stop = grind arith
 stopped_lines run T lines.TooLong is t stop = t
 
 -- a fault of the lines has its cause in the run
@@ -24,5 +24,5 @@ pub cause_of_lines : (usage : Type 0) (refused : FeedRefusal → Type 0) (read w
     → HasFaultCause usage refused all_reads write long (lines_fault f)
 cause_of_lines usage refused read write long all_reads lines.ReadFault reads c = reads c
 cause_of_lines usage refused read write long all_reads lines.WriteFault reads c = c
-cause_of_lines usage refused read write long all_reads lines.Memory reads c = tt
+cause_of_lines usage refused read write long all_reads lines.OutOfMemory reads c = tt
 cause_of_lines usage refused read write long all_reads lines.TooLong reads c = c

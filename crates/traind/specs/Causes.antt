@@ -1,7 +1,7 @@
 -- Why a run stops before its end.
 use Rattle.gtfs_tables.specs.declared.refusals.FeedRefusal.{FeedRefusal}
 use Rattle.traind.specs.declared.status.Fault.{Fault}
-use Rattle.traind.specs.declared.status.Fault.TheVariants.{Usage, FeedRefused, ReadFault, WriteFault, Memory, TooLong}
+use Rattle.traind.specs.declared.status.Fault.TheVariants.{Usage, FeedRefused, ReadFault, WriteFault, OutOfMemory, TooLong}
 
 -- A fault has its cause: one for words that ask for nothing, one for each refusal of a feed, one
 -- for a failed read, one for a failed write, one for an input that is too long. Want of memory has
@@ -12,5 +12,5 @@ HasFaultCause usage refused read write long Usage = usage
 HasFaultCause usage refused read write long (FeedRefused why) = refused why
 HasFaultCause usage refused read write long ReadFault = read
 HasFaultCause usage refused read write long WriteFault = write
-HasFaultCause usage refused read write long Memory = Unit {0}
+HasFaultCause usage refused read write long OutOfMemory = Unit {0}
 HasFaultCause usage refused read write long TooLong = long

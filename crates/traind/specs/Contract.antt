@@ -11,7 +11,7 @@ use Rattle.traind.specs.Feeds.{Told}
 use Rattle.traind.specs.Runs.{CanEnd, IsRefused, Output, WritesAll, WritesFront, WritesReplies}
 use Rattle.traind.specs.Statuses.{error_line, refusal_line}
 use Rattle.traind.specs.declared.status.Status.{Status}
-use Rattle.traind.specs.declared.status.Status.TheVariants.{Ok, Usage, FeedRefused, ReadFault, WriteFault, Memory, TooLong}
+use Rattle.traind.specs.declared.status.Status.TheVariants.{Ok, Usage, FeedRefused, ReadFault, WriteFault, OutOfMemory, TooLong}
 
 -- how many bytes of the input the program takes, if it finds no end before
 abbrev pub byte_budget : ℕ
@@ -66,7 +66,7 @@ pub record MeetsContract {F S K : Type 0} (output : Asked → Output) (budget : 
   -- the status for words that ask for nothing comes for such words alone
   pub usage : status ≡ Usage → asked_of words ≡ None
   -- and for all of them, unless there is no memory
-  pub usage_exactly : asked_of words ≡ None → (status ≡ Usage) ⊎ (status ≡ Memory)
+  pub usage_exactly : asked_of words ≡ None → (status ≡ Usage) ⊎ (status ≡ OutOfMemory)
   -- such words touch nothing
   pub usage_untouched : asked_of words ≡ None → (feed_new ≡ feed_old)
       × (input_new ≡ input_old) × (out_new ≡ out_old)
@@ -79,7 +79,7 @@ pub record MeetsContract {F S K : Type 0} (output : Asked → Output) (budget : 
       × Tells err (refusal_line why)
   -- a feed that is to be refused is refused, unless a read of it fails or there is no memory
   pub refused_exactly : (why : FeedRefusal) → IsRefused words feed.tables why
-      → (status ≡ FeedRefused) ⊎ (status ≡ Memory)
+      → (status ≡ FeedRefused) ⊎ (status ≡ OutOfMemory)
       ⊎ ((status ≡ ReadFault) × Rose feed.faults feed.faults_after)
   -- where a feed is refused, nothing was read from the input or written to the output
   pub untouched : status ≡ FeedRefused → (input_new ≡ input_old) × (out_new ≡ out_old)
@@ -113,6 +113,6 @@ pub record MeetsContract {F S K : Type 0} (output : Asked → Output) (budget : 
   -- and no fault: all goes well, unless there is no memory
   pub complete : CanEnd words feed.tables input.bytes budget
       → ¬ (Rose feed.faults feed.faults_after) → ¬ (Rose input.faults input.faults_after)
-      → ¬ (Rose out.faults out.faults_after) → (status ≡ Ok) ⊎ (status ≡ Memory)
+      → ¬ (Rose out.faults out.faults_after) → (status ≡ Ok) ⊎ (status ≡ OutOfMemory)
   -- the error stream has the line of the status
   pub error_line : status ≢ FeedRefused → Tells err (error_line status)

@@ -14,7 +14,7 @@ use Rattle.command_words.specs.declared.words.WordsFault.TheVariants as words
 use Rattle.information_service.specs.declared.fault.LinesFault.{LinesFault}
 use Rattle.information_service.specs.declared.fault.LinesFault.TheVariants as lines
 use Rattle.traind.specs.declared.status.Status.{Status}
-use Rattle.traind.specs.declared.status.Status.TheVariants.{Ok, Usage, FeedRefused, ReadFault, WriteFault, Memory, TooLong}
+use Rattle.traind.specs.declared.status.Status.TheVariants.{Ok, Usage, FeedRefused, ReadFault, WriteFault, OutOfMemory, TooLong}
 use Rattle.traind.specs.declared.status.Fault.{Fault}
 use Rattle.traind.specs.declared.status.Fault.TheVariants as faults
 
@@ -24,7 +24,7 @@ number_of Usage = 2
 number_of FeedRefused = 3
 number_of ReadFault = 4
 number_of WriteFault = 5
-number_of Memory = 6
+number_of OutOfMemory = 6
 number_of TooLong = 7
 
 -- the line of a status: none where all went well. That of a refused feed says why, and stands below
@@ -34,7 +34,7 @@ error_line Usage = codes "traind: usage: traind times FEED --from DATE\n"
 error_line FeedRefused = []
 error_line ReadFault = codes "traind: read fault\n"
 error_line WriteFault = codes "traind: write fault\n"
-error_line Memory = codes "traind: out of memory\n"
+error_line OutOfMemory = codes "traind: out of memory\n"
 error_line TooLong = codes "traind: input too long\n"
 
 -- the words for what is wrong with a row
@@ -81,23 +81,23 @@ status_of (Stopped faults.Usage) = Usage
 status_of (Stopped (faults.FeedRefused why)) = FeedRefused
 status_of (Stopped faults.ReadFault) = ReadFault
 status_of (Stopped faults.WriteFault) = WriteFault
-status_of (Stopped faults.Memory) = Memory
+status_of (Stopped faults.OutOfMemory) = OutOfMemory
 status_of (Stopped faults.TooLong) = TooLong
 
 -- why a run stops, where the words are not read
 abbrev pub words_fault : WordsFault → Fault
 words_fault words.Usage = faults.Usage
-words_fault words.Memory = faults.Memory
+words_fault words.OutOfMemory = faults.OutOfMemory
 
 -- and where the feed is not
 abbrev pub feed_fault : FeedError → Fault
 feed_fault (feeds.Refused why) = faults.FeedRefused why
 feed_fault feeds.ReadFault = faults.ReadFault
-feed_fault feeds.OutOfMemory = faults.Memory
+feed_fault feeds.OutOfMemory = faults.OutOfMemory
 
 -- and where answering the lines stops
 abbrev pub lines_fault : LinesFault → Fault
 lines_fault lines.ReadFault = faults.ReadFault
 lines_fault lines.WriteFault = faults.WriteFault
-lines_fault lines.Memory = faults.Memory
+lines_fault lines.OutOfMemory = faults.OutOfMemory
 lines_fault lines.TooLong = faults.TooLong

@@ -24,16 +24,21 @@ pub(crate) fn load<F: Feed>(
     asked: &Asked<'_>,
     feed: &mut F,
 ) -> Result<InformationService, FeedError>
+    // what words that were read ask for
     requires civil { IsCivil asked.now.first }
     requires year { asked.now.first < 21010000 }
     requires days { (1 ≤ asked.now.days) × (asked.now.days ≤ 31) }
     requires options { IsInRange asked.now.opts }
+
+    // the timetable that the feed holds, or why it is refused
     ensures exact { (told : Told) → F.tables feed.old ≡ Some told
         → Gives (λ s. (s.state, s.names)) result (asked_in told (asked_view asked.now)) }
     ensures network { IfOk result (λ s. (told : Told) (rows : ATables) → F.tables feed.old
         ≡ Some told → tables_in told (asked_view asked.now) ≡ Ok rows
         → IsSame (network rows asked.now.opts) s.network) }
     ensures new { IfOk result (λ s. s.count ≡ 0) }
+
+    // a read fault comes where a read failed
     ensures failed { IsErrOf result FeedError.ReadFault
         → Rose (F.faults feed.old) (F.faults feed.new) }
     ensures later { F.faults feed.old ≤ F.faults feed.new }

@@ -27,7 +27,7 @@ fn given_words(rt: &HostRuntime) -> io::Result<Vec<String>> {
 /// The status where the words could not be taken: they are no text, or there was no memory.
 fn status_without_words(error: &io::Error) -> Status {
     if error.kind() == ErrorKind::OutOfMemory {
-        Status::Memory
+        Status::OutOfMemory
     } else {
         Status::Usage
     }
@@ -44,8 +44,8 @@ fn main(rt: HostRuntime) -> ExitCode {
         }
     };
     let Ok(files) = rt.clone() else {
-        let _ = put(&mut err, Status::Memory.error_line());
-        return ExitCode::from(Status::Memory.number());
+        let _ = put(&mut err, Status::OutOfMemory.error_line());
+        return ExitCode::from(Status::OutOfMemory.number());
     };
     let mut feed = FolderFeed::build(files, rt.alloc());
     let mut input = StdSource::build(rt.stdin());

@@ -33,19 +33,26 @@ fn run_words<F: Feed, S: Source, K: Sink>(
     out: &mut K,
     budget: u64,
 ) -> Result<(), Fault>
+    // all went well
     ensures ok { OnOk result (WritesAll times_output (map string_bytes words.now)
         (F.tables feed.old) (S.left input.old) (K.written out.old) (K.written out.new)) }
     ensures ended { OnOk result (IsAtEnd (S.left input.new)) }
+
+    // words that ask for nothing
     ensures no_words { asked_of (map string_bytes words.now) ≡ None
-        → (result ≡ Err faults.Usage) ⊎ (result ≡ Err faults.Memory) }
+        → (result ≡ Err faults.Usage) ⊎ (result ≡ Err faults.OutOfMemory) }
     ensures usage_untouched { asked_of (map string_bytes words.now) ≡ None → (feed.new ≡ feed.old)
         × (input.new ≡ input.old) × (out.new ≡ out.old) }
+
+    // a feed that is to be refused
     ensures refused { (why : FeedRefusal) → IsRefused (map string_bytes words.now)
         (F.tables feed.old) why
-        → (result ≡ Err (faults.FeedRefused why)) ⊎ (result ≡ Err faults.Memory) ⊎
+        → (result ≡ Err (faults.FeedRefused why)) ⊎ (result ≡ Err faults.OutOfMemory) ⊎
         ((result ≡ Err faults.ReadFault) × Rose (F.faults feed.old) (F.faults feed.new)) }
     ensures refused_untouched { (why : FeedRefusal) → IsRefused (map string_bytes words.now)
         (F.tables feed.old) why → (input.new ≡ input.old) × (out.new ≡ out.old) }
+
+    // why the run stops, and what is written then
     ensures fault { IfErr result (HasFaultCause
         ((asked_of (map string_bytes words.now) ≡ None) × (feed.new ≡ feed.old)
         × (input.new ≡ input.old) × (out.new ≡ out.old))
@@ -71,7 +78,7 @@ fn run_words<F: Feed, S: Source, K: Sink>(
 
 /// Writes why a feed is refused.
 fn tell_refusal<E: Sink>(alloc: Global, why: &FeedRefusal, err: &mut E) -> Status
-    ensures status { (result ≡ Status.FeedRefused) ⊎ (result ≡ Status.Memory) }
+    ensures status { (result ≡ Status.FeedRefused) ⊎ (result ≡ Status.OutOfMemory) }
     ensures refused_line { result ≡ Status.FeedRefused
         → ¬ (Rose (E.faults err.old) (E.faults err.new))
         → Appends (E.written err.old) (E.written err.new) (refusal_line why.now) }
@@ -85,15 +92,15 @@ fn tell_refusal<E: Sink>(alloc: Global, why: &FeedRefusal, err: &mut E) -> Statu
             Status::FeedRefused
         }
         Err(_) => {
-            let _ = put(err, Status::Memory.error_line());
-            Status::Memory
+            let _ = put(err, Status::OutOfMemory.error_line());
+            Status::OutOfMemory
         }
     }
 }
 
 /// Writes how a run ended. A failed write changes nothing.
 fn tell<E: Sink>(alloc: Global, run: Result<(), Fault>, err: &mut E) -> Status
-    ensures status { (result ≡ status_of run) ⊎ (result ≡ Status.Memory) }
+    ensures status { (result ≡ status_of run) ⊎ (result ≡ Status.OutOfMemory) }
     ensures refused_line { result ≡ Status.FeedRefused → (why : FeedRefusal)
         × (run ≡ Err (faults.FeedRefused why))
         × (¬ (Rose (E.faults err.old) (E.faults err.new))

@@ -6,7 +6,7 @@ ghost use Rattle.traind.specs.Statuses.{error_line, number_of, status_of};
 use command_words::WordsFault;
 use gtfs_tables::{FeedError, FeedRefusal};
 use information_service::LinesFault;
-use mt_base::memory::OutOfMemory;
+use std::alloc::AllocError;
 
 /// How a run ends.
 #[derive(Clone, Copy, Debug, PartialEq, Eq)]
@@ -22,7 +22,7 @@ pub enum Status {
     /// The output failed.
     WriteFault,
     /// There was no memory.
-    Memory,
+    OutOfMemory,
     /// As many bytes of the input as may be were taken, and no end was read.
     TooLong,
 }
@@ -38,7 +38,7 @@ impl Status {
             Status::FeedRefused => 3,
             Status::ReadFault => 4,
             Status::WriteFault => 5,
-            Status::Memory => 6,
+            Status::OutOfMemory => 6,
             Status::TooLong => 7,
         }
     }
@@ -53,7 +53,7 @@ impl Status {
             Status::Usage => b"traind: usage: traind times FEED --from DATE\n",
             Status::ReadFault => b"traind: read fault\n",
             Status::WriteFault => b"traind: write fault\n",
-            Status::Memory => b"traind: out of memory\n",
+            Status::OutOfMemory => b"traind: out of memory\n",
             Status::TooLong => b"traind: input too long\n",
         }
     }
@@ -66,7 +66,7 @@ pub(crate) enum Fault {
     FeedRefused(FeedRefusal),
     ReadFault,
     WriteFault,
-    Memory,
+    OutOfMemory,
     TooLong,
 }
 
@@ -80,19 +80,19 @@ pub(crate) fn status_of(run: Result<(), Fault>) -> Status
         Err(Fault::FeedRefused(_)) => Status::FeedRefused,
         Err(Fault::ReadFault) => Status::ReadFault,
         Err(Fault::WriteFault) => Status::WriteFault,
-        Err(Fault::Memory) => Status::Memory,
+        Err(Fault::OutOfMemory) => Status::OutOfMemory,
         Err(Fault::TooLong) => Status::TooLong,
     }
 }
 
-impl From<OutOfMemory> for Fault {
+impl From<AllocError> for Fault {
     ghost use Rattle.std.specs.Prelude.{◌≡◌};
-    ghost use Rattle.traind.specs.declared.status.Fault.TheVariants.{Memory};
+    ghost use Rattle.traind.specs.declared.status.Fault.TheVariants.{OutOfMemory};
 
-    ghost from_gives = { λ _ e. e ≡ Memory };
+    ghost from_gives = { λ _ e. e ≡ OutOfMemory };
 
-    fn from(_want: OutOfMemory) -> Fault {
-        Fault::Memory
+    fn from(_want: AllocError) -> Fault {
+        Fault::OutOfMemory
     }
 }
 
@@ -106,7 +106,7 @@ impl From<FeedError> for Fault {
         match error {
             FeedError::Refused(why) => Fault::FeedRefused(why),
             FeedError::ReadFault => Fault::ReadFault,
-            FeedError::OutOfMemory => Fault::Memory,
+            FeedError::OutOfMemory => Fault::OutOfMemory,
         }
     }
 }
@@ -120,7 +120,7 @@ impl From<WordsFault> for Fault {
     fn from(fault: WordsFault) -> Fault {
         match fault {
             WordsFault::Usage => Fault::Usage,
-            WordsFault::Memory => Fault::Memory,
+            WordsFault::OutOfMemory => Fault::OutOfMemory,
         }
     }
 }
@@ -135,7 +135,7 @@ impl From<LinesFault> for Fault {
         match fault {
             LinesFault::ReadFault => Fault::ReadFault,
             LinesFault::WriteFault => Fault::WriteFault,
-            LinesFault::Memory => Fault::Memory,
+            LinesFault::OutOfMemory => Fault::OutOfMemory,
             LinesFault::TooLong => Fault::TooLong,
         }
     }
