@@ -15,8 +15,8 @@ use crate::new_calls::{are_at_stops, check_spare_calls};
 use crate::rank::RankCheck;
 use delay_model::messages::{Refusal, Short};
 use edge_rules::Graph;
-use mt_base::numbers::{Label, RouteNo, TrainNo};
 use mt_base::new_calls::NewCall;
+use mt_base::numbers::{Label, RouteNo, TrainNo};
 use train_nodes::calls::new_call;
 
 /// Whether an extra train is accepted, or why it is refused.

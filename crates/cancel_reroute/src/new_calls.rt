@@ -7,8 +7,8 @@ ghost use Rattle.graph_edit.specs.Values.{Gives};
 
 use delay_model::messages::{Refusal, Short};
 use edge_rules::Graph;
-use mt_base::numbers::StopNo;
 use mt_base::new_calls::NewCall;
+use mt_base::numbers::StopNo;
 
 /// Whether each of the calls is at a stop, where trains call.
 pub(crate) fn are_at_stops(g: &Graph, calls: &[NewCall]) -> bool

@@ -10,8 +10,8 @@ use delay_model::messages::Refusal;
 use delay_model::state::{Call, Event};
 use edge_rules::Graph;
 use graph_edit::checks::check_rank;
-use mt_base::numbers::{Label, RouteNo, TrainNo};
 use mt_base::new_calls::NewCall;
+use mt_base::numbers::{Label, RouteNo, TrainNo};
 use train_nodes::calls::new_call;
 use train_nodes::events::event_of;
 

@@ -18,8 +18,8 @@ use delay_model::messages::Refusal;
 use edge_rules::Graph;
 use graph_edit::checks::check_unreported;
 use mt_base::keys::Node;
-use mt_base::numbers::{Label, TrainNo};
 use mt_base::new_calls::NewCall;
+use mt_base::numbers::{Label, TrainNo};
 
 /// Whether a rerouting is accepted, or why it is refused.
 #[tactic(auto, unfolding(delay_model::specs::Refusals::refusal))]

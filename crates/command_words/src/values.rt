@@ -8,8 +8,7 @@ ghost use Rattle.command_words.specs.Words.{first_date, number_within, options_o
 
 use clap::ArgMatches;
 use gtfs_tables::fields;
-use mt_base::Opts;
-use mt_base::texts;
+use mt_base::{Opts, texts};
 
 /// The value of an argument: the one that the words give, or else its default.
 pub(crate) fn value<'a>(given: &ArgMatches<'a>, name: &str) -> Option<&'a str>

@@ -17,9 +17,9 @@ use delay_report::Reply;
 use message_reader::{
     Line, LineError, ResolveError, Wire, WireQuery, read_line, resolve, resolve_query,
 };
+use mt_base::journeys::{PlanRide, Query};
 use mt_base::memory::OutOfMemory;
 use mt_base::numbers::Day;
-use mt_base::journeys::{PlanRide, Query};
 use mt_base::rows::Rows;
 use schedule_build::{Directory, ExtraName};
 use std::alloc::{AllocError, Global};

@@ -1,7 +1,7 @@
 //! Why answering lines stops before the end of the input.
 
-use std::alloc::AllocError;
 use mt_io::Failed;
+use std::alloc::AllocError;
 
 /// Why answering lines, or writing the table, stops before its end.
 #[derive(Clone, Copy, Debug, PartialEq, Eq)]
