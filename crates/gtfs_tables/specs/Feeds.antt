@@ -44,8 +44,12 @@ content_of (Some bytes) = if nat_lt 268435456 (length bytes) then too_long else 
 abbrev pub Contents : Type 0
 Contents = Table → Content
 
--- the feed in a folder, by the bytes of each file of each folder
-abbrev pub contents_of : (List ℕ → List ℕ → Option (List ℕ)) → List ℕ → Contents
+-- the bytes of each file of each folder
+abbrev pub Files : Type 0
+Files = List ℕ → List ℕ → Option (List ℕ)
+
+-- the feed in a folder, by its files
+abbrev pub contents_of : Files → List ℕ → Contents
 contents_of files folder t = content_of (files folder (file_name t))
 
 -- ---- one table

@@ -1,5 +1,5 @@
 -- What the bytes of a field mean: numbers and times of day.
-use Rattle.std.specs.Prelude.{ℕ, ◌+◌, ◌*◌, ◌-◌, ◌&&◌, ◌==◌, List, [], ◌∷◌, Bool, true, nat_lt, nat_le, length, reverse, if◌then◌else◌, Some, None, option_and_then, option_map}
+use Rattle.std.specs.Prelude.{ℕ, ◌+◌, ◌*◌, ◌&&◌, ◌==◌, List, [], ◌∷◌, Bool, true, nat_le, length, reverse, if◌then◌else◌, Some, None, option_and_then, option_map}
 use Rattle.std.specs.declared.option.Option.{Option}
 use Rattle.mt_base.specs.declared.places.PlaceKind.{PlaceKind}
 use Rattle.mt_base.specs.declared.places.PlaceKind.TheVariants.{Platform, Station, Entrance, GenericNode, BoardingArea}

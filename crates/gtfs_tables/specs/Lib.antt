@@ -14,6 +14,7 @@ pub mod WaitingRules
 pub mod Builders
 pub mod Ids
 pub mod Frequencies
+pub mod Reading
 pub mod Records
 pub mod Feeds
 pub mod Refusals

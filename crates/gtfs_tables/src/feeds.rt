@@ -1,9 +1,9 @@
 //! The tables of a feed, read and checked one after the other.
 
-ghost use Rattle.std.specs.Prelude.{◌≡◌, ◌≤◌, ◌<◌, ◌^◌, ℕ, List, [], Some, Ok, Option, IfOk, OnOk, IsErrOf, IsTrue, length, option_map};
-ghost use Rattle.mt_io.specs.Causes.{Rose};
-ghost use Rattle.gtfs_tables.specs.Feeds.{Contents, at_most, is_absent, contents_of, fetched, stops_in, trips_in, calls_in, calendar_in, dates_in, transfers_in, rules_in, frequencies_in, tables_of};
+ghost use Rattle.std.specs.Prelude.{◌≡◌, [], Some, Ok, IfOk, OnOk, IsErrOf, IsTrue, length, option_map};
+ghost use Rattle.gtfs_tables.specs.Feeds.{Contents, Files, at_most, is_absent, contents_of, fetched, stops_in, trips_in, calls_in, calendar_in, dates_in, transfers_in, rules_in, frequencies_in, tables_of};
 ghost use Rattle.gtfs_tables.specs.Numberings.{IsNumbered, names_of};
+ghost use Rattle.gtfs_tables.specs.Reading.{IsRead};
 ghost use Rattle.gtfs_tables.specs.Records.{records_of};
 ghost use Rattle.feed_tables.specs.Lawful.{HasFewRows};
 ghost use Rattle.gtfs_tables.specs.Refusals.{Gives, refusal_of, with_table};
@@ -30,13 +30,11 @@ use std::alloc::Global;
 
 /// The text of a table, where there is one.
 fn fetch<F: Feed>(feed: &mut F, folder: &str, table: Table) -> Result<Option<Vec<u8>>, FeedError>
-    ensures text { (files : List ℕ → List ℕ → Option (List ℕ)) → F.tables feed.old ≡ Some files
+    ensures text { (files : Files) → F.tables feed.old ≡ Some files
         → Gives (λ text. option_map (λ bytes. records_of bytes.items) text) result
         (fetched table (contents_of files folder.now table)) }
-    ensures failed { IsErrOf result FeedError.ReadFault
-        → Rose (F.faults feed.old) (F.faults feed.new) }
-    ensures later { F.faults feed.old ≤ F.faults feed.new }
-    ensures same { F.tables feed.new ≡ F.tables feed.old }
+    ensures reads { IsRead result (F.tables feed.old) (F.tables feed.new) (F.faults feed.old)
+        (F.faults feed.new) }
 {
     match feed.table(folder, table.name()) {
         Ok(text) => Ok(text),
@@ -86,13 +84,11 @@ fn missing(table: Table) -> FeedError
 
 #[tactic(auto, unfolding(crate::specs::Feeds::stops_in))]
 fn read_stops_in<F: Feed>(alloc: Global, feed: &mut F, folder: &str) -> Result<Stops, FeedError>
-    ensures made { (files : List ℕ → List ℕ → Option (List ℕ)) → F.tables feed.old ≡ Some files
+    ensures made { (files : Files) → F.tables feed.old ≡ Some files
         → Gives (λ stops. stops) result (stops_in (contents_of files folder.now)) }
     ensures some { IfOk result (λ stops. (contents : Contents) × (stops_in contents ≡ Ok stops)) }
-    ensures failed { IsErrOf result FeedError.ReadFault
-        → Rose (F.faults feed.old) (F.faults feed.new) }
-    ensures later { F.faults feed.old ≤ F.faults feed.new }
-    ensures same { F.tables feed.new ≡ F.tables feed.old }
+    ensures reads { IsRead result (F.tables feed.old) (F.tables feed.new) (F.faults feed.old)
+        (F.faults feed.new) }
 {
     let Some(text) = fetch(feed, folder, Table::Stops)? else {
         return Err(missing(Table::Stops));
@@ -104,13 +100,11 @@ fn read_stops_in<F: Feed>(alloc: Global, feed: &mut F, folder: &str) -> Result<S
 
 #[tactic(auto, unfolding(crate::specs::Feeds::trips_in))]
 fn read_trips_in<F: Feed>(alloc: Global, feed: &mut F, folder: &str) -> Result<Trips, FeedError>
-    ensures made { (files : List ℕ → List ℕ → Option (List ℕ)) → F.tables feed.old ≡ Some files
+    ensures made { (files : Files) → F.tables feed.old ≡ Some files
         → Gives (λ trips. trips) result (trips_in (contents_of files folder.now)) }
     ensures some { IfOk result (λ trips. (contents : Contents) × (trips_in contents ≡ Ok trips)) }
-    ensures failed { IsErrOf result FeedError.ReadFault
-        → Rose (F.faults feed.old) (F.faults feed.new) }
-    ensures later { F.faults feed.old ≤ F.faults feed.new }
-    ensures same { F.tables feed.new ≡ F.tables feed.old }
+    ensures reads { IsRead result (F.tables feed.old) (F.tables feed.new) (F.faults feed.old)
+        (F.faults feed.new) }
 {
     let Some(text) = fetch(feed, folder, Table::Trips)? else {
         return Err(missing(Table::Trips));
@@ -126,15 +120,13 @@ fn read_calls_in<F: Feed>(
     stops: &Stops,
     trips: &Trips,
 ) -> Result<Rows<CallRow>, FeedError>
-    ensures made { (files : List ℕ → List ℕ → Option (List ℕ)) → F.tables feed.old ≡ Some files
+    ensures made { (files : Files) → F.tables feed.old ≡ Some files
         → Gives (λ calls. calls) result
         (calls_in (contents_of files folder.now) stops.now trips.now.rows) }
     ensures some { IfOk result (λ calls. (contents : Contents)
         × (calls_in contents stops.now trips.now.rows ≡ Ok calls)) }
-    ensures failed { IsErrOf result FeedError.ReadFault
-        → Rose (F.faults feed.old) (F.faults feed.new) }
-    ensures later { F.faults feed.old ≤ F.faults feed.new }
-    ensures same { F.tables feed.new ≡ F.tables feed.old }
+    ensures reads { IsRead result (F.tables feed.old) (F.tables feed.new) (F.faults feed.old)
+        (F.faults feed.new) }
 {
     let Some(text) = fetch(feed, folder, Table::StopTimes)? else {
         return Err(missing(Table::StopTimes));
@@ -156,22 +148,18 @@ fn read_calendar_in<F: Feed>(
     requires { IsNumbered services.old }
 
     // the rows, and whether the table is absent
-    ensures made { (files : List ℕ → List ℕ → Option (List ℕ)) → F.tables feed.old ≡ Some files
+    ensures made { (files : Files) → F.tables feed.old ≡ Some files
         → Gives (λ r. record { services = names_of services.new; rows = r.0 }) result
         (calendar_in (contents_of files folder.now) (names_of services.old)) }
-    ensures absent { (files : List ℕ → List ℕ → Option (List ℕ)) → F.tables feed.old ≡ Some files
+    ensures absent { (files : Files) → F.tables feed.old ≡ Some files
         → IfOk result (λ r. r.1 ≡ is_absent (contents_of files folder.now tables.Calendar)) }
     ensures numbered { OnOk result (IsNumbered services.new) }
     ensures some { IfOk result (λ r. (contents : Contents)
         × (calendar_in contents (names_of services.old)
         ≡ Ok (record { services = names_of services.new; rows = r.0 }))
         × (is_absent (contents tables.Calendar) ≡ r.1)) }
-
-    // what becomes of the feed
-    ensures failed { IsErrOf result FeedError.ReadFault
-        → Rose (F.faults feed.old) (F.faults feed.new) }
-    ensures later { F.faults feed.old ≤ F.faults feed.new }
-    ensures same { F.tables feed.new ≡ F.tables feed.old }
+    ensures reads { IsRead result (F.tables feed.old) (F.tables feed.new) (F.faults feed.old)
+        (F.faults feed.new) }
 {
     let Some(text) = fetch(feed, folder, Table::Calendar)? else {
         return Ok((no_rows(alloc), true));
@@ -189,7 +177,7 @@ fn read_dates_in<F: Feed>(
     services: &mut Numbering,
 ) -> Result<Rows<DateRow>, FeedError>
     requires { IsNumbered services.old }
-    ensures made { (files : List ℕ → List ℕ → Option (List ℕ)) → F.tables feed.old ≡ Some files
+    ensures made { (files : Files) → F.tables feed.old ≡ Some files
         → no_calendar ≡ is_absent (contents_of files folder.now tables.Calendar)
         → Gives (λ rows. record { services = names_of services.new; rows = rows }) result
         (dates_in (contents_of files folder.now) (names_of services.old)) }
@@ -197,10 +185,8 @@ fn read_dates_in<F: Feed>(
         × (dates_in contents (names_of services.old)
         ≡ Ok (record { services = names_of services.new; rows = rows }))
         × (is_absent (contents tables.Calendar) ≡ no_calendar)) }
-    ensures failed { IsErrOf result FeedError.ReadFault
-        → Rose (F.faults feed.old) (F.faults feed.new) }
-    ensures later { F.faults feed.old ≤ F.faults feed.new }
-    ensures same { F.tables feed.new ≡ F.tables feed.old }
+    ensures reads { IsRead result (F.tables feed.old) (F.tables feed.new) (F.faults feed.old)
+        (F.faults feed.new) }
 {
     let Some(text) = fetch(feed, folder, Table::CalendarDates)? else {
         if no_calendar {
@@ -221,14 +207,12 @@ fn read_transfers_in<F: Feed>(
     folder: &str,
     stops: &Stops,
 ) -> Result<Rows<TransferRow>, FeedError>
-    ensures made { (files : List ℕ → List ℕ → Option (List ℕ)) → F.tables feed.old ≡ Some files
+    ensures made { (files : Files) → F.tables feed.old ≡ Some files
         → Gives (λ rows. rows) result (transfers_in (contents_of files folder.now) stops.now) }
     ensures some { IfOk result (λ rows. (contents : Contents)
         × (transfers_in contents stops.now ≡ Ok rows)) }
-    ensures failed { IsErrOf result FeedError.ReadFault
-        → Rose (F.faults feed.old) (F.faults feed.new) }
-    ensures later { F.faults feed.old ≤ F.faults feed.new }
-    ensures same { F.tables feed.new ≡ F.tables feed.old }
+    ensures reads { IsRead result (F.tables feed.old) (F.tables feed.new) (F.faults feed.old)
+        (F.faults feed.new) }
 {
     let Some(text) = fetch(feed, folder, Table::Transfers)? else {
         return Ok(no_rows(alloc));
@@ -247,16 +231,14 @@ fn read_rules_in<F: Feed>(
     routes: &mut Numbering,
 ) -> Result<Rows<RuleRow>, FeedError>
     requires { IsNumbered routes.old }
-    ensures made { (files : List ℕ → List ℕ → Option (List ℕ)) → F.tables feed.old ≡ Some files
+    ensures made { (files : Files) → F.tables feed.old ≡ Some files
         → Gives (λ rows. record { routes = names_of routes.new; rows = rows }) result
         (rules_in (contents_of files folder.now) stops.now (names_of routes.old)) }
     ensures some { IfOk result (λ rows. (contents : Contents)
         × (rules_in contents stops.now (names_of routes.old)
         ≡ Ok (record { routes = names_of routes.new; rows = rows }))) }
-    ensures failed { IsErrOf result FeedError.ReadFault
-        → Rose (F.faults feed.old) (F.faults feed.new) }
-    ensures later { F.faults feed.old ≤ F.faults feed.new }
-    ensures same { F.tables feed.new ≡ F.tables feed.old }
+    ensures reads { IsRead result (F.tables feed.old) (F.tables feed.new) (F.faults feed.old)
+        (F.faults feed.new) }
 {
     let Some(text) = fetch(feed, folder, Table::WaitingRules)? else {
         return Ok(no_rows(alloc));
@@ -271,13 +253,11 @@ fn read_rules_in<F: Feed>(
 
 #[tactic(auto, unfolding(crate::specs::Feeds::frequencies_in))]
 fn check_frequencies_in<F: Feed>(alloc: Global, feed: &mut F, folder: &str) -> Result<(), FeedError>
-    ensures made { (files : List ℕ → List ℕ → Option (List ℕ)) → F.tables feed.old ≡ Some files
+    ensures made { (files : Files) → F.tables feed.old ≡ Some files
         → Gives (λ u. u) result (frequencies_in (contents_of files folder.now)) }
     ensures some { IfOk result (λ u. (contents : Contents) × (frequencies_in contents ≡ Ok u)) }
-    ensures failed { IsErrOf result FeedError.ReadFault
-        → Rose (F.faults feed.old) (F.faults feed.new) }
-    ensures later { F.faults feed.old ≤ F.faults feed.new }
-    ensures same { F.tables feed.new ≡ F.tables feed.old }
+    ensures reads { IsRead result (F.tables feed.old) (F.tables feed.new) (F.faults feed.old)
+        (F.faults feed.new) }
 {
     let Some(text) = fetch(feed, folder, Table::Frequencies)? else {
         return Ok(());
@@ -313,12 +293,10 @@ pub fn read_tables<F: Feed>(
     feed: &mut F,
     folder: &str,
 ) -> Result<FeedTables, FeedError>
-    ensures exact { (files : List ℕ → List ℕ → Option (List ℕ)) → F.tables feed.old ≡ Some files
+    ensures exact { (files : Files) → F.tables feed.old ≡ Some files
         → Gives (λ tables. tables) result (tables_of (contents_of files folder.now)) }
-    ensures failed { IsErrOf result FeedError.ReadFault
-        → Rose (F.faults feed.old) (F.faults feed.new) }
-    ensures later { F.faults feed.old ≤ F.faults feed.new }
-    ensures same { F.tables feed.new ≡ F.tables feed.old }
+    ensures reads { IsRead result (F.tables feed.old) (F.tables feed.new) (F.faults feed.old)
+        (F.faults feed.new) }
 {
     let stops = read_stops_in(alloc, feed, folder)?;
     let trips = read_trips_in(alloc, feed, folder)?;
