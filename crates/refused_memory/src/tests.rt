@@ -1,6 +1,6 @@
 //! Queries while every request for memory is refused.
 
-ghost use Rattle.std.specs.Prelude.{◌≡◌, ◌<◌, ◌≤◌, length};
+ghost use Rattle.std.specs.Prelude.{◌≡◌, ◌<◌, ◌≤◌, IfOk, length};
 
 mod exhaustion;
 mod small_feed;
@@ -79,11 +79,17 @@ fn query(
     }
 }
 
+/// Room for queries over a timetable.
+fn scratch_for(alloc: Global, timetable: &Timetable) -> Result<Scratch, OutOfMemory>
+    ensures { IfOk result (λ scratch. length timetable.now.network.stops ≤ scratch.stops) }
+{
+    Scratch::build(alloc, timetable.graph().changes().stops(), 2)
+}
+
 /// Makes what queries want beforehand, and asks them without memory.
 fn query_without_memory(alloc: Global, timetable: &Timetable) -> Result<Outcome, OutOfMemory> {
-    let stops = timetable.graph().changes().stops();
     let mut taken = Vec::with_capacity(alloc, BLOCKS)?;
-    let mut scratch = Scratch::build(alloc, stops, 2)?;
+    let mut scratch = scratch_for(alloc, timetable)?;
     Ok(query(alloc, timetable, &mut scratch, &mut taken))
 }
 
