@@ -5,7 +5,8 @@ pub use Rattle.conn_scan.specs.Calls.{arrival_at, calls_after, first_arrival}
 pub use Rattle.conn_scan.specs.Lowered.{access_of, lowered}
 pub use Rattle.conn_scan.specs.Passed.{ArePassed, IsPassed}
 pub use Rattle.conn_scan.specs.Reached.{Access, AreExplained, CanBoard, IsBehind, IsFromOrigin, IsPossible, IsReached, access_in, improved, ride_before}
-pub use Rattle.conn_scan.specs.Rides.{BeginsWith, IsSeen, departure_of_ride, rides_along, rides_at, rides_from}
+pub use Rattle.conn_scan.specs.Rides.{BeginsWith, IsSeen, departure_of_ride, rides_along, rides_at}
+unfoldable pub use Rattle.conn_scan.specs.Rides.{rides_from}
 pub use Rattle.conn_scan.specs.Scan.{AreReachedBehind, IsAfterRide, IsAtEnd, IsScan, IsTaken, IsThereBy, IsWayBack, LeadsTo, better, ends_there}
 pub use Rattle.conn_scan.specs.Scanned.{boarding_of, changes_of, departed, is_in_time, is_there_by, ride_to, rides_on, scanned, took, took_all}
 pub use Rattle.conn_scan.specs.Stamped.{AreStamped, found_for}

@@ -33,7 +33,8 @@ pub use Rattle.edge_rules.specs.declared.graph.Graph.TheInside.{Inside}
 pub use Rattle.edge_rules.specs.declared.wanted.Shift.{Shift}
 pub use Rattle.edge_rules.specs.declared.wanted.Wanted.TheVariants.{Changing, From, Into}
 pub use Rattle.mt_base.proofs.KeyLemmas.{same-is, same-itself, same_node-is, same_node-itself}
-pub use Rattle.mt_base.specs.Order.{is_same, is_same_node, node_cmp, node_of}
+pub use Rattle.mt_base.specs.Order.{is_same, node_cmp, node_of}
+unfoldable pub use Rattle.mt_base.specs.Order.{is_same_node}
 pub use Rattle.mt_base.specs.declared.index_entries.Entry.{Entry}
 pub use Rattle.mt_base.specs.declared.keys.Key.{Key}
 pub use Rattle.mt_base.specs.declared.keys.Node.{Node}
