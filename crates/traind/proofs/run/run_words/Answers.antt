@@ -6,7 +6,7 @@ use Rattle.information_service.proofs.Fronts.{output_is_front}
 use Rattle.traind.specs.Causes.{HasFaultCause}
 use Rattle.traind.specs.Statuses.{lines_fault}
 use Rattle.traind.proofs.Ends.{cause_of_lines, stopped_lines}
-use Rattle.traind.proofs.Tables.{same-start, output-is, replies-are, front-is}
+use Rattle.traind.proofs.Tables.{same-start, not-refused, output-is, replies-are, front-is}
 use Rattle.traind.proofs.run.run_words.Goals as goal
 
 pub returns-in_err-service-clause-stopped : goal.returns-in_err-service-clause-stopped
@@ -43,3 +43,11 @@ returns-clause-front g c = λ nw st names bytes loads left.
     let start = same-start (map string_bytes c.args.words.now) (g.F.Feed.tables c.args.feed.now) (asked_view c.in_ok-asked.asked) c.in_ok-service.service
     c.in_ok-asked.ensures.ok c.in_ok-service.ensures.exact c.in_ok-service.ensures.network nw st names loads in
     front-is nw st names c.in_ok-service.service start (lines_of true bytes) (g.K.Sink.written c.args.out.now) (g.K.Sink.written c.write_output.new.out) (output_is_front (c.in_ok-write_output.ensures.ok bytes left))
+
+pub returns-clause-refused : goal.returns-clause-refused
+returns-clause-refused g c = λ why r.
+    absurd (not-refused (map string_bytes c.args.words.now) (g.F.Feed.tables c.args.feed.now) (asked_view c.in_ok-asked.asked) c.in_ok-service.service c.in_ok-asked.ensures.ok c.in_ok-service.ensures.exact why r)
+
+pub returns-clause-refused_untouched : goal.returns-clause-refused_untouched
+returns-clause-refused_untouched g c = λ why r.
+    absurd (not-refused (map string_bytes c.args.words.now) (g.F.Feed.tables c.args.feed.now) (asked_view c.in_ok-asked.asked) c.in_ok-service.service c.in_ok-asked.ensures.ok c.in_ok-service.ensures.exact why r)
