@@ -10,7 +10,7 @@ use Rattle.query_crew.specs.declared.reading.WindowEnd.{WindowEnd}
 use Rattle.query_crew.specs.declared.reading.WindowEnd.TheVariants as ends
 use Rattle.query_crew.specs.declared.window_line.WindowLine.{WindowLine}
 use Rattle.query_crew.specs.Reading.{StopsAt, IsOneLine, EndsWindow, IsReadWindow}
-use Rattle.query_crew.specs.Said.{said_by}
+use Rattle.information_service.specs.Lines.{said_by}
 use Rattle.query_crew.specs.WindowLines.{window_line, window_lines, is_flush_line}
 use Rattle.query_crew.specs.Windows.{is_flush}
 use Rattle.query_crew.proofs.Calls.{gives-both}

@@ -1,4 +1,3 @@
-pub mod Said
 pub mod WindowLines
 pub mod Held
 pub mod Windows
