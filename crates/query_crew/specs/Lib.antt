@@ -1,0 +1,4 @@
+pub mod WindowLines
+pub mod Held
+pub mod Windows
+pub mod Reading
