@@ -1,0 +1,5 @@
+pub mod Said
+pub mod WindowLines
+pub mod Held
+pub mod Windows
+pub mod Reading

@@ -1,0 +1,48 @@
+-- What reading a window takes from the input, and how it ends.
+use Rattle.std.specs.Prelude.{◌≡◌, ◌<◌, List, [], ◌∷◌}
+use Rattle.query_crew.specs.Said.{said_by}
+use Rattle.mt_io.specs.Lines.{Line}
+use Rattle.mt_io.specs.Reader.{Reader, IsDone, CanReadOn, IsSpent, work}
+use Rattle.schedule_build.specs.Directory.{Names}
+use Rattle.query_crew.specs.declared.reading.NextLine.{NextLine}
+use Rattle.query_crew.specs.declared.reading.NextLine.TheVariants as next
+use Rattle.query_crew.specs.declared.reading.WindowEnd.{WindowEnd}
+use Rattle.query_crew.specs.declared.reading.WindowEnd.TheVariants as ends
+use Rattle.query_crew.specs.declared.window_line.WindowLine.{WindowLine}
+use Rattle.query_crew.specs.WindowLines.{window_line, window_lines, IsWindowLine}
+use Rattle.query_crew.specs.Windows.{IsClosedWindow, IsOpenWindow}
+
+-- how a reader stands where no further line came
+abbrev pub StopsAt : WindowEnd → Reader → Type 0
+StopsAt ends.More r = ⊥
+StopsAt ends.End r = IsDone r
+StopsAt ends.ReadFault r = CanReadOn r
+StopsAt ends.Budget r = IsSpent r
+
+-- one line was taken, and this is what it says in a window
+pub record IsOneLine (names : Names) (w : WindowLine) (lines : List Line)
+    (old new : Reader) : Type 0 where
+  pub line : Line
+  pub taken : lines ≡ line ∷ []
+  pub said : w ≡ window_line names (said_by line)
+  pub kept : IsWindowLine w
+  pub work : work new < work old
+
+-- a line was taken, or none, and why
+abbrev pub IsNextLine : Names → NextLine → List Line → Reader → Reader → Type 0
+IsNextLine names (next.Line w) lines old new = IsOneLine names w lines old new
+IsNextLine names (next.Stop end) lines old new = (lines ≡ []) × StopsAt end new
+
+-- how a window of these lines ends, and how it leaves the reader. Where it is closed, there is less
+-- left to read
+abbrev pub EndsWindow : WindowEnd → List Line → Reader → Reader → Type 0
+EndsWindow ends.More lines old new = IsClosedWindow lines × (work new < work old)
+EndsWindow ends.End lines old new = IsOpenWindow lines × IsDone new
+EndsWindow ends.ReadFault lines old new = IsOpenWindow lines × CanReadOn new
+EndsWindow ends.Budget lines old new = IsOpenWindow lines × IsSpent new
+
+-- these lines were read, a window has them, and so it ends
+pub record IsReadWindow (names : Names) (end : WindowEnd) (lines : List Line)
+    (window : List WindowLine) (old new : Reader) : Type 0 where
+  pub shown : window ≡ window_lines names lines
+  pub ended : EndsWindow end lines old new

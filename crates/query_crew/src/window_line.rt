@@ -1,0 +1,93 @@
+//! What a line says in a window.
+
+ghost use Rattle.std.specs.Prelude.{◌≡◌, Ok, IfOk};
+ghost use Rattle.message_reader.specs.ResolvedQueries.{query_resolved};
+ghost use Rattle.message_reader.specs.Wires.{IsLine, IsWireQuery};
+ghost use Rattle.mt_io.specs.Lines.{short};
+ghost use Rattle.query_crew.specs.Said.{said_by};
+ghost use Rattle.query_crew.specs.WindowLines.{window_line, is_flush_line, IsWindowLine};
+
+use message_reader::{
+    AskedQuery, BadLine, Line, LineError, Wire, WireQuery, read_line, resolve_query,
+};
+use mt_base::memory::OutOfMemory;
+use mt_base::names::Name;
+use schedule_build::Directory;
+use std::alloc::{AllocError, Global};
+
+/// A query of a client.
+#[derive(Drop)]
+pub struct ClientQuery {
+    /// Who asks.
+    pub client: Name,
+
+    /// The query with the numbers for which its names stand, or why its line is bad.
+    pub asked: Result<AskedQuery, BadLine>,
+}
+
+/// What a line says in a window.
+#[derive(Drop)]
+pub enum WindowLine {
+    /// A message, by names.
+    Message(Wire),
+    /// Asks for the earliest arrival.
+    Query(ClientQuery),
+    /// Asks how many messages were accepted so far.
+    Flush,
+    /// It is bad.
+    Bad(BadLine),
+}
+
+impl WindowLine {
+    /// Whether it is a flush.
+    pub(crate) fn is_flush(&self) -> bool
+        ensures { result ≡ is_flush_line self.now }
+    {
+        matches!(self, WindowLine::Flush)
+    }
+}
+
+/// A query, looked up in the directory.
+fn client_query(directory: &Directory, query: WireQuery) -> ClientQuery
+    requires { IsWireQuery query }
+    ensures { result ≡ record {
+      client = query.client;
+      asked = query_resolved directory.now query;
+    } }
+{
+    let asked = resolve_query(&query, directory);
+    ClientQuery {
+        client: query.client,
+        asked,
+    }
+}
+
+/// What a line that says this says in a window.
+fn line_in_window(directory: &Directory, said: Line) -> WindowLine
+    requires { IsLine said }
+    ensures said { result ≡ window_line directory.now (Ok said) }
+    ensures kept { IsWindowLine result }
+{
+    match said {
+        Line::Message(wire) => WindowLine::Message(wire),
+        Line::Query(query) => WindowLine::Query(client_query(directory, query)),
+        Line::Flush => WindowLine::Flush,
+    }
+}
+
+/// What a line of the input, without its line end, says in a window. The names of a query are
+/// looked up in the directory. `OutOfMemory` where there is no memory.
+pub(crate) fn read_window_line(
+    alloc: Global,
+    directory: &Directory,
+    line: &[u8],
+) -> Result<WindowLine, OutOfMemory>
+    ensures said { IfOk result (λ w. w ≡ window_line directory.now (said_by (short line.now))) }
+    ensures kept { IfOk result IsWindowLine }
+{
+    match read_line(alloc, line) {
+        Ok(said) => Ok(line_in_window(directory, said)),
+        Err(LineError::Bad(bad)) => Ok(WindowLine::Bad(bad)),
+        Err(LineError::OutOfMemory) => Err(AllocError),
+    }
+}
