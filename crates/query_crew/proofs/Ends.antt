@@ -1,8 +1,7 @@
 -- Where windows end.
-use Rattle.std.proofs.Common.{◌≡◌, ◌∙◌, ℕ, ◌+◌, ◌<◌, ◌≤◌, List, [], ◌∷◌, ◌++◌, length, get_or, map, Bool, true, false, ◌||◌, nat_eq, Result, Ok, Err, refl, sym, ap, subst, arith, inl, inr, length-append, append_assoc}
+use Rattle.std.proofs.Common.{◌≡◌, ◌∙◌, ℕ, zero, suc, ◌<◌, ◌≤◌, List, [], ◌∷◌, ◌++◌, length, get_or, Bool, true, false, nat_eq, Result, Ok, Err, refl, sym, ap, arith, length-append}
 use Rattle.std.proofs.Math.ListN.{get_or-append}
-use Rattle.std.proofs.lemmas.Bool.{cases_Bool}
-use Rattle.std.proofs.lemmas.Grind.{elements, flat_map-append}
+use Rattle.std.proofs.lemmas.Grind.{flat_map-append}
 use Rattle.std.proofs.lemmas.List.{append-nil}
 use Rattle.std.proofs.lemmas.List.Elements.{All-append, All-cons, All-nil}
 use Rattle.std.proofs.lemmas.List.Folds.{list_any-append}
@@ -27,7 +26,7 @@ shown-flush names (Err b) = refl
 -- no element passes a test that the list does not pass
 none-at : {X : Type 0} (p : X → Bool) (xs : List X) (i : ℕ) (d : X) → list_any p xs ≡ false → i < length xs → p (get_or xs i d) ≡ false
 none-at p [] i d none l = absurd (omega arith)
-none-at p (x ∷ xs) 0 d none l = grind arith
+none-at p (x ∷ xs) zero d none l = grind arith
 none-at p (x ∷ xs) (suc i) d none l = none-at p xs i d (grind arith) (omega arith)
 
 -- a flush stands last at most, where none stands before
@@ -42,7 +41,7 @@ flush-none p xs none i d l = none-at p xs i d none (omega arith)
 
 -- one more line that is no flush
 pub none-more : {X : Type 0} (p : X → Bool) (xs : List X) (x : X) → list_any p xs ≡ false → p x ≡ false → list_any p (xs ++ x ∷ []) ≡ false
-none-more p xs x none no = rw (list_any-append, none, no) refl
+none-more p xs x none other = rw (list_any-append, none, other) refl
 
 -- lines without a flush, and then a flush
 pub closed-by-flush : (xs : List Line) (x : Line) → length xs < 256 → list_any is_flush xs ≡ false → is_flush x ≡ true → IsClosedWindow (xs ++ x ∷ [])

@@ -1,3 +1,4 @@
+pub mod Said
 pub mod WindowLines
 pub mod Held
 pub mod Windows

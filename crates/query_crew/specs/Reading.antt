@@ -1,6 +1,6 @@
 -- What reading a window takes from the input, and how it ends.
 use Rattle.std.specs.Prelude.{◌≡◌, ◌<◌, List, [], ◌∷◌}
-use Rattle.information_service.specs.Lines.{said_by}
+use Rattle.query_crew.specs.Said.{said_by}
 use Rattle.mt_io.specs.Lines.{Line}
 use Rattle.mt_io.specs.Reader.{Reader, IsDone, CanReadOn, IsSpent, work}
 use Rattle.schedule_build.specs.Directory.{Names}

@@ -1,6 +1,6 @@
 -- What a line of the input says in a window.
 use Rattle.std.specs.Prelude.{List, map, Bool, true, false, Result, Ok, Err}
-use Rattle.information_service.specs.Lines.{said_by}
+use Rattle.query_crew.specs.Said.{said_by}
 use Rattle.message_reader.specs.declared.bad_line.BadLine.{BadLine}
 use Rattle.message_reader.specs.declared.wire.Line.{Line as Spoken}
 use Rattle.message_reader.specs.declared.wire.Line.TheVariants as says

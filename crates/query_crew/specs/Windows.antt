@@ -1,7 +1,7 @@
 -- The windows of an input: where each of them ends.
 use Rattle.std.specs.Prelude.{◌≡◌, ◌≤◌, ◌<◌, List, [], ◌∷◌, ◌++◌, length, All, Bool, true, false, Result, Ok, Err}
 use Rattle.delay_model.specs.Windows.{windows, lines_per_window, HasFlushLast, is_closed}
-use Rattle.information_service.specs.Lines.{said_by}
+use Rattle.query_crew.specs.Said.{said_by}
 use Rattle.message_reader.specs.declared.bad_line.BadLine.{BadLine}
 use Rattle.message_reader.specs.declared.wire.Line.{Line as Spoken}
 use Rattle.message_reader.specs.declared.wire.Line.TheVariants as says

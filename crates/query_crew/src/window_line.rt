@@ -4,7 +4,7 @@ ghost use Rattle.std.specs.Prelude.{◌≡◌, Ok, IfOk};
 ghost use Rattle.message_reader.specs.ResolvedQueries.{query_resolved};
 ghost use Rattle.message_reader.specs.Wires.{IsLine, IsWireQuery};
 ghost use Rattle.mt_io.specs.Lines.{short};
-ghost use Rattle.information_service.specs.Lines.{said_by};
+ghost use Rattle.query_crew.specs.Said.{said_by};
 ghost use Rattle.query_crew.specs.WindowLines.{window_line, is_flush_line, IsWindowLine};
 
 use message_reader::{

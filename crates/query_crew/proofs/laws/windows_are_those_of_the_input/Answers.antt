@@ -1,7 +1,6 @@
-use Rattle.std.proofs.Common.{◌∙◌, ap}
+use Rattle.std.proofs.Common.{◌++◌, ◌∙◌, ap}
 use Rattle.mt_io.proofs.Runs.{ends, stops}
 use Rattle.delay_model.specs.Windows.{lines_of}
-use Rattle.std.proofs.Common.{◌++◌}
 use Rattle.query_crew.specs.Windows.{windows_of}
 use Rattle.query_crew.proofs.Ends.{read-windows}
 use Rattle.query_crew.proofs.laws.windows_are_those_of_the_input.Goals as goal

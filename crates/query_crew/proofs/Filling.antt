@@ -1,0 +1,101 @@
+-- A window that is filled line by line.
+use Rattle.std.proofs.Common.{◌≡◌, ◌∙◌, ℕ, ◌+◌, ◌<◌, ◌≤◌, List, [], ◌∷◌, ◌++◌, length, Bool, true, false, nat_eq, Option, refl, sym, ap, subst, arith, length-append}
+use Rattle.std.proofs.lemmas.List.{append-nil, map-append, length-map}
+use Rattle.std.specs.List.{list_any}
+use Rattle.mt_io.specs.Lines.{Line}
+use Rattle.mt_io.specs.Reader.{Reader, GivesNext, work}
+use Rattle.mt_io.proofs.Gives.{gives_nothing}
+use Rattle.schedule_build.specs.Directory.{Names}
+use Rattle.query_crew.specs.declared.reading.WindowEnd.{WindowEnd}
+use Rattle.query_crew.specs.declared.reading.WindowEnd.TheVariants as ends
+use Rattle.query_crew.specs.declared.window_line.WindowLine.{WindowLine}
+use Rattle.query_crew.specs.Reading.{StopsAt, IsOneLine, EndsWindow, IsReadWindow}
+use Rattle.query_crew.specs.Said.{said_by}
+use Rattle.query_crew.specs.WindowLines.{window_line, window_lines, is_flush_line}
+use Rattle.query_crew.specs.Windows.{is_flush}
+use Rattle.query_crew.proofs.Calls.{gives-both}
+use Rattle.query_crew.proofs.Ends.{shown-flush, none-more, closed-by-flush, closed-by-count, open-lines}
+
+-- these lines were taken so far, and none of them is a flush
+pub record IsBegun (names : Names) (first now : Reader) (left left_now : Option (List ℕ)) (lines : List Line) (window : List WindowLine) : Type 0 where
+  pub taken : GivesNext first now left left_now lines
+  pub shown : window ≡ window_lines names lines
+  pub no_flush : list_any is_flush lines ≡ false
+  pub most : length lines ≤ 256
+  pub work : work now + length lines ≤ work first
+
+pub begun-none : (names : Names) (r : Reader) (left : Option (List ℕ)) (window : List WindowLine) → window ≡ [] → IsBegun names r r left left [] window
+begun-none names r left window none =
+    record { taken = ([], gives_nothing r left); shown = none; no_flush = refl; most = omega arith; work = omega arith }
+
+-- where a window is not full, it has fewer lines than a window can have
+pub fewer : (names : Names) (lines : List Line) (window : List WindowLine) → window ≡ window_lines names lines → length lines ≤ 256 → nat_eq (length window) 256 ≡ false → length lines < 256
+fewer names lines window shown most full =
+    let same : length window ≡ length lines = ap length shown ∙ length-map lines (λ x. window_line names (said_by x)) in
+    grind arith
+
+module _ {names : Names} {first mid now : Reader} {left left_mid left_now : Option (List ℕ)} {lines more : List Line} {window : List WindowLine}
+    (b : IsBegun names first mid left left_mid lines window) (next : GivesNext mid now left_mid left_now more) (same : mid.ended ≡ true → left_now ≡ left_mid) where
+  -- what was taken with the last call
+  pub taken-more : GivesNext first now left left_now (lines ++ more)
+  taken-more = gives-both first mid now left left_mid left_now lines more b.taken next same
+
+  -- one line more
+  shown-more : (w : WindowLine) (one : IsOneLine names w more mid now) → window ++ w ∷ [] ≡ window_lines names (lines ++ one.line ∷ [])
+  shown-more w one =
+      (λ k. b.shown k ++ one.said k ∷ []) ∙ sym (map-append (λ (x : Line). window_line names (said_by x)) lines (one.line ∷ []))
+
+  taken-line : (w : WindowLine) (one : IsOneLine names w more mid now) → GivesNext first now left left_now (lines ++ one.line ∷ [])
+  taken-line w one = subst (λ (ls : List Line). GivesNext first now left left_now (lines ++ ls)) one.taken taken-more
+
+  flush-is : (w : WindowLine) (one : IsOneLine names w more mid now) (b : Bool) → is_flush_line w ≡ b → is_flush one.line ≡ b
+  flush-is w one b is = sym (shown-flush names (said_by one.line)) ∙ ap is_flush_line (sym one.said) ∙ is
+
+  pub begun-more : (w : WindowLine) (one : IsOneLine names w more mid now) → length lines < 256 → is_flush_line w ≡ false → IsBegun names first now left left_now (lines ++ one.line ∷ []) (window ++ w ∷ [])
+  begun-more w one few other =
+      record {
+        taken = taken-line w one;
+        shown = shown-more w one;
+        no_flush = none-more is_flush lines one.line b.no_flush (flush-is w one false other);
+        most = omega (arith, length-append lines (one.line ∷ []));
+        work = omega (arith, length-append lines (one.line ∷ []), b.work, one.work);
+      }
+
+  -- the flush that ends the window
+  pub filled : (w : WindowLine) (one : IsOneLine names w more mid now) → length lines < 256 → is_flush_line w ≡ true
+      → (all : List Line) × GivesNext first now left left_now all × IsReadWindow names ends.More all (window ++ w ∷ []) first now
+  filled w one few flush = (
+    lines ++ one.line ∷ [],
+    taken-line w one,
+    record {
+      shown = shown-more w one;
+      ended = (closed-by-flush lines one.line few b.no_flush (flush-is w one true flush), omega (arith, b.work, one.work));
+    },
+  )
+
+  stopped : (end : WindowEnd) → length lines < 256 → StopsAt end now → EndsWindow end lines first now
+  stopped ends.More few at = absurd at
+  stopped ends.End few at = (open-lines lines few b.no_flush, at)
+  stopped ends.ReadFault few at = (open-lines lines few b.no_flush, at)
+  stopped ends.Budget few at = (open-lines lines few b.no_flush, at)
+
+  -- no line more
+  pub none-came : (end : WindowEnd) → more ≡ [] → length lines < 256 → StopsAt end now
+      → (all : List Line) × GivesNext first now left left_now all × IsReadWindow names end all window first now
+  none-came end none few at = (
+    lines,
+    subst (GivesNext first now left left_now) (ap (λ (ls : List Line). lines ++ ls) none ∙ append-nil lines) taken-more,
+    record { shown = b.shown; ended = stopped end few at },
+  )
+
+-- the window is full
+pub full : {names : Names} {first now : Reader} {left left_now : Option (List ℕ)} {lines : List Line} {window : List WindowLine} → IsBegun names first now left left_now lines window → nat_eq (length window) 256 ≡ true
+    → (all : List Line) × GivesNext first now left left_now all × IsReadWindow names ends.More all window first now
+full {names = names} {lines = lines} {window = window} b is =
+    let same : length window ≡ length lines = ap length b.shown ∙ length-map lines (λ x. window_line names (said_by x)) in
+    let all : nat_eq (length lines) 256 ≡ true = rw same at is in
+    let count : length lines ≡ 256 = grind arith in (
+      lines,
+      b.taken,
+      record { shown = b.shown; ended = (closed-by-count lines all b.no_flush, omega (arith, b.work, count)) },
+    )
