@@ -3,3 +3,4 @@ pub mod WindowLines
 pub mod Held
 pub mod Windows
 pub mod Reading
+pub mod Served

@@ -1,0 +1,177 @@
+-- Counts along windows, and one window more.
+use Rattle.std.proofs.Common.{◌≡◌, ◌≤◌, ℕ, suc, ◌+◌, List, [], ◌∷◌, ◌++◌, length, Some, Result, Ok, Err, refl, sym, ◌∙◌, ap, subst, arith, inl, inr, length-append, append_assoc, take}
+use Rattle.std.specs.List.{All, AllPairs, slice_get}
+use Rattle.std.specs.Option.{option_map_or}
+use Rattle.std.proofs.lemmas.List.{append-nil, take-append-le}
+use Rattle.std.proofs.lemmas.List.Elements.{All-append, All-cons, All-nil, filter_map-append}
+use Rattle.delay_model.specs.declared.messages.Message.{Message}
+use Rattle.delay_model.specs.declared.network.Network.{Network}
+use Rattle.delay_model.specs.declared.state.State.{State}
+use Rattle.delay_model.specs.After.{after_messages, accepted}
+use Rattle.delay_model.specs.Windows.{Answer, CountsDoNotFall, lines_of}
+use Rattle.delay_model.proofs.AfterLemmas.{accepted-append}
+use Rattle.delay_model.proofs.Lists.{AllPairs-append, AllPairs-nil}
+use Rattle.delay_report.specs.declared.replies.Reply.{Reply}
+use Rattle.information_service.specs.Lines.{said_by, messages_of, by_names, accepted_of, names_after}
+use Rattle.information_service.specs.Output.{IsReplyToResolved}
+use Rattle.message_reader.specs.declared.bad_line.BadLine.{BadLine}
+use Rattle.message_reader.specs.declared.resolve_queries.AskedQuery.{AskedQuery}
+use Rattle.message_reader.specs.declared.wire.Line.{Line as Spoken}
+use Rattle.message_reader.specs.declared.wire.Line.TheVariants.{Message as Says, Query as Asks, Flush}
+use Rattle.message_reader.specs.Lines.{message_in}
+use Rattle.message_reader.specs.ResolvedQueries.{query_resolved}
+use Rattle.mt_io.specs.Lines.{Line}
+use Rattle.schedule_build.specs.Directory.{Names}
+use Rattle.query_crew.specs.Served.{IsReplyAt, shown_count, shown_to, shown_counts, AreWindowReplies, AreRepliesFrom, replies_of, text_of_replies, text_from, AreServed}
+use Rattle.query_crew.specs.Windows.{with_last}
+
+-- ---- accepted messages
+
+-- the accepted messages of more lines begin with those of the first lines
+abbrev Later : Network → Names → State → List Line → List Line → List Message
+Later nw names st before w =
+    accepted nw by_names (after_messages st (accepted_of nw names st before)) (names_after nw names st before) (messages_of w)
+
+accepted-more : (nw : Network) (names : Names) (st : State) (before w : List Line) → accepted_of nw names st (before ++ w) ≡ accepted_of nw names st before ++ Later nw names st before w
+accepted-more nw names st before w =
+    ap (accepted nw by_names st names) (filter_map-append (λ (x : Line). message_in (said_by x)) before w) ∙ accepted-append nw by_names st names (messages_of before) (messages_of w)
+
+-- so they are no fewer
+pub accepted-rise : (nw : Network) (names : Names) (st : State) (before w : List Line) → length (accepted_of nw names st before) ≤ length (accepted_of nw names st (before ++ w))
+accepted-rise nw names st before w =
+    omega (arith, ap length (accepted-more nw names st before w), length-append (accepted_of nw names st before) (Later nw names st before w))
+
+-- and the first of them are the first of those of all lines
+pub accepted-first : (nw : Network) (names : Names) (st : State) (lines later : List Line) (count : ℕ) → count ≤ length (accepted_of nw names st lines) → take count (accepted_of nw names st (lines ++ later)) ≡ take count (accepted_of nw names st lines)
+accepted-first nw names st lines later count few =
+    ap (take count) (accepted-more nw names st lines later) ∙ take-append-le count (accepted_of nw names st lines) (Later nw names st lines later) few
+
+-- ---- counts that are shown
+
+-- those to lines and to more lines
+shown-append : (xs ys : List Line) (rs ss : List Reply) → length rs ≡ length xs → shown_counts (xs ++ ys) (rs ++ ss) ≡ shown_counts xs rs ++ shown_counts ys ss
+shown-append [] ys [] ss same = refl
+shown-append [] ys (r ∷ rs) ss same = absurd (omega (arith, same))
+shown-append (x ∷ xs) ys [] ss same = absurd (omega (arith, same))
+shown-append (x ∷ xs) ys (r ∷ rs) ss same =
+    ap (λ (l : List (Answer (List ℕ))). shown_to (said_by x) r ++ l) (shown-append xs ys rs ss (omega (arith, same))) ∙ sym (append_assoc (shown_to (said_by x) r) (shown_counts xs rs) (shown_counts ys ss))
+
+-- what holds of the counts of each line holds of all
+shown-each : (P : Answer (List ℕ) → Type 0) (xs : List Line) (rs : List Reply) → ((place : ℕ) (x : Line) (r : Reply) → slice_get xs place ≡ Some x → slice_get rs place ≡ Some r → All P (shown_to (said_by x) r)) → All P (shown_counts xs rs)
+shown-each P [] rs each = All-nil P
+shown-each P (x ∷ xs) [] each = All-nil P
+shown-each P (x ∷ xs) (r ∷ rs) each =
+    All-append P (shown_to (said_by x) r) (shown_counts xs rs) (each 0 x r refl refl) (shown-each P xs rs (λ place y s at_line at_reply. each (suc place) y s at_line at_reply))
+
+-- the count lies between these two
+abbrev LiesWithin : ℕ → ℕ → Answer (List ℕ) → Type 0
+LiesWithin lower upper a = (lower ≤ a.count) × (a.count ≤ upper)
+
+-- the count that a reply shows to a client
+abbrev shown_by : List ℕ → Reply → List (Answer (List ℕ))
+shown_by client reply = option_map_or (λ n. record { client = client; count = n } ∷ []) (shown_count reply) []
+
+one-within : (client : List ℕ) (lower upper count : ℕ) → lower ≤ count → count ≤ upper → All (LiesWithin lower upper) (record { client = client; count = count } ∷ [])
+one-within client lower upper count low up =
+    All-cons (LiesWithin lower upper) (record { client = client; count = count }) [] (low, up) (All-nil (LiesWithin lower upper))
+
+-- a reply to a query shows the count after which it is given
+query-count : (nw : Network) (st : State) (client : List ℕ) (lower upper count line : ℕ) (asked : Result AskedQuery BadLine) (reply : Reply) → IsReplyToResolved nw st count line asked reply → lower ≤ count → count ≤ upper
+    → All (LiesWithin lower upper) (shown_by client reply)
+query-count nw st client lower upper count line (Ok asked) reply (inl shows) low up =
+    subst (λ (r : Reply). All (LiesWithin lower upper) (shown_by client r)) (sym shows.2) (one-within client lower upper count low up)
+query-count nw st client lower upper count line (Ok asked) reply (inr none) low up =
+    subst (λ (r : Reply). All (LiesWithin lower upper) (shown_by client r)) (sym none.0) (one-within client lower upper count low up)
+query-count nw st client lower upper count line (Err b) reply is low up =
+    subst (λ (r : Reply). All (LiesWithin lower upper) (shown_by client r)) (sym is) (All-nil (LiesWithin lower upper))
+
+-- the counts of a window lie between those of messages accepted at its start and at its end
+line-within : (nw : Network) (names : Names) (st : State) (before w : List Line) (place : ℕ) (said : Result Spoken BadLine) (reply : Reply) → IsReplyAt nw names st before w place said reply
+    → All (LiesWithin (length (accepted_of nw names st before)) (length (accepted_of nw names st (before ++ w)))) (shown_to said reply)
+line-within nw names st before w place (Ok (Asks q)) reply is =
+    query-count nw (after_messages st (take is.count (accepted_of nw names st (before ++ w)))) q.client (length (accepted_of nw names st before)) (length (accepted_of nw names st (before ++ w))) is.count (length before + (place + 1)) (query_resolved names q) reply
+    is.answers is.lower is.upper
+line-within nw names st before w place (Ok (Says m)) reply is = All-nil (LiesWithin (length (accepted_of nw names st before)) (length (accepted_of nw names st (before ++ w))))
+line-within nw names st before w place (Ok Flush) reply is = All-nil (LiesWithin (length (accepted_of nw names st before)) (length (accepted_of nw names st (before ++ w))))
+line-within nw names st before w place (Err b) reply is = All-nil (LiesWithin (length (accepted_of nw names st before)) (length (accepted_of nw names st (before ++ w))))
+
+window-within : (nw : Network) (names : Names) (st : State) (before w : List Line) (rs : List Reply) → AreWindowReplies nw names st before w rs
+    → All (LiesWithin (length (accepted_of nw names st before)) (length (accepted_of nw names st (before ++ w)))) (shown_counts w rs)
+window-within nw names st before w rs h =
+    shown-each (LiesWithin (length (accepted_of nw names st before)) (length (accepted_of nw names st (before ++ w)))) w rs
+    (λ place x r at_line at_reply. line-within nw names st before w place (said_by x) r (h.are place x r at_line at_reply))
+
+-- the counts of windows are not below that of the messages accepted before them
+abbrev IsNotBelow : ℕ → Answer (List ℕ) → Type 0
+IsNotBelow least a = least ≤ a.count
+
+counts-above : (nw : Network) (names : Names) (st : State) (before : List Line) (ws : List (List Line)) (rs : List (List Reply)) → AreRepliesFrom nw names st before ws rs
+    → All (IsNotBelow (length (accepted_of nw names st before))) (shown_counts (lines_of ws) (replies_of rs))
+counts-above nw names st before [] [] h = All-nil (IsNotBelow (length (accepted_of nw names st before)))
+counts-above nw names st before [] (r ∷ rs) h = absurd h
+counts-above nw names st before (w ∷ ws) [] h = absurd h
+counts-above nw names st before (w ∷ ws) (r ∷ rs) h =
+    let least = length (accepted_of nw names st before) in
+    let rise = accepted-rise nw names st before w in
+    let here = window-within nw names st before w r h.0 in
+    let later = counts-above nw names st (before ++ w) ws rs h.1 in
+    subst (All (IsNotBelow least)) (sym (shown-append w (lines_of ws) r (replies_of rs) h.0.one_each))
+    (All-append (IsNotBelow least) (shown_counts w r) (shown_counts (lines_of ws) (replies_of rs)) (λ k d l. let at = here k d l in at.0) (λ k d l. omega (arith, rise, later k d l)))
+
+-- along all lines the counts that are shown to one client do not fall
+pub counts-along : (nw : Network) (names : Names) (st : State) (before : List Line) (ws : List (List Line)) (rs : List (List Reply)) → AreRepliesFrom nw names st before ws rs
+    → CountsDoNotFall (shown_counts (lines_of ws) (replies_of rs))
+counts-along nw names st before [] [] h = AllPairs-nil (λ (a b : Answer (List ℕ)). a.client ≡ b.client → a.count ≤ b.count)
+counts-along nw names st before [] (r ∷ rs) h = absurd h
+counts-along nw names st before (w ∷ ws) [] h = absurd h
+counts-along nw names st before (w ∷ ws) (r ∷ rs) h =
+    let here = window-within nw names st before w r h.0 in
+    let later = counts-above nw names st (before ++ w) ws rs h.1 in
+    subst CountsDoNotFall (sym (shown-append w (lines_of ws) r (replies_of rs) h.0.one_each))
+    (AllPairs-append (λ (a b : Answer (List ℕ)). a.client ≡ b.client → a.count ≤ b.count) (shown_counts w r) (shown_counts (lines_of ws) (replies_of rs)) h.0.counts
+    (counts-along nw names st (before ++ w) ws rs h.1)
+    (λ i d l j e m same. let at = here i d l in omega (arith, at.1, later j e m)))
+
+-- ---- one window more
+
+replies-more : (nw : Network) (names : Names) (st : State) (before : List Line) (ws : List (List Line)) (rs : List (List Reply)) (w : List Line) (r : List Reply)
+    → AreRepliesFrom nw names st before ws rs → AreWindowReplies nw names st (before ++ lines_of ws) w r → AreRepliesFrom nw names st before (ws ++ w ∷ []) (rs ++ r ∷ [])
+replies-more nw names st before [] [] w r h one = (subst (λ (b : List Line). AreWindowReplies nw names st b w r) (append-nil before) one, tt)
+replies-more nw names st before [] (s ∷ rs) w r h one = absurd h
+replies-more nw names st before (v ∷ ws) [] w r h one = absurd h
+replies-more nw names st before (v ∷ ws) (s ∷ rs) w r h one = (
+  h.0,
+  replies-more nw names st (before ++ v) ws rs w r h.1 (subst (λ (b : List Line). AreWindowReplies nw names st b w r) (sym (append_assoc before v (lines_of ws))) one),
+)
+
+text-more : (nw : Network) (names : Names) (st : State) (before : List Line) (ws : List (List Line)) (rs : List (List Reply)) (w : List Line) (r : List Reply) → AreRepliesFrom nw names st before ws rs
+    → text_from nw names st before (ws ++ w ∷ []) (rs ++ r ∷ []) ≡ text_from nw names st before ws rs ++ text_of_replies (names_after nw names st (before ++ lines_of ws ++ w)) r
+text-more nw names st before [] [] w r h =
+    append-nil (text_of_replies (names_after nw names st (before ++ w)) r) ∙ ap (λ (b : List Line). text_of_replies (names_after nw names st (b ++ w)) r) (sym (append-nil before))
+text-more nw names st before [] (s ∷ rs) w r h = absurd h
+text-more nw names st before (v ∷ ws) [] w r h = absurd h
+text-more nw names st before (v ∷ ws) (s ∷ rs) w r h =
+    let here = text_of_replies (names_after nw names st (before ++ v)) s in
+    ap (λ (b : List ℕ). here ++ b) (text-more nw names st (before ++ v) ws rs w r h.1)
+    ∙ sym (append_assoc here (text_from nw names st (before ++ v) ws rs) (text_of_replies (names_after nw names st (before ++ v ++ lines_of ws ++ w)) r))
+    ∙ ap (λ (b : List Line). (here ++ text_from nw names st (before ++ v) ws rs) ++ text_of_replies (names_after nw names st (b ++ w)) r) (append_assoc before v (lines_of ws))
+
+-- replies and their texts, whose counts follow
+pub served-by : (nw : Network) (names : Names) (st : State) (ws : List (List Line)) (rs : List (List Reply)) (bytes : List ℕ) → AreRepliesFrom nw names st [] ws rs → bytes ≡ text_from nw names st [] ws rs → AreServed nw names st ws bytes
+served-by nw names st ws rs bytes are text = record { replies = rs; are = are; counts = counts-along nw names st [] ws rs are; text = text }
+
+pub none-served : (nw : Network) (names : Names) (st : State) → AreServed nw names st [] []
+none-served nw names st = served-by nw names st [] [] [] tt refl
+
+pub window-more : (nw : Network) (names : Names) (st : State) (ws : List (List Line)) (w : List Line) (bytes : List ℕ) (r : List Reply) → AreServed nw names st ws bytes → AreWindowReplies nw names st (lines_of ws) w r
+    → AreServed nw names st (ws ++ w ∷ []) (bytes ++ text_of_replies (names_after nw names st (lines_of ws ++ w)) r)
+window-more nw names st ws w bytes r h one =
+    served-by nw names st (ws ++ w ∷ []) (h.replies ++ r ∷ []) (bytes ++ text_of_replies (names_after nw names st (lines_of ws ++ w)) r) (replies-more nw names st [] ws h.replies w r h.are one)
+    (ap (λ (b : List ℕ). b ++ text_of_replies (names_after nw names st (lines_of ws ++ w)) r) h.text ∙ sym (text-more nw names st [] ws h.replies w r h.are))
+
+-- the last lines are a window if there are any
+pub last-window : (nw : Network) (names : Names) (st : State) (ws : List (List Line)) (last : List Line) (bytes : List ℕ) (r : List Reply) → AreServed nw names st ws bytes → AreWindowReplies nw names st (lines_of ws) last r
+    → AreServed nw names st (with_last ws last) (bytes ++ text_of_replies (names_after nw names st (lines_of ws ++ last)) r)
+last-window nw names st ws [] bytes [] h one = subst (AreServed nw names st ws) (sym (append-nil bytes)) h
+last-window nw names st ws [] bytes (s ∷ r) h one = absurd (omega (arith, one.one_each))
+last-window nw names st ws (x ∷ xs) bytes r h one = window-more nw names st ws (x ∷ xs) bytes r h one

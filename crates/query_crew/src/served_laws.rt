@@ -1,0 +1,64 @@
+//! What holds of the replies that are written window after window.
+
+ghost use Rattle.std.specs.Prelude.{◌≡◌, ◌≤◌, ◌↔◌, ◌++◌, ◌∷◌, [], List, ℕ, length, take};
+ghost use Rattle.delay_model.specs.declared.network.Network.{Network};
+ghost use Rattle.delay_model.specs.declared.state.State.{State};
+ghost use Rattle.delay_model.specs.Windows.{CountsDoNotFall, lines_of, single_windows};
+ghost use Rattle.delay_report.specs.declared.replies.Reply.{Reply};
+ghost use Rattle.information_service.specs.Lines.{accepted_of, names_after};
+ghost use Rattle.information_service.specs.Output.{AreReplies};
+ghost use Rattle.message_reader.specs.declared.wire.WireQuery.{WireQuery};
+ghost use Rattle.message_reader.specs.ResolvedQueries.{query_resolved};
+ghost use Rattle.mt_io.specs.Lines.{Line};
+ghost use Rattle.schedule_build.specs.Directory.{Names};
+ghost use Rattle.query_crew.specs.Served.{shown_counts, AreWindowReplies, AreRepliesFrom, replies_of, text_of_replies, AreServed};
+ghost use Rattle.query_crew.specs.Windows.{with_last};
+
+/// Where each window has its replies, the counts that are shown to one client do not fall along all
+/// lines. They do not fall within a window, and a count of a later window is not below the number
+/// of messages that are accepted by the end of an earlier one.
+pub fn counts_do_not_fall_along_all_lines()
+    ensures { (nw : Network) (names : Names) (st : State) (ws : List (List Line))
+        (replies : List (List Reply)) → AreRepliesFrom nw names st [] ws replies
+        → CountsDoNotFall (shown_counts (lines_of ws) (replies_of replies)) }
+{}
+
+/// For no windows nothing is written. For one window more the texts of its replies are written
+/// behind what is written for the windows before it. Likewise for the last lines of an input,
+/// which are a window if there are any.
+pub fn one_window_more_is_served()
+    ensures none { (nw : Network) (names : Names) (st : State) → AreServed nw names st [] [] }
+    ensures more { (nw : Network) (names : Names) (st : State) (ws : List (List Line))
+        (window : List Line) (bytes : List ℕ) (replies : List Reply)
+        → AreServed nw names st ws bytes
+        → AreWindowReplies nw names st (lines_of ws) window replies
+        → AreServed nw names st (ws ++ window ∷ [])
+        (bytes ++ text_of_replies (names_after nw names st (lines_of ws ++ window)) replies) }
+    ensures last { (nw : Network) (names : Names) (st : State) (ws : List (List Line))
+        (last : List Line) (bytes : List ℕ) (replies : List Reply)
+        → AreServed nw names st ws bytes → AreWindowReplies nw names st (lines_of ws) last replies
+        → AreServed nw names st (with_last ws last)
+        (bytes ++ text_of_replies (names_after nw names st (lines_of ws ++ last)) replies) }
+{}
+
+/// Where each line is a window of its own, what is written is one reply line after the other, each
+/// in the state after the lines before it.
+pub fn single_windows_are_answered_line_by_line()
+    ensures { (nw : Network) (names : Names) (st : State) (lines : List Line) (bytes : List ℕ) →
+        AreServed nw names st (single_windows lines) bytes ↔ AreReplies nw names st [] lines bytes }
+{}
+
+/// The first of the messages that are accepted up to the end of a window are the first of all that
+/// the input has: what stands behind the window does not change them.
+pub fn first_messages_are_those_of_the_input()
+    ensures { (nw : Network) (names : Names) (st : State) (lines later : List Line) (count : ℕ) →
+        count ≤ length (accepted_of nw names st lines)
+        → take count (accepted_of nw names st (lines ++ later))
+        ≡ take count (accepted_of nw names st lines) }
+{}
+
+/// What a query asks does not depend on when its names are looked up.
+pub fn queries_are_resolved_by_the_names_of_the_feed()
+    ensures { (nw : Network) (names : Names) (st : State) (lines : List Line) (q : WireQuery) →
+        query_resolved (names_after nw names st lines) q ≡ query_resolved names q }
+{}
