@@ -1,5 +1,5 @@
 -- Counts along windows, and one window more.
-use Rattle.std.proofs.Common.{◌≡◌, ◌≤◌, ℕ, suc, ◌+◌, List, [], ◌∷◌, ◌++◌, length, Some, Result, Ok, Err, refl, sym, ◌∙◌, ap, subst, arith, inl, inr, length-append, append_assoc, take}
+use Rattle.std.proofs.Common.{◌≡◌, ◌<◌, ◌≤◌, ℕ, suc, ◌+◌, List, [], ◌∷◌, ◌++◌, length, Option, Some, None, Result, Ok, Err, refl, sym, ◌∙◌, ap, subst, arith, inl, inr, length-append, append_assoc, take}
 use Rattle.std.specs.List.{All, AllPairs, slice_get}
 use Rattle.std.specs.Option.{option_map_or}
 use Rattle.std.proofs.lemmas.List.{append-nil, take-append-le}
@@ -18,12 +18,14 @@ use Rattle.message_reader.specs.declared.bad_line.BadLine.{BadLine}
 use Rattle.message_reader.specs.declared.resolve_queries.AskedQuery.{AskedQuery}
 use Rattle.message_reader.specs.declared.wire.Line.{Line as Spoken}
 use Rattle.message_reader.specs.declared.wire.Line.TheVariants.{Message as Says, Query as Asks, Flush}
+use Rattle.message_reader.specs.declared.wire.WireQuery.{WireQuery}
 use Rattle.message_reader.specs.Lines.{message_in}
 use Rattle.message_reader.specs.ResolvedQueries.{query_resolved}
 use Rattle.mt_io.specs.Lines.{Line}
 use Rattle.schedule_build.specs.Directory.{Names}
-use Rattle.query_crew.specs.Served.{IsReplyAt, shown_count, shown_to, shown_counts, AreWindowReplies, AreRepliesFrom, replies_of, text_of_replies, text_from, AreServed}
-use Rattle.query_crew.specs.Windows.{with_last}
+use Rattle.query_crew.specs.Served.{IsReplyAt, shown_count, shown_to, shown_counts, AreWindowReplies, AreRepliesFrom, replies_of, text_of_replies, text_from, AreServed, IsServed}
+use Rattle.query_crew.specs.Windows.{with_last, AreReadWindows}
+use Rattle.query_crew.proofs.Ends.{read-windows}
 
 -- ---- accepted messages
 
@@ -62,6 +64,46 @@ shown-each P [] rs each = All-nil P
 shown-each P (x ∷ xs) [] each = All-nil P
 shown-each P (x ∷ xs) (r ∷ rs) each =
     All-append P (shown_to (said_by x) r) (shown_counts xs rs) (each 0 x r refl refl) (shown-each P xs rs (λ place y s at_line at_reply. each (suc place) y s at_line at_reply))
+
+-- what holds of each count that a reply to a query shows holds of those that any reply shows
+count-by : (P : Answer (List ℕ) → Type 0) (client : List ℕ) (o : Option ℕ) → ((n : ℕ) → o ≡ Some n → P (record { client = client; count = n })) → All P (option_map_or (λ n. record { client = client; count = n } ∷ []) o [])
+count-by P client None h = All-nil P
+count-by P client (Some n) h = All-cons P (record { client = client; count = n }) [] (h n refl) (All-nil P)
+
+shown-by : (P : Answer (List ℕ) → Type 0) (said : Result Spoken BadLine) (reply : Reply) → ((q : WireQuery) (n : ℕ) → said ≡ Ok (Asks q) → shown_count reply ≡ Some n → P (record { client = q.client; count = n })) → All P (shown_to said reply)
+shown-by P (Ok (Asks q)) reply h = count-by P q.client (shown_count reply) (λ n shows. h q n refl shows)
+shown-by P (Ok (Says w)) reply h = All-nil P
+shown-by P (Ok Flush) reply h = All-nil P
+shown-by P (Err b) reply h = All-nil P
+
+-- a reply shows one count at most
+abbrev DoesNotFall : Answer (List ℕ) → Answer (List ℕ) → Type 0
+DoesNotFall a b = a.client ≡ b.client → a.count ≤ b.count
+
+count-alone : (client : List ℕ) (o : Option ℕ) → CountsDoNotFall (option_map_or (λ n. record { client = client; count = n } ∷ []) o [])
+count-alone client None = AllPairs-nil DoesNotFall
+count-alone client (Some n) = λ i j d less l. absurd (omega (arith, less, l))
+
+shown-alone : (said : Result Spoken BadLine) (reply : Reply) → CountsDoNotFall (shown_to said reply)
+shown-alone (Ok (Asks q)) reply = count-alone q.client (shown_count reply)
+shown-alone (Ok (Says w)) reply = AllPairs-nil DoesNotFall
+shown-alone (Ok Flush) reply = AllPairs-nil DoesNotFall
+shown-alone (Err b) reply = AllPairs-nil DoesNotFall
+
+-- counts do not fall where those of each two queries of one client do not
+pub counts-by-place : (xs : List Line) (rs : List Reply)
+    → ((i j : ℕ) (x y : Line) (r s : Reply) (q p : WireQuery) (m n : ℕ) → i < j → slice_get xs i ≡ Some x → slice_get xs j ≡ Some y → slice_get rs i ≡ Some r → slice_get rs j ≡ Some s
+    → said_by x ≡ Ok (Asks q) → said_by y ≡ Ok (Asks p) → shown_count r ≡ Some m → shown_count s ≡ Some n → q.client ≡ p.client → m ≤ n)
+    → CountsDoNotFall (shown_counts xs rs)
+counts-by-place [] rs h = AllPairs-nil DoesNotFall
+counts-by-place (x ∷ xs) [] h = AllPairs-nil DoesNotFall
+counts-by-place (x ∷ xs) (r ∷ rs) h =
+    AllPairs-append DoesNotFall (shown_to (said_by x) r) (shown_counts xs rs) (shown-alone (said_by x) r)
+    (counts-by-place xs rs (λ i j y z s t q p m n less at_y at_z at_s at_t. h (suc i) (suc j) y z s t q p m n (omega (arith, less)) at_y at_z at_s at_t))
+    (shown-by (λ a. All (DoesNotFall a) (shown_counts xs rs)) (said_by x) r (λ q m asks shows.
+    shown-each (DoesNotFall (record { client = q.client; count = m })) xs rs (λ j y s at_y at_s.
+    shown-by (DoesNotFall (record { client = q.client; count = m })) (said_by y) s (λ p n asks_too shows_too same.
+    h 0 (suc j) x y r s q p m n (omega arith) refl at_y refl at_s asks asks_too shows shows_too same))))
 
 -- the count lies between these two
 abbrev LiesWithin : ℕ → ℕ → Answer (List ℕ) → Type 0
@@ -121,14 +163,14 @@ counts-above nw names st before (w ∷ ws) (r ∷ rs) h =
 -- along all lines the counts that are shown to one client do not fall
 pub counts-along : (nw : Network) (names : Names) (st : State) (before : List Line) (ws : List (List Line)) (rs : List (List Reply)) → AreRepliesFrom nw names st before ws rs
     → CountsDoNotFall (shown_counts (lines_of ws) (replies_of rs))
-counts-along nw names st before [] [] h = AllPairs-nil (λ (a b : Answer (List ℕ)). a.client ≡ b.client → a.count ≤ b.count)
+counts-along nw names st before [] [] h = AllPairs-nil DoesNotFall
 counts-along nw names st before [] (r ∷ rs) h = absurd h
 counts-along nw names st before (w ∷ ws) [] h = absurd h
 counts-along nw names st before (w ∷ ws) (r ∷ rs) h =
     let here = window-within nw names st before w r h.0 in
     let later = counts-above nw names st (before ++ w) ws rs h.1 in
     subst CountsDoNotFall (sym (shown-append w (lines_of ws) r (replies_of rs) h.0.one_each))
-    (AllPairs-append (λ (a b : Answer (List ℕ)). a.client ≡ b.client → a.count ≤ b.count) (shown_counts w r) (shown_counts (lines_of ws) (replies_of rs)) h.0.counts
+    (AllPairs-append DoesNotFall (shown_counts w r) (shown_counts (lines_of ws) (replies_of rs)) h.0.counts
     (counts-along nw names st (before ++ w) ws rs h.1)
     (λ i d l j e m same. let at = here i d l in omega (arith, at.1, later j e m)))
 
@@ -170,8 +212,13 @@ window-more nw names st ws w bytes r h one =
     (ap (λ (b : List ℕ). b ++ text_of_replies (names_after nw names st (lines_of ws ++ w)) r) h.text ∙ sym (text-more nw names st [] ws h.replies w r h.are))
 
 -- the last lines are a window if there are any
-pub last-window : (nw : Network) (names : Names) (st : State) (ws : List (List Line)) (last : List Line) (bytes : List ℕ) (r : List Reply) → AreServed nw names st ws bytes → AreWindowReplies nw names st (lines_of ws) last r
+last-window : (nw : Network) (names : Names) (st : State) (ws : List (List Line)) (last : List Line) (bytes : List ℕ) (r : List Reply) → AreServed nw names st ws bytes → AreWindowReplies nw names st (lines_of ws) last r
     → AreServed nw names st (with_last ws last) (bytes ++ text_of_replies (names_after nw names st (lines_of ws ++ last)) r)
 last-window nw names st ws [] bytes [] h one = subst (AreServed nw names st ws) (sym (append-nil bytes)) h
 last-window nw names st ws [] bytes (s ∷ r) h one = absurd (omega (arith, one.one_each))
 last-window nw names st ws (x ∷ xs) bytes r h one = window-more nw names st ws (x ∷ xs) bytes r h one
+
+pub input-served : (nw : Network) (names : Names) (st : State) (ws : List (List Line)) (last : List Line) (bytes : List ℕ) (r : List Reply) → AreReadWindows ws last → AreServed nw names st ws bytes → AreWindowReplies nw names st (lines_of ws) last r
+    → IsServed nw names st (lines_of ws ++ last) (bytes ++ text_of_replies (names_after nw names st (lines_of ws ++ last)) r)
+input-served nw names st ws last bytes r read h one =
+    subst (λ (vs : List (List Line)). AreServed nw names st vs (bytes ++ text_of_replies (names_after nw names st (lines_of ws ++ last)) r)) (sym (read-windows ws last read)) (last-window nw names st ws last bytes r h one)

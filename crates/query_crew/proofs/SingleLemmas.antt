@@ -28,7 +28,7 @@ use Rattle.mt_io.specs.Lines.{Line}
 use Rattle.schedule_build.specs.Directory.{Names}
 use Rattle.query_crew.specs.Served.{IsQueryReply, IsReplyAt, shown_count, shown_to, shown_counts, AreWindowReplies, AreRepliesFrom, text_of_replies, text_from, AreServed}
 use Rattle.query_crew.proofs.KnownNames.{asked-by-feed, reply-text}
-use Rattle.query_crew.proofs.ServedLemmas.{served-by}
+use Rattle.query_crew.proofs.ServedLemmas.{served-by, counts-by-place}
 
 -- ---- one line
 
@@ -85,19 +85,8 @@ said-back nw names st before x (Err b) reply e is = is
 
 -- ---- a window of one line
 
-one-at-most : (o : Option ℕ) (f : ℕ → Answer (List ℕ)) → length (option_map_or (λ n. f n ∷ []) o []) ≤ 1
-one-at-most None f = omega arith
-one-at-most (Some n) f = omega arith
-
--- its one reply shows one count at most
-one-count : (said : Result Spoken BadLine) (reply : Reply) → length (shown_to said reply) ≤ 1
-one-count (Ok (Asks q)) reply = one-at-most (shown_count reply) (λ n. record { client = q.client; count = n })
-one-count (Ok (Says w)) reply = omega arith
-one-count (Ok Flush) reply = omega arith
-one-count (Err b) reply = omega arith
-
 one-does-not-fall : (x : Line) (reply : Reply) → CountsDoNotFall (shown_counts (x ∷ []) (reply ∷ []))
-one-does-not-fall x reply = λ i j d less l. absurd (omega (arith, less, l, one-count (said_by x) reply, length-append (shown_to (said_by x) reply) []))
+one-does-not-fall x reply = counts-by-place (x ∷ []) (reply ∷ []) (λ i j y z r s q p m n less at_y at_z _ _ _ _ _ _ _. absurd (omega (arith, less, slice_get_within (x ∷ []) j z at_z)))
 
 alone-at : (nw : Network) (names : Names) (st : State) (before : List Line) (x : Line) (reply : Reply) → IsReplyAt nw names st before (x ∷ []) 0 (said_by x) reply
     → (place : ℕ) (y : Line) (r : Reply) → slice_get (x ∷ []) place ≡ Some y → slice_get (reply ∷ []) place ≡ Some r → IsReplyAt nw names st before (x ∷ []) place (said_by y) r

@@ -11,8 +11,8 @@ ghost use Rattle.message_reader.specs.declared.wire.WireQuery.{WireQuery};
 ghost use Rattle.message_reader.specs.ResolvedQueries.{query_resolved};
 ghost use Rattle.mt_io.specs.Lines.{Line};
 ghost use Rattle.schedule_build.specs.Directory.{Names};
-ghost use Rattle.query_crew.specs.Served.{shown_counts, AreWindowReplies, AreRepliesFrom, replies_of, text_of_replies, AreServed};
-ghost use Rattle.query_crew.specs.Windows.{with_last};
+ghost use Rattle.query_crew.specs.Served.{shown_counts, AreWindowReplies, AreRepliesFrom, replies_of, text_of_replies, AreServed, IsServed};
+ghost use Rattle.query_crew.specs.Windows.{AreReadWindows};
 
 /// Where each window has its replies, the counts that are shown to one client do not fall along all
 /// lines. They do not fall within a window, and a count of a later window is not below the number
@@ -24,8 +24,8 @@ pub fn counts_do_not_fall_along_all_lines()
 {}
 
 /// For no windows nothing is written. For one window more the texts of its replies are written
-/// behind what is written for the windows before it. Likewise for the last lines of an input,
-/// which are a window if there are any.
+/// behind what is written for the windows before it. Likewise for the last lines of an input, which
+/// are a window if there are any: then all lines of the input are served.
 pub fn one_window_more_is_served()
     ensures none { (nw : Network) (names : Names) (st : State) → AreServed nw names st [] [] }
     ensures more { (nw : Network) (names : Names) (st : State) (ws : List (List Line))
@@ -34,10 +34,10 @@ pub fn one_window_more_is_served()
         → AreWindowReplies nw names st (lines_of ws) window replies
         → AreServed nw names st (ws ++ window ∷ [])
         (bytes ++ text_of_replies (names_after nw names st (lines_of ws ++ window)) replies) }
-    ensures last { (nw : Network) (names : Names) (st : State) (ws : List (List Line))
-        (last : List Line) (bytes : List ℕ) (replies : List Reply)
+    ensures input { (nw : Network) (names : Names) (st : State) (ws : List (List Line))
+        (last : List Line) (bytes : List ℕ) (replies : List Reply) → AreReadWindows ws last
         → AreServed nw names st ws bytes → AreWindowReplies nw names st (lines_of ws) last replies
-        → AreServed nw names st (with_last ws last)
+        → IsServed nw names st (lines_of ws ++ last)
         (bytes ++ text_of_replies (names_after nw names st (lines_of ws ++ last)) replies) }
 {}
 
