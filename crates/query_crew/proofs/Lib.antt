@@ -3,4 +3,5 @@ pub mod Ends
 pub mod Filling
 pub mod ServedLemmas
 pub mod KnownNames
+pub mod InOrder
 pub mod SingleLemmas

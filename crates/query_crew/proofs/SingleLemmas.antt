@@ -27,7 +27,8 @@ use Rattle.mt_io.specs.Lines.{Line}
 use Rattle.schedule_build.specs.Directory.{Names}
 use Rattle.query_crew.specs.Served.{IsQueryReply, IsReplyAt, shown_counts, AreWindowReplies, AreRepliesFrom, text_of_replies, text_from, AreServed}
 use Rattle.query_crew.proofs.KnownNames.{asked-by-feed, reply-text}
-use Rattle.query_crew.proofs.ServedLemmas.{served-by, counts-by-place}
+use Rattle.query_crew.proofs.InOrder.{window-in-order}
+use Rattle.query_crew.proofs.ServedLemmas.{served-by}
 
 -- ---- one line
 
@@ -46,19 +47,6 @@ IsReplyBehind nw names st before said reply =
 abbrev IsReplyAfter : Network → State → ℕ → List Message → ℕ → WireQuery → Names → Reply → Type 0
 IsReplyAfter nw st count ms number q names reply = IsReplyToResolved nw (after_messages st (take count ms)) count number (query_resolved names q) reply
 
-query-there : (nw : Network) (names : Names) (st : State) (before : List Line) (x : Line) (q : WireQuery) (reply : Reply) → said_by x ≡ Ok (Asks q) → IsReplyBehind nw names st before (Ok (Asks q)) reply → IsQueryReply nw names st before (x ∷ []) (length before + 1) q reply
-query-there nw names st before x q reply e is =
-    let ms = accepted_of nw names st before in
-    let same = none-more nw names st before x q e in
-    record {
-      count = length ms;
-      lower = omega arith;
-      upper = omega (arith, ap length same);
-      answers = subst (λ (l : List Message). IsReplyAfter nw st (length ms) l (length before + 1) q names reply) (sym same)
-          (subst (λ (l : List Message). IsReplyToResolved nw (after_messages st l) (length ms) (length before + 1) (query_resolved names q) reply) (sym (take-length ms))
-          (subst (λ (asked : Result AskedQuery BadLine). IsReplyToResolved nw (after_messages st ms) (length ms) (length before + 1) asked reply) (asked-by-feed nw names st before q) is));
-    }
-
 query-back : (nw : Network) (names : Names) (st : State) (before : List Line) (x : Line) (q : WireQuery) (reply : Reply) → said_by x ≡ Ok (Asks q) → IsQueryReply nw names st before (x ∷ []) (length before + 1) q reply → IsReplyBehind nw names st before (Ok (Asks q)) reply
 query-back nw names st before x q reply e h =
     let ms = accepted_of nw names st before in
@@ -70,12 +58,6 @@ query-back nw names st before x q reply e h =
     subst (λ (asked : Result AskedQuery BadLine). IsReplyToResolved nw (after_messages st ms) (length ms) (length before + 1) asked reply) (sym (asked-by-feed nw names st before q))
     (subst (λ (l : List Message). IsReplyToResolved nw (after_messages st l) (length ms) (length before + 1) (query_resolved names q) reply) (take-length ms) here)
 
-said-there : (nw : Network) (names : Names) (st : State) (before : List Line) (x : Line) (said : Result Spoken BadLine) (reply : Reply) → said_by x ≡ said → IsReplyBehind nw names st before said reply → IsReplyAt nw names st before (x ∷ []) 0 said reply
-said-there nw names st before x (Ok (Asks q)) reply e is = query-there nw names st before x q reply e is
-said-there nw names st before x (Ok (Says w)) reply e is = subst (λ (b : List Line). let t = service_after nw names st b in IsReply t.network t.names t.state t.count (length before + 1) (Ok (Says w)) reply) (sym (append-nil before)) is
-said-there nw names st before x (Ok Flush) reply e is = subst (λ (b : List Line). let t = service_after nw names st b in IsReply t.network t.names t.state t.count (length before + 1) (Ok Flush) reply) (sym (append-nil before)) is
-said-there nw names st before x (Err b) reply e is = is
-
 said-back : (nw : Network) (names : Names) (st : State) (before : List Line) (x : Line) (said : Result Spoken BadLine) (reply : Reply) → said_by x ≡ said → IsReplyAt nw names st before (x ∷ []) 0 said reply → IsReplyBehind nw names st before said reply
 said-back nw names st before x (Ok (Asks q)) reply e is = query-back nw names st before x q reply e is
 said-back nw names st before x (Ok (Says w)) reply e is = subst (λ (b : List Line). let t = service_after nw names st b in IsReply t.network t.names t.state t.count (length before + 1) (Ok (Says w)) reply) (append-nil before) is
@@ -84,22 +66,16 @@ said-back nw names st before x (Err b) reply e is = is
 
 -- ---- a window of one line
 
-one-does-not-fall : (x : Line) (reply : Reply) → CountsDoNotFall (shown_counts (x ∷ []) (reply ∷ []))
-one-does-not-fall x reply = counts-by-place (x ∷ []) (reply ∷ []) (λ i j y z r s q p m n less at_y at_z _ _ _ _ _ _ _. absurd (omega (arith, less, slice_get_within (x ∷ []) j z at_z)))
-
-alone-at : (nw : Network) (names : Names) (st : State) (before : List Line) (x : Line) (reply : Reply) → IsReplyAt nw names st before (x ∷ []) 0 (said_by x) reply
-    → (place : ℕ) (y : Line) (r : Reply) → slice_get (x ∷ []) place ≡ Some y → slice_get (reply ∷ []) place ≡ Some r → IsReplyAt nw names st before (x ∷ []) place (said_by y) r
-alone-at nw names st before x reply is zero y r at_line at_reply =
-    subst (λ (z : Line). IsReplyAt nw names st before (x ∷ []) 0 (said_by z) r) (same_Some x y at_line) (subst (IsReplyAt nw names st before (x ∷ []) 0 (said_by x)) (same_Some reply r at_reply) is)
-alone-at nw names st before x reply is (suc place) y r at_line at_reply = absurd (omega (arith, slice_get_within (x ∷ []) (suc place) y at_line))
+alone-in-order : (nw : Network) (names : Names) (st : State) (before : List Line) (x : Line) (reply : Reply) → IsReplyTo (service_after nw names st before) (length before + 1) x reply
+    → (place : ℕ) (y : Line) (r : Reply) → slice_get (x ∷ []) place ≡ Some y → slice_get (reply ∷ []) place ≡ Some r → IsReplyTo (service_after nw names st (before ++ take place (x ∷ []))) (length before + (place + 1)) y r
+alone-in-order nw names st before x reply is zero y r at_y at_r =
+    subst (λ (z : Line). IsReplyTo (service_after nw names st (before ++ [])) (length before + 1) z r) (same_Some x y at_y)
+    (subst (IsReplyTo (service_after nw names st (before ++ [])) (length before + 1) x) (same_Some reply r at_r)
+    (subst (λ (l : List Line). IsReplyTo (service_after nw names st l) (length before + 1) x reply) (sym (append-nil before)) is))
+alone-in-order nw names st before x reply is (suc place) y r at_y at_r = absurd (omega (arith, slice_get_within (x ∷ []) (suc place) y at_y))
 
 window-there : (nw : Network) (names : Names) (st : State) (before : List Line) (x : Line) (reply : Reply) → IsReplyTo (service_after nw names st before) (length before + 1) x reply → AreWindowReplies nw names st before (x ∷ []) (reply ∷ [])
-window-there nw names st before x reply is =
-    record {
-      one_each = refl;
-      are = alone-at nw names st before x reply (said-there nw names st before x (said_by x) reply refl is);
-      counts = one-does-not-fall x reply;
-    }
+window-there nw names st before x reply is = window-in-order nw names st before (x ∷ []) (reply ∷ []) refl (alone-in-order nw names st before x reply is)
 
 -- ---- all windows
 

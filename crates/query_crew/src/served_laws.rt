@@ -1,12 +1,13 @@
 //! What holds of the replies that are written window after window.
 
-ghost use Rattle.std.specs.Prelude.{◌≡◌, ◌≤◌, ◌↔◌, ◌++◌, ◌∷◌, [], List, ℕ, length, take};
+ghost use Rattle.std.specs.Prelude.{◌≡◌, ◌≤◌, ◌↔◌, ◌+◌, ◌++◌, ◌∷◌, [], List, ℕ, Some, length, slice_get, take};
 ghost use Rattle.delay_model.specs.declared.network.Network.{Network};
 ghost use Rattle.delay_model.specs.declared.state.State.{State};
 ghost use Rattle.delay_model.specs.Windows.{CountsDoNotFall, lines_of, single_windows};
 ghost use Rattle.delay_report.specs.declared.replies.Reply.{Reply};
 ghost use Rattle.information_service.specs.Lines.{accepted_of, names_after};
-ghost use Rattle.information_service.specs.Output.{AreReplies};
+ghost use Rattle.information_service.specs.Output.{AreReplies, IsReplyTo};
+ghost use Rattle.information_service.specs.ServiceState.{service_after};
 ghost use Rattle.message_reader.specs.declared.wire.WireQuery.{WireQuery};
 ghost use Rattle.message_reader.specs.ResolvedQueries.{query_resolved};
 ghost use Rattle.mt_io.specs.Lines.{Line};
@@ -39,6 +40,18 @@ pub fn one_window_more_is_served()
         → AreServed nw names st ws bytes → AreWindowReplies nw names st (lines_of ws) last replies
         → IsServed nw names st (lines_of ws ++ last)
         (bytes ++ text_of_replies (names_after nw names st (lines_of ws ++ last)) replies) }
+{}
+
+/// Whoever answers each line of a window in the state after the lines before it gives replies of
+/// the window.
+pub fn replies_in_order_are_those_of_a_window()
+    ensures { (nw : Network) (names : Names) (st : State) (before window : List Line)
+        (replies : List Reply) → length replies ≡ length window
+        → ((place : ℕ) (x : Line) (reply : Reply) → slice_get window place ≡ Some x
+        → slice_get replies place ≡ Some reply
+        → IsReplyTo (service_after nw names st (before ++ take place window))
+        (length before + (place + 1)) x reply)
+        → AreWindowReplies nw names st before window replies }
 {}
 
 /// Where each line is a window of its own, what is written is one reply line after the other, each
