@@ -22,7 +22,7 @@ use Rattle.mt_io.specs.Lines.{Line}
 use Rattle.schedule_build.specs.Directory.{Names}
 use Rattle.query_crew.specs.Served.{IsQueryReply, IsReplyAt, shown_count, AreWindowReplies}
 use Rattle.query_crew.proofs.KnownNames.{asked-by-feed}
-use Rattle.query_crew.proofs.ServedLemmas.{accepted-rise, accepted-first, counts-by-place}
+use Rattle.query_crew.proofs.ServedLemmas.{accepted-rise, accepted-first, count-of, counts-by-place}
 
 -- the first lines of a window, and the others
 whole : (before w : List Line) (place : ℕ) → before ++ take place w ++ drop place w ≡ before ++ w
@@ -60,11 +60,6 @@ said-in-order nw names st before w place (Ok Flush) reply is = is
 said-in-order nw names st before w place (Err b) reply is = is
 
 -- the count that is shown is that of the state in which a query is answered
-count-of : (nw : Network) (st : State) (count line m : ℕ) (asked : Result AskedQuery BadLine) (reply : Reply) → IsReplyToResolved nw st count line asked reply → shown_count reply ≡ Some m → count ≡ m
-count-of nw st count line m (Ok asked) reply (inl way) shows = same_Some count m (sym (ap shown_count way.2) ∙ shows)
-count-of nw st count line m (Ok asked) reply (inr none) shows = same_Some count m (sym (ap shown_count none.0) ∙ shows)
-count-of nw st count line m (Err b) reply is shows = absurd (none-some m (sym (ap shown_count is) ∙ shows))
-
 count-in-order : (nw : Network) (names : Names) (st : State) (lines : List Line) (number m : ℕ) (x : Line) (reply : Reply) (q : WireQuery) → IsReplyTo (service_after nw names st lines) number x reply → said_by x ≡ Ok (Asks q) → shown_count reply ≡ Some m
     → length (accepted_of nw names st lines) ≡ m
 count-in-order nw names st lines number m x reply q is asks shows =

@@ -3,6 +3,7 @@ use Rattle.std.proofs.Common.{◌≡◌, ◌<◌, ◌≤◌, ℕ, suc, ◌+◌, 
 use Rattle.std.specs.List.{All, slice_get}
 use Rattle.std.specs.Option.{option_map_or}
 use Rattle.std.proofs.lemmas.List.{append-nil, take-append-le}
+use Rattle.std.proofs.lemmas.Option.{none-some, same_Some}
 use Rattle.std.proofs.lemmas.List.Elements.{All-append, All-cons, All-nil, filter_map-append}
 use Rattle.delay_model.specs.declared.messages.Message.{Message}
 use Rattle.delay_model.specs.declared.network.Network.{Network}
@@ -23,7 +24,7 @@ use Rattle.message_reader.specs.Lines.{message_in}
 use Rattle.message_reader.specs.ResolvedQueries.{query_resolved}
 use Rattle.mt_io.specs.Lines.{Line}
 use Rattle.schedule_build.specs.Directory.{Names}
-use Rattle.query_crew.specs.Served.{IsReplyAt, shown_count, shown_to, shown_counts, AreWindowReplies, AreRepliesFrom, replies_of, text_of_replies, text_from, AreServed, IsServed}
+use Rattle.query_crew.specs.Served.{IsQueryReply, IsReplyAt, shown_count, shown_to, shown_counts, AreWindowReplies, AreRepliesFrom, replies_of, text_of_replies, text_from, AreServed, IsServed}
 use Rattle.query_crew.specs.Windows.{with_last, AreReadWindows}
 use Rattle.query_crew.proofs.Ends.{read-windows}
 
@@ -109,30 +110,32 @@ counts-by-place (x ∷ xs) (r ∷ rs) h =
 abbrev LiesWithin : ℕ → ℕ → Answer (List ℕ) → Type 0
 LiesWithin lower upper a = (lower ≤ a.count) × (a.count ≤ upper)
 
--- the count that a reply shows to a client
-abbrev shown_by : List ℕ → Reply → List (Answer (List ℕ))
-shown_by client reply = option_map_or (λ n. record { client = client; count = n } ∷ []) (shown_count reply) []
+-- the count that a reply to a query shows is that of the state in which it is answered
+pub count-of : (nw : Network) (st : State) (count line m : ℕ) (asked : Result AskedQuery BadLine) (reply : Reply) → IsReplyToResolved nw st count line asked reply → shown_count reply ≡ Some m → count ≡ m
+count-of nw st count line m (Ok asked) reply (inl way) shows = same_Some count m (sym (ap shown_count way.2) ∙ shows)
+count-of nw st count line m (Ok asked) reply (inr none) shows = same_Some count m (sym (ap shown_count none.0) ∙ shows)
+count-of nw st count line m (Err b) reply is shows = absurd (none-some m (sym (ap shown_count is) ∙ shows))
 
-one-within : (client : List ℕ) (lower upper count : ℕ) → lower ≤ count → count ≤ upper → All (LiesWithin lower upper) (record { client = client; count = count } ∷ [])
-one-within client lower upper count low up =
-    All-cons (LiesWithin lower upper) (record { client = client; count = count }) [] (low, up) (All-nil (LiesWithin lower upper))
+-- each reply to a query that is not bad shows one
+asked-shows : (nw : Network) (st : State) (count line : ℕ) (asked : AskedQuery) (reply : Reply) → IsReplyToResolved nw st count line (Ok asked) reply → shown_count reply ≡ Some count
+asked-shows nw st count line asked reply (inl way) = ap shown_count way.2
+asked-shows nw st count line asked reply (inr none) = ap shown_count none.0
 
--- a reply to a query shows the count after which it is given
-query-count : (nw : Network) (st : State) (client : List ℕ) (lower upper count line : ℕ) (asked : Result AskedQuery BadLine) (reply : Reply) → IsReplyToResolved nw st count line asked reply → lower ≤ count → count ≤ upper
-    → All (LiesWithin lower upper) (shown_by client reply)
-query-count nw st client lower upper count line (Ok asked) reply (inl shows) low up =
-    subst (λ (r : Reply). All (LiesWithin lower upper) (shown_by client r)) (sym shows.2) (one-within client lower upper count low up)
-query-count nw st client lower upper count line (Ok asked) reply (inr none) low up =
-    subst (λ (r : Reply). All (LiesWithin lower upper) (shown_by client r)) (sym none.0) (one-within client lower upper count low up)
-query-count nw st client lower upper count line (Err b) reply is low up =
-    subst (λ (r : Reply). All (LiesWithin lower upper) (shown_by client r)) (sym is) (All-nil (LiesWithin lower upper))
+pub query-shows : (nw : Network) (names : Names) (st : State) (before w : List Line) (number : ℕ) (q : WireQuery) (asked : AskedQuery) (reply : Reply) → (r : IsQueryReply nw names st before w number q reply) → query_resolved names q ≡ Ok asked
+    → shown_count reply ≡ Some r.count
+query-shows nw names st before w number q asked reply r is =
+    let now = after_messages st (take r.count (accepted_of nw names st (before ++ w))) in
+    asked-shows nw now r.count number asked reply (subst (λ (a : Result AskedQuery BadLine). IsReplyToResolved nw now r.count number a reply) is r.answers)
 
 -- the counts of a window lie between those of messages accepted at its start and at its end
 line-within : (nw : Network) (names : Names) (st : State) (before w : List Line) (place : ℕ) (said : Result Spoken BadLine) (reply : Reply) → IsReplyAt nw names st before w place said reply
     → All (LiesWithin (length (accepted_of nw names st before)) (length (accepted_of nw names st (before ++ w)))) (shown_to said reply)
 line-within nw names st before w place (Ok (Asks q)) reply is =
-    query-count nw (after_messages st (take is.count (accepted_of nw names st (before ++ w)))) q.client (length (accepted_of nw names st before)) (length (accepted_of nw names st (before ++ w))) is.count (length before + (place + 1)) (query_resolved names q) reply
-    is.answers is.lower is.upper
+    let now = after_messages st (take is.count (accepted_of nw names st (before ++ w))) in
+    let lower = length (accepted_of nw names st before) in
+    let upper = length (accepted_of nw names st (before ++ w)) in
+    count-by (LiesWithin lower upper) q.client (shown_count reply) (λ n shows.
+    subst (λ (m : ℕ). (lower ≤ m) × (m ≤ upper)) (count-of nw now is.count (length before + (place + 1)) n (query_resolved names q) reply is.answers shows) (is.lower, is.upper))
 line-within nw names st before w place (Ok (Says m)) reply is = All-nil (LiesWithin (length (accepted_of nw names st before)) (length (accepted_of nw names st (before ++ w))))
 line-within nw names st before w place (Ok Flush) reply is = All-nil (LiesWithin (length (accepted_of nw names st before)) (length (accepted_of nw names st (before ++ w))))
 line-within nw names st before w place (Err b) reply is = All-nil (LiesWithin (length (accepted_of nw names st before)) (length (accepted_of nw names st (before ++ w))))

@@ -25,10 +25,10 @@ use Rattle.query_crew.specs.Windows.{windows_of}
 
 -- this is a reply to a query of a window that stands behind the lines `before`. The query is
 -- answered in the state after the first `count` of the messages that are accepted up to the end of
--- the window, and the reply shows the same `count`. The messages that were accepted before the
--- window all count; those of the window may count or not, in their order, also those that stand
--- behind the query. No message adds or changes a stop or a service day, so the names of the feed
--- tell what is asked
+-- the window, and the reply shows this `count`. All messages that were accepted before the window
+-- are among them, and of the window's own the first so many or none, also where they stand behind
+-- the query. No message adds or changes a stop or a service day, so the names of the feed tell what
+-- is asked
 pub record IsQueryReply (nw : Network) (names : Names) (st : State) (before window : List Line)
     (number : ℕ) (q : WireQuery) (reply : Reply) : Type 0 where
   pub count : ℕ

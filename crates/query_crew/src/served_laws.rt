@@ -1,6 +1,6 @@
 //! What holds of the replies that are written window after window.
 
-ghost use Rattle.std.specs.Prelude.{◌≡◌, ◌≤◌, ◌↔◌, ◌+◌, ◌++◌, ◌∷◌, [], List, ℕ, Some, length, slice_get, take};
+ghost use Rattle.std.specs.Prelude.{◌≡◌, ◌≤◌, ◌↔◌, ◌+◌, ◌++◌, ◌∷◌, [], List, ℕ, Some, Ok, length, slice_get, take};
 ghost use Rattle.delay_model.specs.declared.network.Network.{Network};
 ghost use Rattle.delay_model.specs.declared.state.State.{State};
 ghost use Rattle.delay_model.specs.Windows.{CountsDoNotFall, lines_of, single_windows};
@@ -8,11 +8,12 @@ ghost use Rattle.delay_report.specs.declared.replies.Reply.{Reply};
 ghost use Rattle.information_service.specs.Lines.{accepted_of, names_after};
 ghost use Rattle.information_service.specs.Output.{AreReplies, IsReplyTo};
 ghost use Rattle.information_service.specs.ServiceState.{service_after};
+ghost use Rattle.message_reader.specs.declared.resolve_queries.AskedQuery.{AskedQuery};
 ghost use Rattle.message_reader.specs.declared.wire.WireQuery.{WireQuery};
 ghost use Rattle.message_reader.specs.ResolvedQueries.{query_resolved};
 ghost use Rattle.mt_io.specs.Lines.{Line};
 ghost use Rattle.schedule_build.specs.Directory.{Names};
-ghost use Rattle.query_crew.specs.Served.{shown_counts, AreWindowReplies, AreRepliesFrom, replies_of, text_of_replies, AreServed, IsServed};
+ghost use Rattle.query_crew.specs.Served.{IsQueryReply, shown_count, shown_counts, AreWindowReplies, AreRepliesFrom, replies_of, text_of_replies, AreServed, IsServed};
 ghost use Rattle.query_crew.specs.Windows.{AreReadWindows};
 
 /// Where each window has its replies, the counts that are shown to one client do not fall along all
@@ -22,6 +23,14 @@ pub fn counts_do_not_fall_along_all_lines()
     ensures { (nw : Network) (names : Names) (st : State) (ws : List (List Line))
         (replies : List (List Reply)) → AreRepliesFrom nw names st [] ws replies
         → CountsDoNotFall (shown_counts (lines_of ws) (replies_of replies)) }
+{}
+
+/// Each reply to a query that is not bad shows the count of the state in which it is answered.
+pub fn queries_show_the_count_of_their_state()
+    ensures { (nw : Network) (names : Names) (st : State) (before window : List Line) (number : ℕ)
+        (q : WireQuery) (asked : AskedQuery) (reply : Reply)
+        → (r : IsQueryReply nw names st before window number q reply)
+        → query_resolved names q ≡ Ok asked → shown_count reply ≡ Some r.count }
 {}
 
 /// For no windows nothing is written. For one window more the texts of its replies are written
