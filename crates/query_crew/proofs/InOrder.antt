@@ -1,15 +1,14 @@
 -- Replies to lines in their order, each in the state after the lines before it, as replies of a window.
-use Rattle.std.proofs.Common.{◌≡◌, ◌≤◌, ℕ, ◌+◌, List, ◌++◌, length, Some, Result, Ok, Err, sym, ◌∙◌, ap, subst, arith, inl, inr, append_assoc, take, drop}
+use Rattle.std.proofs.Common.{◌≡◌, ◌≤◌, ℕ, ◌+◌, List, ◌++◌, length, Some, Result, Ok, Err, sym, ◌∙◌, ap, subst, arith, append_assoc, take, drop}
 use Rattle.std.specs.List.{slice_get}
 use Rattle.std.proofs.Math.Seq.{take-length}
 use Rattle.std.proofs.lemmas.List.{take-append-drop, take-take}
-use Rattle.std.proofs.lemmas.Option.{none-some, same_Some}
 use Rattle.delay_model.specs.declared.messages.Message.{Message}
 use Rattle.delay_model.specs.declared.network.Network.{Network}
 use Rattle.delay_model.specs.declared.state.State.{State}
 use Rattle.delay_model.specs.After.{after_messages}
 use Rattle.delay_report.specs.declared.replies.Reply.{Reply}
-use Rattle.information_service.specs.Lines.{said_by, accepted_of, names_after}
+use Rattle.information_service.specs.Lines.{said_by, accepted_of}
 use Rattle.information_service.specs.Output.{IsReply, IsReplyTo, IsReplyToResolved}
 use Rattle.information_service.specs.ServiceState.{service_after}
 use Rattle.message_reader.specs.declared.bad_line.BadLine.{BadLine}

@@ -130,15 +130,13 @@ query-shows nw names st before w number q asked reply r is =
 -- the counts of a window lie between those of messages accepted at its start and at its end
 line-within : (nw : Network) (names : Names) (st : State) (before w : List Line) (place : ℕ) (said : Result Spoken BadLine) (reply : Reply) → IsReplyAt nw names st before w place said reply
     → All (LiesWithin (length (accepted_of nw names st before)) (length (accepted_of nw names st (before ++ w)))) (shown_to said reply)
-line-within nw names st before w place (Ok (Asks q)) reply is =
-    let now = after_messages st (take is.count (accepted_of nw names st (before ++ w))) in
+line-within nw names st before w place said reply is =
     let lower = length (accepted_of nw names st before) in
     let upper = length (accepted_of nw names st (before ++ w)) in
-    count-by (LiesWithin lower upper) q.client (shown_count reply) (λ n shows.
-    subst (λ (m : ℕ). (lower ≤ m) × (m ≤ upper)) (count-of nw now is.count (length before + (place + 1)) n (query_resolved names q) reply is.answers shows) (is.lower, is.upper))
-line-within nw names st before w place (Ok (Says m)) reply is = All-nil (LiesWithin (length (accepted_of nw names st before)) (length (accepted_of nw names st (before ++ w))))
-line-within nw names st before w place (Ok Flush) reply is = All-nil (LiesWithin (length (accepted_of nw names st before)) (length (accepted_of nw names st (before ++ w))))
-line-within nw names st before w place (Err b) reply is = All-nil (LiesWithin (length (accepted_of nw names st before)) (length (accepted_of nw names st (before ++ w))))
+    shown-by (LiesWithin lower upper) said reply (λ q n asks shows.
+    let at : IsQueryReply nw names st before w (length before + (place + 1)) q reply = subst (λ (s : Result Spoken BadLine). IsReplyAt nw names st before w place s reply) asks is in
+    let now = after_messages st (take at.count (accepted_of nw names st (before ++ w))) in
+    subst (λ (m : ℕ). (lower ≤ m) × (m ≤ upper)) (count-of nw now at.count (length before + (place + 1)) n (query_resolved names q) reply at.answers shows) (at.lower, at.upper))
 
 window-within : (nw : Network) (names : Names) (st : State) (before w : List Line) (rs : List Reply) → AreWindowReplies nw names st before w rs
     → All (LiesWithin (length (accepted_of nw names st before)) (length (accepted_of nw names st (before ++ w)))) (shown_counts w rs)

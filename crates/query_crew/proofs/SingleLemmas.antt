@@ -10,7 +10,7 @@ use Rattle.delay_model.specs.declared.messages.Message.{Message}
 use Rattle.delay_model.specs.declared.network.Network.{Network}
 use Rattle.delay_model.specs.declared.state.State.{State}
 use Rattle.delay_model.specs.After.{after_messages, accepted}
-use Rattle.delay_model.specs.Windows.{CountsDoNotFall, single_windows}
+use Rattle.delay_model.specs.Windows.{single_windows}
 use Rattle.delay_report.specs.declared.replies.Reply.{Reply}
 use Rattle.delay_report.specs.Replies.{text_of_reply}
 use Rattle.information_service.specs.Lines.{said_by, messages_of, by_names, accepted_of, names_after}
@@ -25,7 +25,7 @@ use Rattle.message_reader.specs.Lines.{message_in}
 use Rattle.message_reader.specs.ResolvedQueries.{query_resolved}
 use Rattle.mt_io.specs.Lines.{Line}
 use Rattle.schedule_build.specs.Directory.{Names}
-use Rattle.query_crew.specs.Served.{IsQueryReply, IsReplyAt, shown_counts, AreWindowReplies, AreRepliesFrom, text_of_replies, text_from, AreServed}
+use Rattle.query_crew.specs.Served.{IsQueryReply, IsReplyAt, AreWindowReplies, AreRepliesFrom, text_of_replies, text_from, AreServed}
 use Rattle.query_crew.proofs.KnownNames.{asked-by-feed, reply-text}
 use Rattle.query_crew.proofs.InOrder.{window-in-order}
 use Rattle.query_crew.proofs.ServedLemmas.{served-by}
