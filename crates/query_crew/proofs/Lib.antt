@@ -1,3 +1,7 @@
 pub mod Calls
 pub mod Ends
 pub mod Filling
+pub mod ServedLemmas
+pub mod KnownNames
+pub mod InOrder
+pub mod SingleLemmas

@@ -1,4 +1,5 @@
 pub mod WindowLines
-pub mod Held
+pub mod Inside
 pub mod Windows
 pub mod Reading
+pub mod Served

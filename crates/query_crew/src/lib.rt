@@ -1,14 +1,21 @@
-//! The windows of `serve`: reading them, and which worker answers which client.
+//! The windows of `serve`: reading them, which worker answers which client, and what is written.
 #![tactic(auto)]
 
 mod clients;
 mod laws;
 mod reading;
+mod served_laws;
 mod window;
 mod window_line;
 
 pub use clients::worker_of;
 pub use laws::windows_are_those_of_the_input;
 pub use reading::{WindowEnd, read_window};
+pub use served_laws::{
+    counts_do_not_fall_along_all_lines, first_messages_are_those_of_the_input,
+    one_window_more_is_served, queries_are_resolved_by_the_names_of_the_feed,
+    queries_show_the_count_of_their_state, replies_in_order_are_those_of_a_window,
+    single_windows_are_answered_line_by_line,
+};
 pub use window::{LINES_PER_WINDOW, Window};
 pub use window_line::{ClientQuery, WindowLine};

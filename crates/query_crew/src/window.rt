@@ -25,11 +25,11 @@ impl Model for Window {
 
     ghost Value = { List WindowLine };
 
-    ghost use Rattle.query_crew.specs.Held.{IsHeld};
+    ghost use Rattle.query_crew.specs.Inside.{IsConsistent};
 
     ghost view = { λ w. w.lines.items };
 
-    ghost invariant = { IsHeld };
+    ghost invariant = { IsConsistent };
 }
 
 impl Window {

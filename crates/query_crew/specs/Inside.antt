@@ -5,7 +5,7 @@ use Rattle.query_crew.specs.WindowLines.{IsWindowLine}
 use Rattle.query_crew.specs.declared.window.Window.TheInside.{Inside}
 
 -- it has no more lines than a window can have, and room for all of them
-pub record IsHeld (w : Inside) : Type 0 where
+pub record IsConsistent (w : Inside) : Type 0 where
   pub lines : All IsWindowLine w.lines.items
   pub few : length w.lines.items ≤ lines_per_window
   pub room : lines_per_window ≤ vec_capacity w.lines
