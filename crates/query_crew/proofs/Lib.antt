@@ -5,3 +5,4 @@ pub mod ServedLemmas
 pub mod KnownNames
 pub mod InOrder
 pub mod SingleLemmas
+pub mod WorkLemmas

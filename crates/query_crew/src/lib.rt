@@ -1,14 +1,19 @@
 //! The windows of `serve`: reading them, which worker answers which client, and what is written.
 #![tactic(auto)]
 
+mod asked;
 mod clients;
+mod crew;
+mod gate;
 mod laws;
 mod reading;
 mod served_laws;
 mod window;
 mod window_line;
+mod worker;
 
 pub use clients::worker_of;
+pub use gate::{Gate, NoGate, Point};
 pub use laws::windows_are_those_of_the_input;
 pub use reading::{WindowEnd, read_window};
 pub use served_laws::{
@@ -19,3 +24,4 @@ pub use served_laws::{
 };
 pub use window::{LINES_PER_WINDOW, Window};
 pub use window_line::{ClientQuery, WindowLine};
+pub use worker::Worker;
