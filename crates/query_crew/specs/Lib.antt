@@ -3,3 +3,4 @@ pub mod Inside
 pub mod Windows
 pub mod Reading
 pub mod Served
+pub mod Posted
