@@ -5,3 +5,5 @@ pub mod ServedLemmas
 pub mod KnownNames
 pub mod InOrder
 pub mod SingleLemmas
+mod Taking
+mod PostingLemmas

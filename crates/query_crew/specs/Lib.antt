@@ -4,3 +4,4 @@ pub mod Windows
 pub mod Reading
 pub mod Served
 pub mod Posted
+pub mod Posting

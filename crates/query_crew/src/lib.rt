@@ -2,13 +2,16 @@
 #![tactic(auto)]
 
 mod clients;
+mod gate;
 mod laws;
+mod posting;
 mod reading;
 mod served_laws;
 mod window;
 mod window_line;
 
 pub use clients::worker_of;
+pub use gate::{Gate, NoGate, Point};
 pub use laws::windows_are_those_of_the_input;
 pub use reading::{WindowEnd, read_window};
 pub use served_laws::{
