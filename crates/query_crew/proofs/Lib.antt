@@ -6,3 +6,6 @@ pub mod KnownNames
 pub mod InOrder
 pub mod SingleLemmas
 pub mod WorkLemmas
+pub mod Taking
+pub mod PostingLemmas
+pub mod Putting

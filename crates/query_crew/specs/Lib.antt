@@ -5,3 +5,4 @@ pub mod Reading
 pub mod Served
 pub mod Posted
 pub mod Working
+pub mod Posting

@@ -1,12 +1,13 @@
 //! The windows of `serve`: reading them, which worker answers which client, and what is written.
 #![tactic(auto)]
 
-mod asked;
 mod clients;
 mod crew;
 mod gate;
 mod laws;
+mod posting;
 mod reading;
+mod run_window;
 mod served_laws;
 mod window;
 mod window_line;

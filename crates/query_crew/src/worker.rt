@@ -7,12 +7,13 @@ ghost use Rattle.snapshot_board.specs.Knowledge.{IsLook};
 ghost use Rattle.query_crew.specs.Posted.{HasFewStops, IsAnswerAt};
 ghost use Rattle.query_crew.specs.Working.{asked_of, IsNewEntry, IsPushed, HasWorked};
 
-use crate::asked::reply_to_asked;
+
 use crate::clients::worker_of;
 use crate::gate::{Gate, Point};
 use crate::window_line::WindowLine;
 use conn_scan::Scratch;
 use delay_report::Reply;
+use information_service::reply_to_asked;
 use message_reader::AskedQuery;
 use mt_base::memory::OutOfMemory;
 use snapshot_board::{Note, Opening, Viewer};
