@@ -79,7 +79,17 @@ fn run_beside<H: Opening<Timetable> + Send + Sync, R: Threads + Wait + Sync, G: 
                 → HasFewStops H.opening (slice_index_or all.exit.now i d).scratch.stops)
                 × (length all.exit.now ≡ length all.entry.now) }
         { answer_all(rt, alloc, all, lines, first, &note, gate) },
-        &mut || post_all(rt, alloc, publisher, directory, lines, first, replies, gate),
+        &mut || -> Result<(), OutOfMemory>
+            requires { ((s : ServiceState) × StandsAt H.opening publisher.now directory.now s)
+                × All IsWindowLine lines.now × (first + length lines.now < 2 ^ 64)
+                × (length publisher.now + length lines.now < 2 ^ 64) }
+            ensures { IfOk result (λ _. (s : ServiceState)
+                → StandsAt H.opening publisher.entry.now directory.entry.now s
+                → ArePosted H.opening s first lines.entry.now publisher.entry.now
+                publisher.exit.now directory.exit.now replies.entry.now.items
+                replies.exit.now.items)
+                × IsPrefix publisher.entry.now publisher.exit.now }
+        { post_all(rt, alloc, publisher, directory, lines, first, replies, gate) },
     );
     posted
 }
