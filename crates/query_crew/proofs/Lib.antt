@@ -5,5 +5,7 @@ pub mod ServedLemmas
 pub mod KnownNames
 pub mod InOrder
 pub mod SingleLemmas
-mod Taking
-mod PostingLemmas
+pub mod Taking
+pub mod PostingLemmas
+pub mod PostedStates
+pub mod Joined
