@@ -66,7 +66,7 @@ lines-leave : (nw : Network) (names : Names) (st : State) (lines : List Line) �
 lines-leave nw names st lines = ap (standing nw) (sym (progress-all nw by_names st names (messages_of lines)))
 
 -- one more line leaves the service as it is after all of them
-line-after : (nw : Network) (names : Names) (st : State) (lines : List Line) (x : Line) → after_line (service_after nw names st lines) x ≡ service_after nw names st (lines ++ x ∷ [])
+pub line-after : (nw : Network) (names : Names) (st : State) (lines : List Line) (x : Line) → after_line (service_after nw names st lines) x ≡ service_after nw names st (lines ++ x ∷ [])
 line-after nw names st lines x =
     let next : Progress Names → Wire → Progress Names = after_message_line nw by_names in
     let start : Progress Names = beginning st names in

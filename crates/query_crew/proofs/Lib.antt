@@ -9,3 +9,5 @@ pub mod WorkLemmas
 pub mod Taking
 pub mod PostingLemmas
 pub mod Putting
+pub mod PostedStates
+pub mod Joined
