@@ -1,7 +1,7 @@
 use Rattle.std.proofs.Common.{◌≡◌, ℕ, ◌<◌, ◌≤◌, length, true, slice_index_or}
 use Rattle.query_crew.specs.Posted.{HasFewStops}
 use Rattle.query_crew.specs.Working.{HasAnsweredAll, HasWorked}
-use Rattle.query_crew.proofs.run_window.settle_all.Given as goal
+use Rattle.query_crew.proofs.window_run.settle_all.Given as goal
 
 abbrev pub invariant-loop-i : goal.invariant-loop-i
 invariant-loop-i g l =

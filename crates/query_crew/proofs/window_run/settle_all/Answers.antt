@@ -3,7 +3,7 @@ use Rattle.std.proofs.lemmas.List.{length-set}
 use Rattle.query_crew.specs.Posted.{HasFewStops}
 use Rattle.query_crew.specs.Working.{HasAnsweredAll, HasWorked}
 use Rattle.query_crew.proofs.Putting.{at-put}
-use Rattle.query_crew.proofs.run_window.settle_all.Goals as goal
+use Rattle.query_crew.proofs.window_run.settle_all.Goals as goal
 
 pub loop-i-preserved : goal.loop-i-preserved
 loop-i-preserved g c =

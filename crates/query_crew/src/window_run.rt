@@ -18,7 +18,7 @@ use delay_report::Reply;
 use mt_base::memory::OutOfMemory;
 use schedule_build::Directory;
 use snapshot_board::{Note, Opening, Publisher, Viewer};
-use std::alloc::Global;
+use std::alloc::{AllocError, Global};
 use std::sync::Wait;
 use std::thread::{Threads, join_mut};
 use timetable::Timetable;
@@ -135,4 +135,55 @@ fn settle_all<H: Opening<Timetable>>(
         }
     }
     true
+}
+
+/// Runs a window: the messages of its lines are posted in their order, while the workers answer its
+/// queries, and `replies` gets the reply to each line but the queries. Then the publisher meets each
+/// worker's viewer; where one saw more than was posted, the publisher answers in its place.
+pub fn run_window<H: Opening<Timetable> + Send + Sync, R: Threads + Wait + Sync, G: Gate + Sync>(
+    rt: &R,
+    alloc: Global,
+    publisher: &mut Publisher<Timetable, H>,
+    directory: &mut Directory,
+    all: &mut [Worker<Viewer<Timetable, H>>],
+    lines: &[WindowLine],
+    first: u64,
+    replies: &mut Vec<Option<Reply>>,
+    gate: &G,
+) -> Result<(), OutOfMemory>
+    // names and trains are in step, each message is one that was read
+    requires board { (s : ServiceState) × StandsAt H.opening publisher.old directory.old s }
+    requires kept { All IsWindowLine lines.now }
+
+    // numbers fit, and there is room for the answers
+    requires numbers { first + length lines.now < 2 ^ 64 }
+    requires posts { length publisher.old + length lines.now < 2 ^ 64 }
+    requires few { length all.old < 2 ^ 32 }
+    requires room { (i : ℕ) (d : _) → i < length all.old
+        → HasFewStops H.opening (slice_index_or all.old i d).scratch.stops }
+
+    // what was posted and replied, in whatever state the board stands as a service
+    ensures posted { IfOk result (λ _. (s : ServiceState)
+        → StandsAt H.opening publisher.old directory.old s
+        → ArePosted H.opening s first lines.now publisher.old publisher.new directory.new
+        replies.old.items replies.new.items) }
+    ensures later { IsPrefix publisher.old publisher.new }
+
+    // what the clients of each worker are answered, over what was posted
+    ensures answered { IfOk result (λ _. (i : ℕ) (d : _) → i < length all.old
+        → HasAnsweredAll H.opening publisher.new (length publisher.old) first i (length all.old)
+        lines.now (slice_index_or all.new i d).answers.items) }
+    ensures room { (i : ℕ) (d : _) → i < length all.old
+        → HasFewStops H.opening (slice_index_or all.new i d).scratch.stops }
+    ensures same { length all.new ≡ length all.old }
+{
+    let start = publisher.tell();
+    run_beside(
+        rt, alloc, publisher, directory, all, lines, first, replies, gate,
+    )?;
+    if settle_all(alloc, publisher, &start, all, lines, first) {
+        Ok(())
+    } else {
+        Err(AllocError)
+    }
 }
