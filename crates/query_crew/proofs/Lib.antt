@@ -11,3 +11,4 @@ pub mod PostingLemmas
 pub mod Putting
 pub mod PostedStates
 pub mod Joined
+pub mod Gathering

@@ -6,3 +6,4 @@ pub mod Served
 pub mod Posted
 pub mod Working
 pub mod Posting
+pub mod Gathered
