@@ -7,3 +7,4 @@ pub mod Posted
 pub mod Working
 pub mod Posting
 pub mod Gathered
+pub mod Joining
