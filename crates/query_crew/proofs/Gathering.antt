@@ -1,5 +1,5 @@
 -- Replies that were gathered are those of the crew.
-use Rattle.std.proofs.Common.{◌≡◌, ◌≤◌, ◌<◌, ◌⊎◌, ⊎_elim, ℕ, zero, suc, arith, ◌+◌, ◌%◌, List, [], ◌∷◌, length, take, sum, cond, eqb, Bool, true, false, Option, Some, None, Result, Ok, Err, refl, sym, ◌∙◌, ap, subst, inl, inr, slice_get, get_or}
+use Rattle.std.proofs.Common.{◌≡◌, ◌≤◌, ◌<◌, ◌⊎◌, ⊎_elim, ℕ, zero, suc, arith, ◌+◌, ◌%◌, List, [], ◌∷◌, length, take, sum, cond, eqb, Bool, true, false, Option, Some, None, IsSome, Result, Ok, Err, refl, sym, ◌∙◌, ap, subst, inl, inr, slice_get, get_or}
 use Rattle.std.proofs.lemmas.Bool.Decides.{eqb_tells}
 use Rattle.std.proofs.lemmas.Option.{same_Some, none-some}
 use Rattle.delay_model.specs.declared.messages.Message.{Message}
@@ -17,7 +17,7 @@ use Rattle.query_crew.specs.declared.window_line.ClientQuery.{ClientQuery}
 use Rattle.query_crew.specs.declared.window_line.WindowLine.{WindowLine}
 use Rattle.query_crew.specs.declared.window_line.WindowLine.TheVariants as shown
 use Rattle.query_crew.specs.Gathered.{IsPicked, AreGathered}
-use Rattle.query_crew.specs.Joining.{answer_for, chosen, AreJoined}
+use Rattle.query_crew.specs.Joining.{answer_for, chosen, reply_for, AreJoined}
 use Rattle.query_crew.specs.Posted.{IsAnswerAt}
 use Rattle.query_crew.specs.Posting.{StandsAt, after_lines, reply_to_bad, publisher_reply, ArePosted}
 use Rattle.query_crew.specs.Served.{shown_count, AreWindowReplies}
@@ -131,3 +131,48 @@ joined-gathered lines own answers workers replies some same joined = record {
       (λ (h : answer_for answers workers line.0 place ≡ Some r). inr (answer-there answers workers line.0 place r some h))
       (choose (get_or own place None) (answer_for answers workers line.0 place) r (joined.each place line.0 r line.1 at));
 }
+
+-- ---- each line has a reply
+
+get-read : (xs : List (Option Reply)) (i : ℕ) (e : Option Reply) → slice_get xs i ≡ Some e → get_or xs i None ≡ e
+get-read [] i e h = absurd cc
+get-read (x ∷ xs) zero e h = same_Some x e h
+get-read (x ∷ xs) (suc i) e h = get-read xs i e h
+
+is-itself : (v : ℕ) → eqb v v ≡ true
+is-itself v = ⊎_elim (λ (t : (eqb v v ≡ true) × (v ≡ v)). t.0) (λ t. absurd (t.1 refl)) (eqb_tells v v)
+
+is-some : (e : Option Reply) (r : Reply) → e ≡ Some r → IsSome e
+is-some e r h = subst IsSome (sym h) refl
+
+entry-some : (o : Option TimetableState) (list : List Message) (least number : ℕ) (b : Bool) (a : AskedQuery) (e : Option Reply) → b ≡ true → IsEntry o list least number (cond b (Some a) None) e → IsSome e
+entry-some o list least number true a e is h = is-some e h.0 h.1
+entry-some o list least number false a e is h = absurd cc
+
+asks-some : (o : Option TimetableState) (list : List Message) (least number workers place : ℕ) (client : List ℕ) (asked : Result AskedQuery BadLine) (own e : Option Reply) → own ≡ reply_to_bad number asked
+    → IsEntry o list least number (asked_of (sum client % workers) workers (shown.Query (record { client = client; asked = asked }))) e → IsSome (chosen own e)
+asks-some o list least number workers place client (Ok a) own e is h =
+    subst (λ (x : Option Reply). IsSome (chosen x e)) (sym is) (entry-some o list least number (eqb (sum client % workers) (sum client % workers)) a e (is-itself (sum client % workers)) h)
+asks-some o list least number workers place client (Err b) own e is h = subst (λ (x : Option Reply). IsSome (chosen x e)) (sym is) refl
+
+by-line : (o : Option TimetableState) (s : ServiceState) (old new : List Message) (first : ℕ) (lines : List WindowLine) (own : List (Option Reply)) (answers : ℕ → List (Option Reply)) (workers : ℕ) → 1 ≤ workers
+    → ((i : ℕ) → i < workers → HasAnsweredAll o new (length old) first i workers lines (answers i)) → (place : ℕ) (line : WindowLine) (now : ServiceState) → slice_get lines place ≡ Some line
+    → get_or own place None ≡ publisher_reply now (first + (place + 1)) line → IsSome (reply_for own answers workers line place)
+by-line o s old new first lines own answers workers some answered place (shown.Query q) now at here =
+    let w = sum q.client % workers in
+    let has = answered w (omega (arith, some)) in
+    let e = there-is (answers w) place (omega (arith, has.all, inside lines place (shown.Query q) at)) in
+    subst (λ (x : Option Reply). IsSome (chosen (get_or own place None) x)) (sym (get-read (answers w) place e.0 e.1))
+    (asks-some o new (length old) (first + (place + 1)) workers place q.client q.asked (get_or own place None) e.0 here (has.answered.each place (shown.Query q) e.0 at e.1))
+by-line o s old new first lines own answers workers some answered place (shown.Message w) now at here = subst (λ (x : Option Reply). IsSome (chosen x None)) (sym here) refl
+by-line o s old new first lines own answers workers some answered place shown.Flush now at here = subst (λ (x : Option Reply). IsSome (chosen x None)) (sym here) refl
+by-line o s old new first lines own answers workers some answered place (shown.Bad b) now at here = subst (λ (x : Option Reply). IsSome (chosen x None)) (sym here) refl
+
+pub covered : (o : Option TimetableState) (s : ServiceState) (old new : List Message) (first : ℕ) (lines : List WindowLine) (names_new : Names) (own : List (Option Reply)) (answers : ℕ → List (Option Reply)) (workers : ℕ) → 1 ≤ workers
+    → ArePosted o s first lines old new names_new [] own → ((i : ℕ) → i < workers → HasAnsweredAll o new (length old) first i workers lines (answers i)) → (place : ℕ) (line : WindowLine) → slice_get lines place ≡ Some line
+    → IsSome (reply_for own answers workers line place)
+covered o s old new first lines names_new own answers workers some posted answered place line at =
+    let now = after_lines s (take place lines) in
+    let here : get_or own place None ≡ publisher_reply now (first + (place + 1)) line =
+    get-read own place (publisher_reply now (first + (place + 1)) line) (ap (λ (rs : List (Option Reply)). slice_get rs place) posted.replied ∙ reply-at s first place lines line at) in
+    by-line o s old new first lines own answers workers some answered place line now at here
