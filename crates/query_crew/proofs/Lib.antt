@@ -9,3 +9,6 @@ pub mod Taking
 pub mod PostingLemmas
 pub mod PostedStates
 pub mod Joined
+pub mod WorkLemmas
+pub mod Putting
+pub mod Joins

@@ -5,3 +5,5 @@ pub mod Reading
 pub mod Served
 pub mod Posted
 pub mod Posting
+pub mod Working
+pub mod Joining

@@ -2,13 +2,16 @@
 #![tactic(auto)]
 
 mod clients;
+mod crew;
 mod gate;
+mod joining;
 mod laws;
 mod posting;
 mod reading;
 mod served_laws;
 mod window;
 mod window_line;
+mod worker;
 
 pub use clients::worker_of;
 pub use gate::{Gate, NoGate, Point};
@@ -22,3 +25,4 @@ pub use served_laws::{
 };
 pub use window::{LINES_PER_WINDOW, Window};
 pub use window_line::{ClientQuery, WindowLine};
+pub use worker::Worker;
