@@ -5,10 +5,10 @@ pub mod ServedLemmas
 pub mod KnownNames
 pub mod InOrder
 pub mod SingleLemmas
+pub mod WorkLemmas
 pub mod Taking
 pub mod PostingLemmas
+pub mod Putting
 pub mod PostedStates
 pub mod Joined
-pub mod WorkLemmas
-pub mod Putting
 pub mod Joins

@@ -109,9 +109,9 @@ fn answer_here<H: Opening<Timetable>>(
     Ok(None)
 }
 
-/// Answers the queries of a worker's clients in the publisher's own timetable. It says whether
-/// there was memory for all of them.
-pub(crate) fn answer_own<H: Opening<Timetable>>(
+/// Answers the queries of a worker's clients in the publisher's own timetable, and those of all
+/// clients where the worker is number 0 of 1. It says whether there was memory for all of them.
+pub fn answer_own<H: Opening<Timetable>>(
     alloc: Global,
     publisher: &Publisher<Timetable, H>,
     scratch: &mut Scratch,

@@ -8,15 +8,19 @@ mod joining;
 mod laws;
 mod posting;
 mod reading;
+
 mod served_laws;
 mod window;
 mod window_line;
+mod window_run;
 mod worker;
 
 pub use clients::worker_of;
+pub use crew::answer_own;
 pub use gate::{Gate, NoGate, Point};
 pub use laws::windows_are_those_of_the_input;
 pub use reading::{WindowEnd, read_window};
+
 pub use served_laws::{
     counts_do_not_fall_along_all_lines, first_messages_are_those_of_the_input,
     one_window_more_is_served, queries_are_resolved_by_the_names_of_the_feed,
@@ -25,4 +29,5 @@ pub use served_laws::{
 };
 pub use window::{LINES_PER_WINDOW, Window};
 pub use window_line::{ClientQuery, WindowLine};
+pub use window_run::run_window;
 pub use worker::Worker;

@@ -22,15 +22,18 @@ use std::sync::Wait;
 use timetable::Timetable;
 use train_nodes::Msg;
 
-/// Who answers queries: with a viewer, room for the search, and what was answered to each line of
-/// a window.
+/// Who answers the queries of some of the clients.
 #[derive(Drop)]
 pub struct Worker<V: Drop> {
-    pub(crate) viewer: V,
-    pub(crate) scratch: Scratch,
-    pub(crate) answers: Vec<Option<Reply>>,
+    /// With what it looks at the timetable.
+    pub viewer: V,
+    /// Room for the search.
+    pub scratch: Scratch,
+    /// What was answered to each line of the last window: nothing to a line that is no query of its
+    /// clients.
+    pub answers: Vec<Option<Reply>>,
     /// Whether there was memory for all answers.
-    pub(crate) is_whole: bool,
+    pub is_whole: bool,
 }
 
 /// The query of a line, if it is one of a client of this worker.
