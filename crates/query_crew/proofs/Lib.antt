@@ -12,3 +12,4 @@ pub mod Putting
 pub mod PostedStates
 pub mod Joined
 pub mod Joins
+pub mod Gathering

@@ -5,7 +5,6 @@ ghost use mathlib.Core.List.{IsPrefix};
 ghost use Rattle.query_crew.specs.Posted.{HasFewStops};
 ghost use Rattle.query_crew.specs.Working.{IsNewEntry, HasAnswered, HasAnsweredAll, HasWorked};
 
-
 use crate::gate::Gate;
 use crate::window_line::WindowLine;
 use crate::worker::{Worker, asked_by, push_entry, work};

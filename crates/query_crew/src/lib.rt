@@ -3,12 +3,12 @@
 
 mod clients;
 mod crew;
+mod crew_laws;
 mod gate;
 mod joining;
 mod laws;
 mod posting;
 mod reading;
-
 mod served_laws;
 mod window;
 mod window_line;
@@ -17,10 +17,10 @@ mod worker;
 
 pub use clients::worker_of;
 pub use crew::answer_own;
+pub use crew_laws::gathered_replies_are_those_of_a_window;
 pub use gate::{Gate, NoGate, Point};
 pub use laws::windows_are_those_of_the_input;
 pub use reading::{WindowEnd, read_window};
-
 pub use served_laws::{
     counts_do_not_fall_along_all_lines, first_messages_are_those_of_the_input,
     one_window_more_is_served, queries_are_resolved_by_the_names_of_the_feed,

@@ -7,7 +7,6 @@ ghost use Rattle.snapshot_board.specs.Knowledge.{IsLook};
 ghost use Rattle.query_crew.specs.Posted.{HasFewStops, IsAnswerAt};
 ghost use Rattle.query_crew.specs.Working.{asked_of, IsNewEntry, IsPushed, HasWorked};
 
-
 use crate::clients::worker_of;
 use crate::gate::{Gate, Point};
 use crate::window_line::WindowLine;
