@@ -11,4 +11,5 @@ pub mod PostingLemmas
 pub mod Putting
 pub mod PostedStates
 pub mod Joined
+pub mod Joins
 pub mod Gathering

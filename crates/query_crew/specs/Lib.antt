@@ -4,7 +4,7 @@ pub mod Windows
 pub mod Reading
 pub mod Served
 pub mod Posted
-pub mod Working
 pub mod Posting
+pub mod Working
 pub mod Gathered
 pub mod Joining

@@ -5,6 +5,7 @@ mod clients;
 mod crew;
 mod crew_laws;
 mod gate;
+mod joining;
 mod laws;
 mod posting;
 mod reading;
