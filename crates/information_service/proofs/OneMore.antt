@@ -5,7 +5,7 @@ use Rattle.std.proofs.lemmas.Bool.{cases_Bool}
 use Rattle.std.proofs.lemmas.List.{append-nil}
 use Rattle.std.proofs.lemmas.List.Sums.{fold-append}
 use Rattle.std.proofs.lemmas.List.Elements.{filter_map-append}
-use Rattle.std.specs.Io.KnownBytes.{Appends, IsAtEnd}
+use Rattle.std.specs.Io.KnownBytes.{Appends, Consumes, IsAtEnd}
 use Rattle.std.specs.List.{fold}
 use Rattle.delay_model.specs.declared.messages.Message.{Message}
 use Rattle.delay_model.specs.declared.messages.Refusal.{Refusal}
@@ -26,7 +26,7 @@ use Rattle.mt_io.specs.Lines.{Line}
 use Rattle.mt_io.specs.Reader.{Reader, GivesNext}
 use Rattle.mt_io.specs.Answers.{next_lines, LeavesNext}
 use Rattle.mt_io.specs.declared.lines.Next.{Next}
-use Rattle.mt_io.specs.Runs.{fresh}
+use Rattle.mt_io.specs.Runs.{fresh, HasAnswered}
 use Rattle.mt_io.proofs.Gives.{consumes_none, consumes_more, open_ended}
 use Rattle.mt_io.proofs.Runs.{begins, goes_on}
 use Rattle.schedule_build.specs.Directory.{Names}
@@ -66,7 +66,7 @@ lines-leave : (nw : Network) (names : Names) (st : State) (lines : List Line) �
 lines-leave nw names st lines = ap (standing nw) (sym (progress-all nw by_names st names (messages_of lines)))
 
 -- one more line leaves the service as it is after all of them
-pub line-after : (nw : Network) (names : Names) (st : State) (lines : List Line) (x : Line) → after_line (service_after nw names st lines) x ≡ service_after nw names st (lines ++ x ∷ [])
+line-after : (nw : Network) (names : Names) (st : State) (lines : List Line) (x : Line) → after_line (service_after nw names st lines) x ≡ service_after nw names st (lines ++ x ∷ [])
 line-after nw names st lines x =
     let next : Progress Names → Wire → Progress Names = after_message_line nw by_names in
     let start : Progress Names = beginning st names in

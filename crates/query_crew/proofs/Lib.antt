@@ -6,6 +6,7 @@ pub mod KnownNames
 pub mod InOrder
 pub mod SingleLemmas
 pub mod WorkLemmas
+pub mod OneLine
 pub mod Taking
 pub mod PostingLemmas
 pub mod Putting

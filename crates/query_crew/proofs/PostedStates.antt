@@ -14,7 +14,7 @@ use Rattle.delay_report.specs.declared.replies.Reply.{Reply}
 use Rattle.information_service.specs.Lines.{said_by, messages_of}
 use Rattle.information_service.specs.Output.{IsReplyToQuery}
 use Rattle.information_service.specs.ServiceState.{ServiceState, after_said, service_after}
-use Rattle.information_service.proofs.OneMore.{line-after}
+use Rattle.query_crew.proofs.OneLine.{line-after}
 use Rattle.message_reader.specs.declared.bad_line.BadLine.{BadLine}
 use Rattle.message_reader.specs.declared.resolve_queries.AskedQuery.{AskedQuery}
 use Rattle.message_reader.specs.declared.wire.Line.{Line as Spoken}

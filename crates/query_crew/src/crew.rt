@@ -5,13 +5,13 @@ ghost use mathlib.Core.List.{IsPrefix};
 ghost use Rattle.query_crew.specs.Posted.{HasFewStops};
 ghost use Rattle.query_crew.specs.Working.{IsNewEntry, HasAnswered, HasAnsweredAll, HasWorked};
 
-use crate::gate::Gate;
+use mt_io::Gate;
 use crate::window_line::WindowLine;
 use crate::worker::{Worker, asked_by, push_entry, work};
 use conn_scan::Scratch;
 use core::mem::replace_with;
 use delay_report::Reply;
-use information_service::reply_to_asked;
+use crate::replies::reply_to_asked;
 use message_reader::AskedQuery;
 use mt_base::memory::OutOfMemory;
 use snapshot_board::{Meet, Note, Opening, Publisher, Viewer};

@@ -4,11 +4,11 @@
 mod clients;
 mod crew;
 mod crew_laws;
-mod gate;
 mod joining;
 mod laws;
 mod posting;
 mod reading;
+mod replies;
 mod served_laws;
 mod window;
 mod window_line;
@@ -18,7 +18,6 @@ mod worker;
 pub use clients::worker_of;
 pub use crew::answer_own;
 pub use crew_laws::gathered_replies_are_those_of_a_window;
-pub use gate::{Gate, NoGate, Point};
 pub use laws::windows_are_those_of_the_input;
 pub use reading::{WindowEnd, read_window};
 pub use served_laws::{

@@ -10,10 +10,10 @@ ghost use Rattle.query_crew.specs.declared.window_line.WindowLine.TheVariants.{M
 ghost use Rattle.query_crew.specs.Posting.{reply_to_bad, StandsAt, IsAccepted, IsTaken, ArePosted};
 ghost use Rattle.query_crew.specs.WindowLines.{IsWindowLine};
 
-use crate::gate::{Gate, Point};
+use mt_io::{Gate, Point};
 use crate::window_line::{ClientQuery, WindowLine};
 use delay_report::Reply;
-use information_service::{add_name, added_name, reply_to_refused};
+use crate::replies::{add_name, added_name, reply_to_refused};
 use message_reader::{ResolveError, Wire, resolve};
 use mt_base::memory::OutOfMemory;
 use schedule_build::Directory;

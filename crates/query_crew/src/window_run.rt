@@ -10,7 +10,7 @@ ghost use Rattle.query_crew.specs.WindowLines.{IsWindowLine};
 ghost use Rattle.query_crew.specs.Working.{HasAnsweredAll, HasWorked};
 
 use crate::crew::{answer_all, settle};
-use crate::gate::Gate;
+use mt_io::Gate;
 use crate::posting::post_all;
 use crate::window_line::WindowLine;
 use crate::worker::Worker;

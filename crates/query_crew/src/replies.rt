@@ -21,7 +21,7 @@ use train_nodes::Steps;
 
 /// The name of the train that a message adds, if it adds one. `OutOfMemory` where there is no
 /// memory.
-pub fn added_name(
+pub(crate) fn added_name(
     alloc: Global,
     directory: &Directory,
     wire: &Wire,
@@ -37,7 +37,7 @@ pub fn added_name(
 }
 
 /// Adds the name of an extra train, if there is one.
-pub fn add_name(directory: &mut Directory, name: Option<ExtraName>)
+pub(crate) fn add_name(directory: &mut Directory, name: Option<ExtraName>)
     requires ready { IfSome name (λ n. CanBeAdded directory.old n) }
     ensures { directory.new ≡ with_added name directory.old }
 {
@@ -47,7 +47,7 @@ pub fn add_name(directory: &mut Directory, name: Option<ExtraName>)
 }
 
 /// The reply to a refused message. `OutOfMemory` where there is no memory.
-pub fn reply_to_refused(
+pub(crate) fn reply_to_refused(
     alloc: Global,
     directory: &Directory,
     number: u64,
@@ -125,7 +125,7 @@ fn reply_to_query<L: Ledger>(
 
 /// The reply to a query by number, which stands in the line of this number and is answered after so
 /// many accepted messages. `OutOfMemory` where there is no memory.
-pub fn reply_to_asked(
+pub(crate) fn reply_to_asked(
     alloc: Global,
     timetable: &Timetable,
     scratch: &mut Scratch,
