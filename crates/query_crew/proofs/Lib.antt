@@ -13,3 +13,4 @@ pub mod PostedStates
 pub mod Joined
 pub mod Joins
 pub mod Gathering
+pub mod Choosing
