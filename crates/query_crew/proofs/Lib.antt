@@ -14,3 +14,4 @@ pub mod PostedStates
 pub mod Joined
 pub mod Joins
 pub mod Gathering
+pub mod Choosing

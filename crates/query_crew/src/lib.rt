@@ -1,6 +1,7 @@
 //! The windows of `serve`: reading them, which worker answers which client, and what is written.
 #![tactic(auto)]
 
+mod answering;
 mod clients;
 mod crew;
 mod crew_laws;
@@ -15,6 +16,7 @@ mod window_line;
 mod window_run;
 mod worker;
 
+pub use answering::answer_window;
 pub use clients::worker_of;
 pub use crew::answer_own;
 pub use crew_laws::gathered_replies_are_those_of_a_window;
