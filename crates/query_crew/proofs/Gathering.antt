@@ -57,7 +57,6 @@ module _ (o : Option TimetableState) (s : ServiceState) (old new : List Message)
     (posted : ArePosted o s first lines old new names_new [] own)
     (answered : (i : ℕ) → i < workers → HasAnsweredAll o new (length old) first i (workers) lines (answers i))
     (gathered : AreGathered lines own answers workers replies) where
-
   not-own : (i m : ℕ) (q : ClientQuery) (r : Reply) → slice_get lines i ≡ Some (shown.Query q) → slice_get own i ≡ Some (Some r) → shown_count r ≡ Some m → ⊥
   not-own i m q r at_line at_own shows =
       bad-shows (first + (i + 1)) m q.asked r

@@ -86,13 +86,13 @@ rise-more : (xs : List (Option Reply)) (e : Option Reply) (c : ℕ) → CountsRi
 rise-more xs e c old upper new i j r s m n less at_i at_j shows_i shows_j =
     ⊎_elim
     (λ (h : slice_get xs j ≡ Some (Some s)). ⊎_elim
-        (λ (k : slice_get xs i ≡ Some (Some r)). old i j r s m n less k h shows_i shows_j)
-        (λ (k : (i ≡ length xs) × (e ≡ Some r)). absurd (omega (arith, k.0, less, inside xs j (Some s) h)))
-        (at-end xs e (Some r) i at_i))
+    (λ (k : slice_get xs i ≡ Some (Some r)). old i j r s m n less k h shows_i shows_j)
+    (λ (k : (i ≡ length xs) × (e ≡ Some r)). absurd (omega (arith, k.0, less, inside xs j (Some s) h)))
+    (at-end xs e (Some r) i at_i))
     (λ (h : (j ≡ length xs) × (e ≡ Some s)). ⊎_elim
-        (λ (k : slice_get xs i ≡ Some (Some r)). omega (arith, upper i r m k shows_i, new s n h.1 shows_j))
-        (λ (k : (i ≡ length xs) × (e ≡ Some r)). absurd (omega (arith, k.0, less, h.0)))
-        (at-end xs e (Some r) i at_i))
+    (λ (k : slice_get xs i ≡ Some (Some r)). omega (arith, upper i r m k shows_i, new s n h.1 shows_j))
+    (λ (k : (i ≡ length xs) × (e ≡ Some r)). absurd (omega (arith, k.0, less, h.0)))
+    (at-end xs e (Some r) i at_i))
     (at-end xs e (Some s) j at_j)
 
 pub answered-none : (o : Option TimetableState) (list : List Message) (least first me workers : ℕ) (lines : List WindowLine) → HasAnswered o list least first me workers lines []

@@ -5,15 +5,15 @@ ghost use mathlib.Core.List.{IsPrefix};
 ghost use Rattle.query_crew.specs.Posted.{HasFewStops};
 ghost use Rattle.query_crew.specs.Working.{IsNewEntry, HasAnswered, HasAnsweredAll, HasWorked};
 
-use mt_io::Gate;
+use crate::replies::reply_to_asked;
 use crate::window_line::WindowLine;
 use crate::worker::{Worker, asked_by, push_entry, work};
 use conn_scan::Scratch;
 use core::mem::replace_with;
 use delay_report::Reply;
-use crate::replies::reply_to_asked;
 use message_reader::AskedQuery;
 use mt_base::memory::OutOfMemory;
+use mt_io::Gate;
 use snapshot_board::{Meet, Note, Opening, Publisher, Viewer};
 use std::alloc::Global;
 use std::sync::Wait;
@@ -42,12 +42,19 @@ fn work_on<H: Opening<Timetable>, R: Wait, G: Gate>(
     ensures room { worker.new.scratch.stops ≡ worker.old.scratch.stops }
 {
     replace_with(worker, (), |worker, _nothing| {
-        (work(rt, alloc, worker, lines, first, note, me, workers, gate), ())
+        (
+            work(rt, alloc, worker, lines, first, note, me, workers, gate),
+            (),
+        )
     })
 }
 
 /// The workers answer, each in a thread of its own.
-pub(crate) fn answer_all<H: Opening<Timetable> + Send + Sync, R: Threads + Wait + Sync, G: Gate + Sync>(
+pub(crate) fn answer_all<
+    H: Opening<Timetable> + Send + Sync,
+    R: Threads + Wait + Sync,
+    G: Gate + Sync,
+>(
     rt: &R,
     alloc: Global,
     all: &mut [Worker<Viewer<Timetable, H>>],
@@ -83,7 +90,11 @@ pub(crate) fn answer_all<H: Opening<Timetable> + Send + Sync, R: Threads + Wait 
                 worker.exit.now.viewer first i workers lines.entry.now
                 worker.exit.now.answers.items)
                 × HasFewStops H.opening worker.exit.now.scratch.stops }
-        { work_on(rt, alloc, worker, lines, first, note, i as u32, workers, gate) },
+        {
+            work_on(
+                rt, alloc, worker, lines, first, note, i as u32, workers, gate,
+            )
+        },
     )
 }
 

@@ -22,11 +22,7 @@ fn take_entry<V: Drop>(worker: &mut Worker<V>, place: usize) -> Option<Reply>
 }
 
 /// Takes what the worker of the client has for the line in this place, if it is a query.
-fn take_answer<V: Drop>(
-    all: &mut [Worker<V>],
-    line: &WindowLine,
-    place: usize,
-) -> Option<Reply>
+fn take_answer<V: Drop>(all: &mut [Worker<V>], line: &WindowLine, place: usize) -> Option<Reply>
     requires some { 1 ≤ length all.old }
     requires few { length all.old < 2 ^ 32 }
     requires there { (k : ℕ) (d : _) → k < length all.old

@@ -10,12 +10,12 @@ ghost use Rattle.query_crew.specs.declared.window_line.WindowLine.TheVariants.{M
 ghost use Rattle.query_crew.specs.Posting.{reply_to_bad, StandsAt, IsAccepted, IsTaken, ArePosted};
 ghost use Rattle.query_crew.specs.WindowLines.{IsWindowLine};
 
-use mt_io::{Gate, Point};
+use crate::replies::{add_name, added_name, reply_to_refused};
 use crate::window_line::{ClientQuery, WindowLine};
 use delay_report::Reply;
-use crate::replies::{add_name, added_name, reply_to_refused};
 use message_reader::{ResolveError, Wire, resolve};
 use mt_base::memory::OutOfMemory;
+use mt_io::{Gate, Point};
 use schedule_build::Directory;
 use snapshot_board::{Opening, Publisher};
 use std::alloc::{AllocError, Global};

@@ -10,12 +10,12 @@ ghost use Rattle.query_crew.specs.WindowLines.{IsWindowLine};
 ghost use Rattle.query_crew.specs.Working.{HasAnsweredAll, HasWorked};
 
 use crate::crew::{answer_all, settle};
-use mt_io::Gate;
 use crate::posting::post_all;
 use crate::window_line::WindowLine;
 use crate::worker::Worker;
 use delay_report::Reply;
 use mt_base::memory::OutOfMemory;
+use mt_io::Gate;
 use schedule_build::Directory;
 use snapshot_board::{Note, Opening, Publisher, Viewer};
 use std::alloc::{AllocError, Global};

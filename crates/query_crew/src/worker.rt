@@ -8,13 +8,13 @@ ghost use Rattle.query_crew.specs.Posted.{HasFewStops, IsAnswerAt};
 ghost use Rattle.query_crew.specs.Working.{asked_of, IsNewEntry, IsPushed, HasWorked};
 
 use crate::clients::worker_of;
-use mt_io::{Gate, Point};
+use crate::replies::reply_to_asked;
 use crate::window_line::WindowLine;
 use conn_scan::Scratch;
 use delay_report::Reply;
-use crate::replies::reply_to_asked;
 use message_reader::AskedQuery;
 use mt_base::memory::OutOfMemory;
+use mt_io::{Gate, Point};
 use snapshot_board::{Note, Opening, Viewer};
 use std::alloc::Global;
 use std::sync::Wait;
