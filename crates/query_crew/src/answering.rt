@@ -12,13 +12,13 @@ ghost use Rattle.query_crew.specs.Posting.{StandsAt};
 ghost use Rattle.query_crew.specs.Served.{AreWindowReplies};
 ghost use Rattle.query_crew.specs.WindowLines.{window_lines, IsWindowLine};
 
-use crate::gate::Gate;
 use crate::joining::join_replies;
 use crate::window_line::WindowLine;
 use crate::window_run::run_window;
 use crate::worker::Worker;
 use delay_report::Reply;
 use mt_base::memory::OutOfMemory;
+use mt_io::Gate;
 use schedule_build::Directory;
 use snapshot_board::{Opening, Publisher, Viewer};
 use std::alloc::Global;
