@@ -5,3 +5,13 @@ pub mod ServedLemmas
 pub mod KnownNames
 pub mod InOrder
 pub mod SingleLemmas
+pub mod WorkLemmas
+pub mod OneLine
+pub mod Taking
+pub mod PostingLemmas
+pub mod Putting
+pub mod PostedStates
+pub mod Joined
+pub mod Joins
+pub mod Gathering
+pub mod Choosing

@@ -31,11 +31,11 @@ use Rattle.query_crew.proofs.Ends.{read-windows}
 -- ---- accepted messages
 
 -- the accepted messages of more lines begin with those of the first lines
-abbrev Later : Network → Names → State → List Line → List Line → List Message
+abbrev pub Later : Network → Names → State → List Line → List Line → List Message
 Later nw names st before w =
     accepted nw by_names (after_messages st (accepted_of nw names st before)) (names_after nw names st before) (messages_of w)
 
-accepted-more : (nw : Network) (names : Names) (st : State) (before w : List Line) → accepted_of nw names st (before ++ w) ≡ accepted_of nw names st before ++ Later nw names st before w
+pub accepted-more : (nw : Network) (names : Names) (st : State) (before w : List Line) → accepted_of nw names st (before ++ w) ≡ accepted_of nw names st before ++ Later nw names st before w
 accepted-more nw names st before w =
     ap (accepted nw by_names st names) (filter_map-append (λ (x : Line). message_in (said_by x)) before w) ∙ accepted-append nw by_names st names (messages_of before) (messages_of w)
 

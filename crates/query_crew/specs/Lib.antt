@@ -3,3 +3,8 @@ pub mod Inside
 pub mod Windows
 pub mod Reading
 pub mod Served
+pub mod Posted
+pub mod Posting
+pub mod Working
+pub mod Gathered
+pub mod Joining

@@ -1,14 +1,25 @@
 //! The windows of `serve`: reading them, which worker answers which client, and what is written.
 #![tactic(auto)]
 
+mod answering;
 mod clients;
+mod crew;
+mod crew_laws;
+mod joining;
 mod laws;
+mod posting;
 mod reading;
+mod replies;
 mod served_laws;
 mod window;
 mod window_line;
+mod window_run;
+mod worker;
 
+pub use answering::answer_window;
 pub use clients::worker_of;
+pub use crew::answer_own;
+pub use crew_laws::gathered_replies_are_those_of_a_window;
 pub use laws::windows_are_those_of_the_input;
 pub use reading::{WindowEnd, read_window};
 pub use served_laws::{
@@ -19,3 +30,5 @@ pub use served_laws::{
 };
 pub use window::{LINES_PER_WINDOW, Window};
 pub use window_line::{ClientQuery, WindowLine};
+pub use window_run::run_window;
+pub use worker::Worker;

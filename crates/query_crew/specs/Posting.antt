@@ -1,0 +1,109 @@
+-- What the publisher of the crew posts for the lines of a window, and what it replies at once.
+use Rattle.std.specs.Prelude.{◌≡◌, ℕ, ◌+◌, List, [], ◌∷◌, ◌++◌, length, fold, Some, None, Result, Ok, Err}
+use Rattle.std.specs.declared.option.Option.{Option}
+use Rattle.std.specs.List.{filter_map}
+use Rattle.delay_model.specs.declared.messages.Message.{Message}
+use Rattle.delay_model.specs.After.{accepted}
+use Rattle.delay_model.specs.Refusals.{refusal}
+use Rattle.delay_report.specs.declared.replies.Reply.{Reply}
+use Rattle.delay_report.specs.declared.replies.Reply.TheVariants.{Bad, Flush}
+use Rattle.information_service.specs.Lines.{by_names}
+use Rattle.information_service.specs.Output.{reply_to_message}
+use Rattle.information_service.specs.ServiceState.{ServiceState, after_message}
+use Rattle.message_reader.specs.declared.bad_line.BadLine.{BadLine}
+use Rattle.message_reader.specs.declared.resolve_queries.AskedQuery.{AskedQuery}
+use Rattle.message_reader.specs.declared.wire.Wire.{Wire}
+use Rattle.message_reader.specs.Resolved.{resolved}
+use Rattle.schedule_build.specs.Directory.{Names}
+use Rattle.schedule_build.specs.InStep.{AreInStep}
+use Rattle.timetable.specs.TimetableState.{TimetableState}
+use Rattle.query_crew.specs.declared.window_line.WindowLine.{WindowLine}
+use Rattle.query_crew.specs.declared.window_line.WindowLine.TheVariants as shown
+use Rattle.query_crew.specs.Posted.{timetable_after}
+
+-- ---- the state of a board
+
+-- a timetable after so many posted messages, with the names that are known, as a service
+abbrev pub service_with : TimetableState → ℕ → Names → ServiceState
+service_with t count names =
+    record { network = t.network; state = t.state; count = count; names = names }
+
+-- a board to which these messages were posted, with the names that are known, stands as a service
+-- in this state, and its names and its trains are in step
+pub record StandsAt (o : Option TimetableState) (posted : List Message) (names : Names)
+    (s : ServiceState) : Type 0 where
+  pub timetable : TimetableState
+  pub after : timetable_after o posted ≡ Some timetable
+  pub is : s ≡ service_with timetable (length posted) names
+  pub in_step : AreInStep names timetable.state
+
+-- the message is accepted by the board
+abbrev pub IsAccepted : Option TimetableState → List Message → Message → Type 0
+IsAccepted o posted m =
+    (t : TimetableState) → timetable_after o posted ≡ Some t
+    → refusal t.network t.state m ≡ None
+
+-- ---- what lines do
+
+-- after a line of a window: a message that is accepted has its effect
+abbrev pub after_shown : ServiceState → WindowLine → ServiceState
+after_shown s (shown.Message w) = after_message s w (resolved s.names w)
+after_shown s (shown.Query q) = s
+after_shown s shown.Flush = s
+after_shown s (shown.Bad b) = s
+
+-- after these lines
+abbrev pub after_lines : ServiceState → List WindowLine → ServiceState
+after_lines s lines = fold after_shown s lines
+
+-- the message of a line
+abbrev pub message_shown : WindowLine → Option Wire
+message_shown (shown.Message w) = Some w
+message_shown (shown.Query q) = None
+message_shown shown.Flush = None
+message_shown (shown.Bad b) = None
+
+-- the accepted messages of these lines, in a service that is in this state before them
+abbrev pub accepted_in : ServiceState → List WindowLine → List Message
+accepted_in s lines = accepted s.network by_names s.state s.names (filter_map message_shown lines)
+
+-- ---- what is replied at once
+
+-- a query is answered by a worker, and one whose line is bad at once
+abbrev pub reply_to_bad : ℕ → Result AskedQuery BadLine → Option Reply
+reply_to_bad number (Ok asked) = None
+reply_to_bad number (Err b) = Some (Bad number b)
+
+-- what is replied at once to the line of this number, in this state
+abbrev pub publisher_reply : ServiceState → ℕ → WindowLine → Option Reply
+publisher_reply s number (shown.Message w) =
+    Some (reply_to_message s.network s.names s.state s.count number w (resolved s.names w))
+publisher_reply s number (shown.Query q) = reply_to_bad number q.asked
+publisher_reply s number shown.Flush = Some (Flush number s.count)
+publisher_reply s number (shown.Bad b) = Some (Bad number b)
+
+-- what is replied at once to these lines, each in the state after those before it. So many lines of
+-- the input stand before them
+abbrev pub publisher_replies : ServiceState → ℕ → List WindowLine → List (Option Reply)
+publisher_replies s first [] = []
+publisher_replies s first (x ∷ xs) =
+    publisher_reply s (first + 1) x ∷ publisher_replies (after_shown s x) (first + 1) xs
+
+-- ---- what was posted
+
+-- what was done with one line, in this state: its message was posted if it is accepted, and its
+-- reply was made
+pub record IsTaken (o : Option TimetableState) (s : ServiceState) (number : ℕ) (line : WindowLine)
+    (old new : List Message) (names : Names) (reply : Option Reply) : Type 0 where
+  pub stands : StandsAt o new names (after_shown s line)
+  pub posted : new ≡ old ++ accepted_in s (line ∷ [])
+  pub replied : reply ≡ publisher_reply s number line
+
+-- what was done with these lines, in this state before them: their accepted messages were posted,
+-- and the replies were put behind the older ones
+pub record ArePosted (o : Option TimetableState) (s : ServiceState) (first : ℕ)
+    (lines : List WindowLine) (old new : List Message) (names : Names)
+    (replies_old replies_new : List (Option Reply)) : Type 0 where
+  pub stands : StandsAt o new names (after_lines s lines)
+  pub posted : new ≡ old ++ accepted_in s lines
+  pub replied : replies_new ≡ replies_old ++ publisher_replies s first lines

@@ -1,0 +1,189 @@
+//! A whole window: messages are posted beside the workers, and then the publisher meets each
+//! worker's viewer.
+
+ghost use Rattle.std.specs.Prelude.{◌≡◌, ℕ, ◌+◌, ◌^◌, ◌<◌, ◌≤◌, true, All, IfOk, length, slice_index_or};
+ghost use mathlib.Core.List.{IsPrefix};
+ghost use Rattle.information_service.specs.ServiceState.{ServiceState};
+ghost use Rattle.query_crew.specs.Posted.{HasFewStops};
+ghost use Rattle.query_crew.specs.Posting.{StandsAt, ArePosted};
+ghost use Rattle.query_crew.specs.WindowLines.{IsWindowLine};
+ghost use Rattle.query_crew.specs.Working.{HasAnsweredAll, HasWorked};
+
+use crate::crew::{answer_all, settle};
+use crate::posting::post_all;
+use crate::window_line::WindowLine;
+use crate::worker::Worker;
+use delay_report::Reply;
+use mt_base::memory::OutOfMemory;
+use mt_io::Gate;
+use schedule_build::Directory;
+use snapshot_board::{Note, Opening, Publisher, Viewer};
+use std::alloc::{AllocError, Global};
+use std::sync::Wait;
+use std::thread::{Threads, join_mut};
+use timetable::Timetable;
+use train_nodes::Msg;
+
+/// Posts the messages of the lines, while the workers answer the queries.
+fn run_beside<H: Opening<Timetable> + Send + Sync, R: Threads + Wait + Sync, G: Gate + Sync>(
+    rt: &R,
+    alloc: Global,
+    publisher: &mut Publisher<Timetable, H>,
+    directory: &mut Directory,
+    all: &mut [Worker<Viewer<Timetable, H>>],
+    lines: &[WindowLine],
+    first: u64,
+    replies: &mut Vec<Option<Reply>>,
+    gate: &G,
+) -> Result<(), OutOfMemory>
+    // names and trains are in step, each message is one that was read
+    requires board { (s : ServiceState) × StandsAt H.opening publisher.old directory.old s }
+    requires kept { All IsWindowLine lines.now }
+
+    // numbers fit, and there is room for the answers
+    requires numbers { first + length lines.now < 2 ^ 64 }
+    requires posts { length publisher.old + length lines.now < 2 ^ 64 }
+    requires few { length all.old < 2 ^ 32 }
+    requires room { (i : ℕ) (d : _) → i < length all.old
+        → HasFewStops H.opening (slice_index_or all.old i d).scratch.stops }
+
+    // what was posted and replied, in whatever state the board stands as a service
+    ensures posted { IfOk result (λ _. (s : ServiceState)
+        → StandsAt H.opening publisher.old directory.old s
+        → ArePosted H.opening s first lines.now publisher.old publisher.new directory.new
+        replies.old.items replies.new.items) }
+    ensures later { IsPrefix publisher.old publisher.new }
+
+    // what each worker answered
+    ensures worked { (i : ℕ) (d : _) → i < length all.old
+        → (slice_index_or all.new i d).is_whole ≡ true
+        → HasWorked H.opening publisher.old (slice_index_or all.new i d).viewer first i
+        (length all.old) lines.now (slice_index_or all.new i d).answers.items }
+    ensures room { (i : ℕ) (d : _) → i < length all.old
+        → HasFewStops H.opening (slice_index_or all.new i d).scratch.stops }
+    ensures same { length all.new ≡ length all.old }
+{
+    let note = publisher.tell();
+    let (_, posted) = join_mut(
+        rt,
+        &mut ||
+            requires { (length all.now < 2 ^ 32) × (first + length lines.now < 2 ^ 64)
+                × ((i : ℕ) (d : _) → i < length all.now
+                → HasFewStops H.opening (slice_index_or all.now i d).scratch.stops) }
+            ensures { ((i : ℕ) (d : _) → i < length all.entry.now
+                → (slice_index_or all.exit.now i d).is_whole ≡ true
+                → HasWorked H.opening note (slice_index_or all.exit.now i d).viewer first i
+                (length all.entry.now) lines.entry.now
+                (slice_index_or all.exit.now i d).answers.items)
+                × ((i : ℕ) (d : _) → i < length all.entry.now
+                → HasFewStops H.opening (slice_index_or all.exit.now i d).scratch.stops)
+                × (length all.exit.now ≡ length all.entry.now) }
+        { answer_all(rt, alloc, all, lines, first, &note, gate) },
+        &mut || -> Result<(), OutOfMemory>
+            requires { ((s : ServiceState) × StandsAt H.opening publisher.now directory.now s)
+                × All IsWindowLine lines.now × (first + length lines.now < 2 ^ 64)
+                × (length publisher.now + length lines.now < 2 ^ 64) }
+            ensures { IfOk result (λ _. (s : ServiceState)
+                → StandsAt H.opening publisher.entry.now directory.entry.now s
+                → ArePosted H.opening s first lines.entry.now publisher.entry.now
+                publisher.exit.now directory.exit.now replies.entry.now.items
+                replies.exit.now.items)
+                × IsPrefix publisher.entry.now publisher.exit.now }
+        { post_all(rt, alloc, publisher, directory, lines, first, replies, gate) },
+    );
+    posted
+}
+
+/// The publisher meets each worker's viewer. It says whether there was memory for all answers.
+fn settle_all<H: Opening<Timetable>>(
+    alloc: Global,
+    publisher: &Publisher<Timetable, H>,
+    start: &Note<Msg, H>,
+    all: &mut [Worker<Viewer<Timetable, H>>],
+    lines: &[WindowLine],
+    first: u64,
+) -> bool
+    requires later { IsPrefix start.now publisher.now }
+    requires worked { (i : ℕ) (d : _) → i < length all.old
+        → (slice_index_or all.old i d).is_whole ≡ true
+        → HasWorked H.opening start.now (slice_index_or all.old i d).viewer first i
+        (length all.old) lines.now (slice_index_or all.old i d).answers.items }
+    requires numbers { first + length lines.now < 2 ^ 64 }
+    requires few { length all.old < 2 ^ 32 }
+    requires room { (i : ℕ) (d : _) → i < length all.old
+        → HasFewStops H.opening (slice_index_or all.old i d).scratch.stops }
+    ensures answered { result ≡ true → ((i : ℕ) (d : _) → i < length all.old
+        → HasAnsweredAll H.opening publisher.now (length start.now) first i (length all.old)
+        lines.now (slice_index_or all.new i d).answers.items) }
+    ensures room { (i : ℕ) (d : _) → i < length all.old
+        → HasFewStops H.opening (slice_index_or all.new i d).scratch.stops }
+    ensures same { length all.new ≡ length all.old }
+{
+    let workers = all.len() as u32;
+    for i in 0..all.len() {
+        if !settle(
+            alloc,
+            publisher,
+            start,
+            &mut all[i],
+            lines,
+            first,
+            i as u32,
+            workers,
+        ) {
+            return false;
+        }
+    }
+    true
+}
+
+/// Runs a window: the messages of its lines are posted in their order, while the workers answer its
+/// queries, and `replies` gets the reply to each line but the queries. Then the publisher meets each
+/// worker's viewer; where one saw more than was posted, the publisher answers in its place.
+pub fn run_window<H: Opening<Timetable> + Send + Sync, R: Threads + Wait + Sync, G: Gate + Sync>(
+    rt: &R,
+    alloc: Global,
+    publisher: &mut Publisher<Timetable, H>,
+    directory: &mut Directory,
+    all: &mut [Worker<Viewer<Timetable, H>>],
+    lines: &[WindowLine],
+    first: u64,
+    replies: &mut Vec<Option<Reply>>,
+    gate: &G,
+) -> Result<(), OutOfMemory>
+    // names and trains are in step, each message is one that was read
+    requires board { (s : ServiceState) × StandsAt H.opening publisher.old directory.old s }
+    requires kept { All IsWindowLine lines.now }
+
+    // numbers fit, and there is room for the answers
+    requires numbers { first + length lines.now < 2 ^ 64 }
+    requires posts { length publisher.old + length lines.now < 2 ^ 64 }
+    requires few { length all.old < 2 ^ 32 }
+    requires room { (i : ℕ) (d : _) → i < length all.old
+        → HasFewStops H.opening (slice_index_or all.old i d).scratch.stops }
+
+    // what was posted and replied, in whatever state the board stands as a service
+    ensures posted { IfOk result (λ _. (s : ServiceState)
+        → StandsAt H.opening publisher.old directory.old s
+        → ArePosted H.opening s first lines.now publisher.old publisher.new directory.new
+        replies.old.items replies.new.items) }
+    ensures later { IsPrefix publisher.old publisher.new }
+
+    // what the clients of each worker are answered, over what was posted
+    ensures answered { IfOk result (λ _. (i : ℕ) (d : _) → i < length all.old
+        → HasAnsweredAll H.opening publisher.new (length publisher.old) first i (length all.old)
+        lines.now (slice_index_or all.new i d).answers.items) }
+    ensures room { (i : ℕ) (d : _) → i < length all.old
+        → HasFewStops H.opening (slice_index_or all.new i d).scratch.stops }
+    ensures same { length all.new ≡ length all.old }
+{
+    let start = publisher.tell();
+    run_beside(
+        rt, alloc, publisher, directory, all, lines, first, replies, gate,
+    )?;
+    if settle_all(alloc, publisher, &start, all, lines, first) {
+        Ok(())
+    } else {
+        Err(AllocError)
+    }
+}

@@ -1,0 +1,162 @@
+//! A worker, which answers the queries of some of the clients.
+
+ghost use Rattle.std.specs.Prelude.{◌≡◌, ◌+◌, ◌^◌, ◌<◌, ◌≤◌, true, IfOk, length};
+ghost use mathlib.Core.List.{IsPrefix};
+ghost use Rattle.information_service.specs.Output.{IsReplyToQuery};
+ghost use Rattle.snapshot_board.specs.Knowledge.{IsLook};
+ghost use Rattle.query_crew.specs.Posted.{HasFewStops, IsAnswerAt};
+ghost use Rattle.query_crew.specs.Working.{asked_of, IsNewEntry, IsPushed, HasWorked};
+
+use crate::clients::worker_of;
+use crate::replies::reply_to_asked;
+use crate::window_line::WindowLine;
+use conn_scan::Scratch;
+use delay_report::Reply;
+use message_reader::AskedQuery;
+use mt_base::memory::OutOfMemory;
+use mt_io::{Gate, Point};
+use snapshot_board::{Note, Opening, Viewer};
+use std::alloc::Global;
+use std::sync::Wait;
+use timetable::Timetable;
+use train_nodes::Msg;
+
+/// Who answers the queries of some of the clients.
+#[derive(Drop)]
+pub struct Worker<V: Drop> {
+    /// With what it looks at the timetable.
+    pub viewer: V,
+    /// Room for the search.
+    pub scratch: Scratch,
+    /// What was answered to each line of the last window: nothing to a line that is no query of its
+    /// clients.
+    pub answers: Vec<Option<Reply>>,
+    /// Whether there was memory for all answers.
+    pub is_whole: bool,
+}
+
+/// The query of a line, if it is one of a client of this worker.
+pub(crate) fn asked_by(line: &WindowLine, me: u32, workers: u32) -> Option<AskedQuery>
+    requires some { 1 ≤ workers }
+    ensures { result ≡ asked_of me workers line.now }
+{
+    if let WindowLine::Query(query) = line
+        && worker_of(query.client.text(), workers) == me
+        && let Ok(asked) = &query.asked
+    {
+        return Some(*asked);
+    }
+    None
+}
+
+/// The answer to a query in the timetable that the viewer is shown, and the scratch.
+fn look_for<H: Opening<Timetable>, R: Wait>(
+    rt: &R,
+    alloc: Global,
+    viewer: &mut Viewer<Timetable, H>,
+    scratch: Scratch,
+    number: u64,
+    asked: &AskedQuery,
+) -> (Scratch, Result<Reply, OutOfMemory>)
+    requires room { HasFewStops H.opening scratch.stops }
+    ensures look { IsLook viewer.old viewer.new }
+    ensures answer { IfOk result.1 (IsAnswerAt H.opening viewer.new.seen (length viewer.new.seen)
+        number asked.now) }
+    ensures room { result.0.stops ≡ scratch.stops }
+{
+    viewer.look(
+        rt,
+        move |timetable: &Timetable, after: u64| -> (Scratch, Result<Reply, OutOfMemory>)
+            requires { length timetable.now.network.stops ≤ scratch.stops }
+            ensures reply { IfOk result.1 (IsReplyToQuery timetable.now.network timetable.now.state
+                after number asked.entry.now.day asked.entry.now.query) }
+            ensures room { result.0.stops ≡ scratch.stops }
+        {
+            let mut scratch = scratch;
+            let reply = reply_to_asked(alloc, timetable, &mut scratch, number, after, asked);
+            (scratch, reply)
+        },
+    )
+}
+
+/// The answer to a line, if it asks something, and the scratch.
+fn answer_line<H: Opening<Timetable>, R: Wait, G: Gate>(
+    rt: &R,
+    alloc: Global,
+    viewer: &mut Viewer<Timetable, H>,
+    scratch: Scratch,
+    number: u64,
+    asked: &Option<AskedQuery>,
+    gate: &G,
+) -> (Scratch, Result<Option<Reply>, OutOfMemory>)
+    requires room { HasFewStops H.opening scratch.stops }
+    ensures entry { IfOk result.1 (IsNewEntry H.opening viewer.old.learnt viewer.new.seen number
+        asked.now) }
+    ensures later { IsPrefix viewer.old.seen viewer.new.seen }
+    ensures learnt { viewer.new.learnt ≡ viewer.old.learnt }
+    ensures room { result.0.stops ≡ scratch.stops }
+{
+    if let Some(query) = asked {
+        gate.at(Point::BeforeLook { line: number });
+        let (scratch, answer) = look_for(rt, alloc, viewer, scratch, number, query);
+        return (scratch, answer.map(Some));
+    }
+    (scratch, Ok(None))
+}
+
+/// Puts what was answered behind the answers. It says whether there was memory for both.
+pub(crate) fn push_entry(
+    answers: &mut Vec<Option<Reply>>,
+    entry: Result<Option<Reply>, OutOfMemory>,
+) -> bool
+    ensures { result ≡ true → IsPushed answers.old.items entry answers.new.items }
+{
+    match entry {
+        Ok(entry) => answers.push(entry).is_ok(),
+        Err(_) => false,
+    }
+}
+
+/// Learns the note, and answers the queries of this worker's clients, in line order. `first` is the
+/// number of lines before the window.
+pub(crate) fn work<H: Opening<Timetable>, R: Wait, G: Gate>(
+    rt: &R,
+    alloc: Global,
+    worker: Worker<Viewer<Timetable, H>>,
+    lines: &[WindowLine],
+    first: u64,
+    note: &Note<Msg, H>,
+    me: u32,
+    workers: u32,
+    gate: &G,
+) -> Worker<Viewer<Timetable, H>>
+    requires some { 1 ≤ workers }
+    requires numbers { first + length lines.now < 2 ^ 64 }
+    requires room { HasFewStops H.opening worker.scratch.stops }
+    ensures worked { result.is_whole ≡ true → HasWorked H.opening note.now result.viewer first me
+        workers lines.now result.answers.items }
+    ensures room { result.scratch.stops ≡ worker.scratch.stops }
+{
+    let mut viewer = worker.viewer;
+    let mut scratch = worker.scratch;
+    let mut answers = worker.answers;
+    let mut is_whole = true;
+    viewer.learn(note.copy());
+    answers.clear();
+    for (i, line) in lines.iter().enumerate() {
+        let asked = asked_by(line, me, workers);
+        let number = first + i as u64 + 1;
+        let (back, entry) = answer_line(rt, alloc, &mut viewer, scratch, number, &asked, gate);
+        scratch = back;
+        if !push_entry(&mut answers, entry) {
+            is_whole = false;
+            break;
+        }
+    }
+    Worker {
+        viewer,
+        scratch,
+        answers,
+        is_whole,
+    }
+}
