@@ -105,10 +105,10 @@ def make_feed(folder, trains):
         (folder / name).write_text("\n".join([header, *rows, ""]))
 
 
-def make_query(random):
-    """A line that asks for a journey between two places."""
+def make_query(random, client="q"):
+    """A line by which a client asks for a journey between two places."""
     origin, destination = random.sample([f"P{x}-{y}" for x in range(WIDTH) for y in range(HEIGHT)], 2)
-    ends = {"client": "q", "from": origin, "to": destination}
+    ends = {"client": client, "from": origin, "to": destination}
     return json.dumps({"v": 1, "type": "query"} | ends | {"date": DATE, "time": clock(random.randrange(FIRST, LAST))})
 
 

@@ -1,7 +1,8 @@
 """The rules of docs/MODEL.md as a plain, slow program, to be read beside that page.
 
 It reads a feed from its folder and answers lines as `traind times` does, from
-Monday 2026-01-05: all eight messages, queries, and flush lines. It takes feeds
+Monday 2026-01-05: all eight messages, queries, and flush lines. A query is also
+answered by the rides of an earlier state, as `traind serve` may. It takes feeds
 that are not refused and lines that are not bad but for the places, the date and
 the time of a query. It does nothing fast: every pair of events is tried for a
 planned connection, and after each message every event gets its time anew. The
@@ -198,20 +199,27 @@ class Plain:
 
     # Section 10: the answer to a query.
 
-    def answer(self, query):
-        """The answer to a query, with its journeys in place of one; a reply may show any of them that arrives then."""
+    def current_rides(self):
+        """All rides of the present state."""
+        if self.rides is None:
+            self.rides = rides_of(self.trains, self.times)
+        return self.rides
+
+    def answer(self, query, after, rides):
+        """The answer to a query after so many accepted messages, by the rides of the state that they leave.
+
+        It has journeys in place of one; a reply may show any of them that arrives then.
+        """
         places, days = (query["from"], query["to"]), [date_text(day) for day in range(self.options["days"])]
         if not all(place in self.feed.stops and self.feed.place_type(place) in "01" for place in places):
             return {"bad": "stop"}
         if query["date"] not in days or not re.fullmatch("[0-9]{1,2}:[0-5][0-9]:[0-5][0-9]", query["time"]):
             return {"bad": "time"}
-        if self.rides is None:
-            self.rides = rides_of(self.trains, self.times)
         day = days.index(query["date"])
-        journeys = Journeys(self.feed, self.rides, *places, seconds_of(query["time"], day))
+        journeys = Journeys(self.feed, rides, *places, seconds_of(query["time"], day))
         if journeys.arrives is None:
-            return {"after": self.accepted, "arrives": None}
-        return {"after": self.accepted, "arrives": time_text(journeys.arrives - day * DAY), "rides": journeys}
+            return {"after": after, "arrives": None}
+        return {"after": after, "arrives": time_text(journeys.arrives - day * DAY), "rides": journeys}
 
     def are_at_stops(self, calls):
         return all(self.feed.is_stop(call["stop"]) for call in calls)
@@ -242,7 +250,7 @@ class Plain:
         if message["type"] == "flush":
             return {"flush": self.accepted}
         if message["type"] == "query":
-            return self.answer(message)
+            return self.answer(message, self.accepted, self.current_rides())
         take = TAKES[message["type"]]
         refusal = take(self, message)
         if refusal:

@@ -5,6 +5,7 @@ use Rattle.command_words.specs.Words.{Asked}
 -- the same, with the text of the folder's name
 abbrev pub asked_view : Held → Asked
 asked_view a = record {
+  command = a.command;
   folder = a.folder.now;
   first = a.first;
   days = a.days;

@@ -1,3 +1,3 @@
-pub mod Times
+pub mod Commands
 pub mod Words
 pub mod Held

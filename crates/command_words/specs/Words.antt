@@ -1,16 +1,19 @@
 -- What the words after the program's name ask for.
 use Rattle.std.specs.Prelude.{ℕ, List, [], ◌∷◌, ◌&&◌, nat_le, if◌then◌else◌, Some, None, bytes_eq, codes, option_and_then}
 use Rattle.std.specs.declared.option.Option.{Option}
-use Rattle.clap.specs.Words.{Row, Text, fault_of, first_of, matches_of}
+use Rattle.clap.specs.Words.{App, Row, Text, fault_of, first_of, matches_of}
 use Rattle.clap.specs.Walk.{is_empty}
 use Rattle.mt_base.specs.Texts.{date_of}
 use Rattle.gtfs_tables.specs.Fields.{number_of}
 use Rattle.mt_base.specs.declared.options.Opts.{Opts}
-use Rattle.command_words.specs.Times.{times_app}
+use Rattle.command_words.specs.Commands.{command_app}
+use Rattle.command_words.specs.declared.words.Command.{Command}
+use Rattle.command_words.specs.declared.words.Command.TheVariants.{Times, Serve}
 
--- the folder of the feed, the first service day as the number YYYYMMDD, how many service days there
--- are, the options of the timetable, and how many workers answer queries
+-- the command, the folder of the feed, the first service day as the number YYYYMMDD, how many
+-- service days there are, the options of the timetable, and how many workers answer queries
 pub record Asked : Type 0 where
+  pub command : Command
   pub folder : Text
   pub first : ℕ
   pub days : ℕ
@@ -54,24 +57,36 @@ options_of given =
       overrides = overrides;
     })
 
--- what the values of the arguments ask for
-abbrev pub values_ask : List Row → Option Asked
-values_ask given =
+-- the command of this name
+abbrev pub command_of : Text → Option Command
+command_of name = if bytes_eq name (codes "times") then Some Times
+    else (if bytes_eq name (codes "serve") then Some Serve else None)
+
+-- what the values of a command's arguments ask for
+abbrev pub values_ask : Command → List Row → Option Asked
+values_ask command given =
     first_of (codes "feed") given >>= λ folder.
     first_date given >>= λ first.
     number_within (codes "days") 1 31 given >>= λ days.
     options_of given >>= λ opts.
     number_within (codes "workers") 1 16 given >>= λ workers.
-    Some (record { folder = folder; first = first; days = days; opts = opts; workers = workers })
+    Some (record {
+      command = command;
+      folder = folder;
+      first = first;
+      days = days;
+      opts = opts;
+      workers = workers;
+    })
 
--- what these words ask for, of which the first is `times`: clap reads them without a fault, and
--- each value is well spelt and in its range
-abbrev pub times_asked : List Text → Option Asked
-times_asked words = if is_empty (fault_of times_app words) then values_ask
-    (matches_of times_app words) else None
+-- what these words ask of the command that clap reads as this app: clap reads them without a fault,
+-- and each value is well spelt and in its range
+abbrev pub command_asked : Command → App → List Text → Option Asked
+command_asked command app words = if is_empty (fault_of app words)
+    then values_ask command (matches_of app words) else None
 
--- what the words after the program's name ask for: the first is the command
+-- what the words after the program's name ask for: the first is the name of the command
 unfoldable pub asked_of : List Text → Option Asked
 asked_of [] = None
-asked_of (command ∷ rest) = if bytes_eq command (codes "times") then times_asked (command ∷ rest)
-    else None
+asked_of (name ∷ rest) = command_of name >>= λ command.
+    command_asked command (command_app name) (name ∷ rest)

@@ -2,16 +2,16 @@
 
 ghost use Rattle.std.specs.Prelude.{◌≡◌, IfOk, false};
 ghost use Rattle.clap.specs.Words.{app_of, rule_of};
-ghost use Rattle.command_words.specs.Times.{times_app, bare_app, feed_rule, from_rule, option_rule};
+ghost use Rattle.command_words.specs.Commands.{command_app, bare_app, feed_rule, from_rule, option_rule};
 
-use clap::{Arg, Command};
+use clap::Arg;
 use std::alloc::{AllocError, Global};
 
 // A command without flags for help and version.
-fn bare_command<'a>(alloc: Global, name: &'a str) -> Command<'a>
+fn bare_command<'a>(alloc: Global, name: &'a str) -> clap::Command<'a>
     ensures { app_of result ≡ bare_app name.now }
 {
-    Command::new(alloc, name)
+    clap::Command::new(alloc, name)
         .disable_help_flag(true)
         .disable_version_flag(true)
 }
@@ -38,11 +38,14 @@ fn option<'a>(alloc: Global, name: &'a str, default: &'a str) -> Arg<'a>
     Arg::new(alloc, name).long(name).default_value(default)
 }
 
-/// The command `times FEED --from DATE` with its options.
-pub(crate) fn times_command<'a>(alloc: Global) -> Result<Command<'a>, AllocError>
-    ensures { IfOk result (λ c. app_of c ≡ times_app) }
+/// The command `NAME FEED --from DATE` with its options.
+pub(crate) fn named_command<'a>(
+    alloc: Global,
+    name: &'a str,
+) -> Result<clap::Command<'a>, AllocError>
+    ensures { IfOk result (λ c. app_of c ≡ command_app name.now) }
 {
-    bare_command(alloc, "times")
+    bare_command(alloc, name)
         .arg(feed_argument(alloc))?
         .arg(from_option(alloc))?
         .arg(option(alloc, "days", "1"))?

@@ -5,4 +5,4 @@ mod command;
 mod values;
 mod words;
 
-pub use words::{Asked, WordsFault, read_words};
+pub use words::{Asked, Command, WordsFault, read_words};

@@ -4,21 +4,34 @@ ghost use Rattle.std.specs.Prelude.{◌≡◌, ◌≤◌, ◌<◌, [], IfOk, IfS
 ghost use Rattle.clap.specs.Words.{fault_of, found_of, matches_of, rows_of};
 ghost use Rattle.mt_base.specs.Civil.{IsCivil};
 ghost use Rattle.mt_base.specs.Options.{IsInRange};
+ghost use Rattle.command_words.specs.Commands.{command_app};
 ghost use Rattle.command_words.specs.Held.{asked_view};
-ghost use Rattle.command_words.specs.Times.{times_app};
-ghost use Rattle.command_words.specs.Words.{asked_of, values_ask};
+ghost use Rattle.command_words.specs.Words.{asked_of, command_of, values_ask};
 ghost use Rattle.command_words.specs.declared.words.WordsFault.TheVariants.{OutOfMemory};
 
-use crate::command::times_command;
+use crate::command::named_command;
 use crate::values::{first_date, number_within, options, value};
 use clap::ArgMatches;
 use clap::error::ErrorKind;
 use mt_base::Opts;
 use std::alloc::{AllocError, Global};
 
+/// What the program is asked to do with a feed.
+#[derive(Clone, Copy, Debug, PartialEq, Eq)]
+pub enum Command {
+    /// Answers each line at once, and writes the table of all times at the end.
+    Times,
+
+    /// Answers queries in several threads while the messages are applied.
+    Serve,
+}
+
 /// What the words ask for.
 #[derive(Clone, Copy, Debug)]
 pub struct Asked<'a> {
+    /// The command.
+    pub command: Command,
+
     /// The folder of the feed.
     pub folder: &'a str,
 
@@ -53,14 +66,30 @@ impl From<AllocError> for WordsFault {
     }
 }
 
-fn times_matches<'a>(alloc: Global, words: &'a [String]) -> Result<ArgMatches<'a>, WordsFault>
-    ensures taken { IfOk result (λ _. fault_of times_app (map string_bytes words.now) ≡ []) }
-    ensures values { IfOk result (λ m. rows_of (found_of m)
-        ≡ matches_of times_app (map string_bytes words.now)) }
-    ensures usage { IsErrOf result WordsFault.Usage
-        → fault_of times_app (map string_bytes words.now) ≡ [] → ⊥ }
+// The command of this name.
+fn command_of(name: &str) -> Option<Command>
+    ensures { result ≡ command_of name.now }
 {
-    let command = times_command(alloc)?;
+    match name {
+        "times" => Some(Command::Times),
+        "serve" => Some(Command::Serve),
+        _ => None,
+    }
+}
+
+fn command_matches<'a>(
+    alloc: Global,
+    name: &'a str,
+    words: &'a [String],
+) -> Result<ArgMatches<'a>, WordsFault>
+    ensures taken { IfOk result (λ _.
+        fault_of (command_app name.now) (map string_bytes words.now) ≡ []) }
+    ensures values { IfOk result (λ m. rows_of (found_of m)
+        ≡ matches_of (command_app name.now) (map string_bytes words.now)) }
+    ensures usage { IsErrOf result WordsFault.Usage
+        → fault_of (command_app name.now) (map string_bytes words.now) ≡ [] → ⊥ }
+{
+    let command = named_command(alloc, name)?;
     match command.try_get_matches_from(words) {
         Ok(matches) => Ok(matches),
         Err(error) => match error.kind() {
@@ -70,8 +99,9 @@ fn times_matches<'a>(alloc: Global, words: &'a [String]) -> Result<ArgMatches<'a
     }
 }
 
-fn values_ask<'a>(given: &ArgMatches<'a>) -> Option<Asked<'a>>
-    ensures value { option_map asked_view result ≡ values_ask (rows_of (found_of given.now)) }
+fn values_ask<'a>(command: Command, given: &ArgMatches<'a>) -> Option<Asked<'a>>
+    ensures value { option_map asked_view result
+        ≡ values_ask command (rows_of (found_of given.now)) }
     ensures civil { IfSome result (λ a. IsCivil a.first) }
     ensures year { IfSome result (λ a. a.first < 21010000) }
     ensures days { IfSome result (λ a. (1 ≤ a.days) × (a.days ≤ 31)) }
@@ -79,6 +109,7 @@ fn values_ask<'a>(given: &ArgMatches<'a>) -> Option<Asked<'a>>
     ensures workers { IfSome result (λ a. (1 ≤ a.workers) × (a.workers ≤ 16)) }
 {
     Some(Asked {
+        command,
         folder: value(given, "feed")?,
         first: first_date(given)?,
         days: number_within(given, "days", 1, 31)?,
@@ -103,11 +134,8 @@ pub fn read_words<'a>(alloc: Global, words: &'a [String]) -> Result<Asked<'a>, W
     ensures options { IfOk result (λ a. IsInRange a.opts) }
     ensures workers { IfOk result (λ a. (1 ≤ a.workers) × (a.workers ≤ 16)) }
 {
-    match words {
-        [command, ..] if command.as_str() == "times" => {
-            let given = times_matches(alloc, words)?;
-            values_ask(&given).ok_or(WordsFault::Usage)
-        }
-        _ => Err(WordsFault::Usage),
-    }
+    let name = words.first().ok_or(WordsFault::Usage)?.as_str();
+    let command = command_of(name).ok_or(WordsFault::Usage)?;
+    let given = command_matches(alloc, name, words)?;
+    values_ask(command, &given).ok_or(WordsFault::Usage)
 }

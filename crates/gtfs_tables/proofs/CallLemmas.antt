@@ -1,9 +1,6 @@
 -- The calls of a trip by the first and the last of them.
-use Rattle.std.proofs.Common.{◌≡◌, ◌≤◌, ◌+◌, ◌∷◌, [], ℕ, suc, arith, List, length, get_or, refl}
-use Rattle.gtfs_tables.specs.declared.keyed_calls.CallTimes.{CallTimes}
+use Rattle.gtfs_tables.proofs.Words.{◌≡◌, ◌≤◌, ◌+◌, ◌∷◌, [], ℕ, suc, arith, List, length, get_or, refl, CallTimes, check, fault, ◌>>=◌, last_call, is_timed, check_order, check_trip}
 use Rattle.gtfs_tables.specs.declared.faults.Cause.TheVariants.{UntimedEnd}
-use Rattle.gtfs_tables.specs.Checks.{check, fault, ◌>>=◌}
-use Rattle.gtfs_tables.specs.StopTimes.{last_call, is_timed, check_order, check_trip}
 
 -- the last call is at the last place
 last_call_at : (call : CallTimes) (calls : List CallTimes) (d : CallTimes) → get_or (call ∷ calls) (length calls) d ≡ last_call call calls

@@ -1,10 +1,7 @@
 -- From what was fetched and read of one table to what a feed holds of it.
-use Rattle.std.proofs.Common.{◌≡◌, ℕ, List, Result, sym, subst, arith}
+use Rattle.gtfs_tables.proofs.Words.{◌≡◌, ℕ, List, Result, sym, subst, arith, ◌>>=◌, records_of, AreRecordsOf}
 use Rattle.gtfs_tables.specs.declared.refusals.FeedRefusal.{FeedRefusal}
 use Rattle.gtfs_tables.specs.declared.refusals.FeedError.{FeedError}
-use Rattle.gtfs_tables.specs.Checks.{◌>>=◌}
-use Rattle.gtfs_tables.specs.Records.{records_of}
-use Rattle.gtfs_tables.specs.Texts.{AreRecordsOf}
 use Rattle.gtfs_tables.proofs.TextRecords.{records_are}
 use Rattle.gtfs_tables.specs.Refusals.{IsErrorOf}
 

@@ -1,12 +1,10 @@
 -- Whether a second record follows the first.
-use Rattle.std.proofs.Common.{◌≡◌, ◌∷◌, ℕ, arith, List, Bool, true, false, Result, Ok, Err}
+use Rattle.gtfs_tables.proofs.Words.{◌≡◌, ◌∷◌, ℕ, arith, List, Bool, true, false, Result, Ok, Err, Reader, Text, Remains, Steps}
 use Rattle.std.specs.Prelude.{IfOk, IfErr}
-use Rattle.csv.specs.declared.reader.Reader.{Reader}
 use Rattle.gtfs_tables.specs.declared.faults.TableError.{TableError}
 use Rattle.gtfs_tables.specs.declared.faults.TableError.TheVariants as errors
 use Rattle.gtfs_tables.specs.Checks.{Gives}
 use Rattle.gtfs_tables.specs.Frequencies.{has_rows}
-use Rattle.gtfs_tables.specs.Texts.{Text, Remains, Steps}
 
 -- what was read behind the header says whether there is a row
 pub second_record : (found : Result Bool TableError) (old new : Reader Text) (header fields : List (List ℕ)) (all rest : List (List (List ℕ)))

@@ -1,10 +1,8 @@
 -- The ids of rows after one more id.
-use Rattle.std.proofs.Common.{◌≡◌, ◌++◌, ◌∷◌, [], arith, ℕ, List, Option, Some, Bool, Ok, length}
-use Rattle.std.specs.Prelude.{bytes_eq, is_some, not, if◌then◌else◌}
-use Rattle.gtfs_tables.specs.Ids.{AddsId, number_of_id}
-use Rattle.gtfs_tables.specs.Numbers.{number_from}
+use Rattle.gtfs_tables.proofs.Words.{◌≡◌, ◌++◌, ◌∷◌, [], arith, ℕ, List, Option, Some, Bool, Ok, length, bytes_eq, not, if◌then◌else◌, number_of_id, number_from, AreDistinct}
+use Rattle.std.specs.Prelude.{is_some}
+use Rattle.gtfs_tables.specs.Ids.{AddsId}
 use Rattle.gtfs_tables.specs.declared.ids.Ids.{Ids}
-use Rattle.feed_tables.specs.Lawful.{AreDistinct}
 use Rattle.gtfs_tables.proofs.LawNames.{distinct-more}
 use Rattle.gtfs_tables.proofs.NumberLemmas.{number_from-more}
 

@@ -1,9 +1,8 @@
 -- Keys of rows in a set.
-use Rattle.std.proofs.Common.{◌≡◌, ◌∙◌, ◌++◌, ◌∷◌, [], ◌==◌, ◌&&◌, ℕ, List, Bool, true, cond, arith}
-use Rattle.std.proofs.lemmas.Grind.{common_steps}
+use Rattle.gtfs_tables.proofs.Words.{◌≡◌, ◌∙◌, ◌++◌, ◌∷◌, [], ◌==◌, ◌&&◌, ℕ, List, Bool, true, cond, arith, common_steps, nat_cmp}
 use Rattle.std.proofs.lemmas.List.Folds.{list_any-append}
 use Rattle.std.specs.List.{list_any}
-use Rattle.std.specs.Ordering.{is_eq, nat_cmp, ordering_then}
+use Rattle.std.specs.Ordering.{is_eq, ordering_then}
 
 -- pairs of numbers are equal keys where both parts are equal
 pub is_eq-pair : (a b c d : ℕ) → is_eq (ordering_then (nat_cmp a c) (nat_cmp b d)) ≡ ((a == c) && (b == d))

@@ -1,18 +1,15 @@
 -- Entries in two parts, which are in order one after the other.
+use Rattle.gtfs_tables.proofs.Words.{◌≡◌, ◌∙◌, ◌++◌, ◌∷◌, [], ◌-◌, List, None, Some, refl, false, ap, sym, subst, length, take, arith, append-nil, insert_entry, is_at, lookup, nat_cmp, CallTimes, Key, key_cmp}
 use native.Mathlib.Numerals.{unary_clauses}
-use Rattle.std.proofs.Common.{◌≡◌, ◌∙◌, ◌++◌, ◌∷◌, [], ◌-◌, List, None, Some, refl, false, ap, sym, subst, length, take, arith}
 use Rattle.std.proofs.lemmas.Cmp.{then_total, on_total, nat_cmp_total}
-use Rattle.std.proofs.lemmas.List.{append-nil}
-use Rattle.std.specs.BTreeMap.{insert_entry, is_at}
 use Rattle.std.specs.Cmp.{IsTotalOrder, Some-then}
 use Rattle.std.specs.List.{AllByRecursion, slice_get}
 use Rattle.std.specs.List.Sorted.{IsStrictlySortedBy}
-use Rattle.std.specs.Map.{keys_of, lookup}
-use Rattle.std.specs.Ordering.{is_ge, match_ordering, nat_cmp, ordering_reverse, partial_ge, partial_ordering_then}
+use Rattle.std.specs.Map.{keys_of}
+use Rattle.std.specs.Ordering.{is_ge, match_ordering, ordering_reverse, partial_ge, partial_ordering_then}
 use Rattle.std.specs.declared.cmp.Ordering.{Ordering}
 use Rattle.std.specs.declared.cmp.Ordering.TheVariants.{Less, Equal, Greater}
-use Rattle.gtfs_tables.specs.declared.keyed_calls.CallTimes.{CallTimes}
-use Rattle.gtfs_tables.specs.StopTimes.{AreBelow, Key, key_cmp}
+use Rattle.gtfs_tables.specs.StopTimes.{AreBelow}
 
 abbrev pub Entries : Type 0
 Entries = List (Key × CallTimes)

@@ -1,16 +1,9 @@
 -- The rows of a trip in the order of `stop_sequence`, and the entries of the trip in a list that is in the order of trips and
 -- `stop_sequence`: after one row more and its entry they are alike again.
-use Rattle.std.proofs.Common.{rules, ◌≡◌, ℕ, ◌<◌, ◌≤◌, List, [], ◌∷◌, ◌++◌, true, false, nat_eq, nat_lt, is_none, if◌then◌else◌, map, All, ◌≢◌, refl, sym, arith}
-use Rattle.std.proofs.lemmas.Grind.{common_steps}
-use Rattle.std.proofs.lemmas.List.Elements.{All-nil, All-cons, All-head, All-tail, All-weaker}
+use Rattle.gtfs_tables.proofs.Words.{rules, ◌≡◌, ℕ, ◌<◌, ◌≤◌, List, [], ◌∷◌, ◌++◌, true, false, nat_eq, is_none, if◌then◌else◌, map, All, ◌≢◌, refl, sym, arith, common_steps, All-nil, All-cons, All-head, All-tail, All-weaker, insert_entry, is_at, lookup, CallTimes, Key, key_cmp, in_order, AreDistinct, Rises}
+use Rattle.std.proofs.Common.{nat_lt}
 use Rattle.std.specs.List.{filter}
-use Rattle.std.specs.BTreeMap.{insert_entry, is_at}
-use Rattle.std.specs.Map.{lookup}
-use Rattle.gtfs_tables.specs.declared.keyed_calls.CallTimes.{CallTimes}
-use Rattle.gtfs_tables.specs.StopTimes.{Key, key_cmp}
-use Rattle.feed_tables.specs.Calls.{put, in_order}
-use Rattle.feed_tables.specs.Lawful.{AreDistinct}
-use Rattle.feed_tables.proofs.OrderLemmas.{Rises}
+use Rattle.feed_tables.specs.Calls.{put}
 
 -- the element behind the last whose number is not greater
 abbrev pub put_behind : {X : Type 0} → (X → ℕ) → X → List X → List X

@@ -1,16 +1,8 @@
 -- What the rows of `stop_times.txt` keep, each by itself: their trips and their stops are there, and no time is above 99:59:59.
-use Rattle.std.proofs.Common.{◌≡◌, ℕ, List, Some, Ok, All, length, subst, arith}
-use Rattle.std.proofs.lemmas.List.Elements.{All-push}
-use Rattle.mt_base.specs.declared.places.PlaceKind.TheVariants.{Platform}
-use Rattle.mt_base.specs.declared.tables.CallRow.{CallRow}
-use Rattle.mt_base.specs.declared.tables.StopRow.{StopRow}
-use Rattle.feed_tables.specs.Lawful.{HasKind, IsCall}
-use Rattle.gtfs_tables.specs.declared.columns.Column.{Column}
-use Rattle.gtfs_tables.specs.declared.faults.Cause.TheVariants.{BadTime, BadNumber, UnknownReference}
-use Rattle.gtfs_tables.specs.Checks.{fault}
-use Rattle.gtfs_tables.specs.Fields.{time_of, number_of, number_or_zero}
-use Rattle.gtfs_tables.specs.Numbers.{number_from}
-use Rattle.gtfs_tables.specs.StopTimes.{Calls, Named, call_of, call_step, stop_named, with_call}
+use Rattle.gtfs_tables.proofs.Words.{◌≡◌, ℕ, List, Some, Ok, All, length, subst, arith, All-push, Platform, CallRow, StopRow, HasKind, IsCall, Column, BadNumber, UnknownReference, fault, time_of, number_of, number_from, Named, call_step}
+use Rattle.gtfs_tables.specs.declared.faults.Cause.TheVariants.{BadTime}
+use Rattle.gtfs_tables.specs.Fields.{number_or_zero}
+use Rattle.gtfs_tables.specs.StopTimes.{Calls, call_of, stop_named, with_call}
 use Rattle.gtfs_tables.proofs.LawKeptRows.{IsAlike, alike-more}
 use Rattle.gtfs_tables.proofs.LawNames.{number-below}
 use Rattle.gtfs_tables.proofs.LawSteps.{need-ok, ok-same}

@@ -1,17 +1,8 @@
 -- The rows of a table and the entries of its calls by trip and `stop_sequence`: each trip has the same calls in both, in the same
 -- order, for whatever numbering of trips and stops.
-use Rattle.std.proofs.Common.{◌≡◌, ℕ, List, [], ◌∷◌, ◌++◌, true, false, Option, nat_eq, is_none, map, refl, arith}
-use Rattle.std.proofs.lemmas.Grind.{common_steps}
-use Rattle.std.proofs.lemmas.List.{append-nil}
+use Rattle.gtfs_tables.proofs.Words.{◌≡◌, ℕ, List, [], ◌∷◌, ◌++◌, true, false, Option, nat_eq, is_none, map, refl, arith, common_steps, append-nil, insert_entry, is_at, lookup, CallRow, CallTimes, Key, key_cmp, in_order, sequence, AreDistinct, Rises}
 use Rattle.std.proofs.lemmas.List.Elements.{filter-append}
-use Rattle.std.specs.BTreeMap.{insert_entry, is_at}
-use Rattle.std.specs.Map.{lookup}
-use Rattle.mt_base.specs.declared.tables.CallRow.{CallRow}
-use Rattle.gtfs_tables.specs.declared.keyed_calls.CallTimes.{CallTimes}
-use Rattle.gtfs_tables.specs.StopTimes.{Key, key_cmp}
-use Rattle.feed_tables.specs.Calls.{rows_of, in_order, sequence}
-use Rattle.feed_tables.specs.Lawful.{AreDistinct}
-use Rattle.feed_tables.proofs.OrderLemmas.{Rises}
+use Rattle.feed_tables.specs.Calls.{rows_of}
 use Rattle.gtfs_tables.proofs.LawByTrip.{Entry, entry_trip, entry_sequence, entries_of, ordered-more, behind-map, distinct-behind, insert-rises, insert-own, insert-other, new-sequence}
 
 -- the `stop_sequence`, the arrival and the departure of a call

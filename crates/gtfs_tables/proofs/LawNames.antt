@@ -1,11 +1,5 @@
 -- Names by number: each number is below the number of names, and no name stands there twice.
-use Rattle.std.proofs.Common.{◌≡◌, ◌≢◌, ℕ, ◌+◌, ◌<◌, ◌≤◌, List, [], ◌∷◌, ◌++◌, true, Some, None, All, is_none, length, map, arith}
-use Rattle.std.proofs.lemmas.Grind.{common_steps}
-use Rattle.std.proofs.lemmas.List.{map_push}
-use Rattle.std.proofs.lemmas.List.Elements.{All-nil, All-cons, All-head, All-tail, All-push}
-use Rattle.std.proofs.lemmas.Slice.Eq.{bytes_eq-Decides}
-use Rattle.feed_tables.specs.Lawful.{AreDistinct}
-use Rattle.gtfs_tables.specs.Numbers.{number_from, number_in, names_with}
+use Rattle.gtfs_tables.proofs.Words.{◌≡◌, ◌≢◌, ℕ, ◌+◌, ◌<◌, ◌≤◌, List, [], ◌∷◌, ◌++◌, true, Some, None, All, is_none, length, map, arith, common_steps, map_push, All-nil, All-cons, All-head, All-tail, All-push, bytes_eq-Decides, AreDistinct, number_from, number_in, names_with}
 
 -- one more at the end that is not there
 distinct-push : {X : Type 0} (xs : List X) (x : X) → AreDistinct xs → All (λ y. y ≢ x) xs → AreDistinct (xs ++ x ∷ [])

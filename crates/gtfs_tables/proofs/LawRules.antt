@@ -1,20 +1,10 @@
 -- What the rows of `transfers.txt` and `waiting_rules.txt` keep: they name locations and routes that are there.
-use Rattle.std.proofs.Common.{◌≡◌, ℕ, ◌<◌, ◌≤◌, List, [], ◌∷◌, Bool, Option, Some, IfSome, Ok, All, length, subst, arith}
-use Rattle.std.proofs.lemmas.Grind.{common_steps}
-use Rattle.std.proofs.lemmas.List.{length-map}
-use Rattle.std.proofs.lemmas.List.Elements.{All-nil, All-push, All-weaker}
+use Rattle.gtfs_tables.proofs.Words.{◌≡◌, ℕ, ◌<◌, ◌≤◌, List, [], ◌∷◌, Bool, Option, Some, IfSome, Ok, All, length, subst, arith, common_steps, length-map, All-nil, All-push, All-weaker, StopRow, TransferRow, AreDistinct, IsTransfer, Column, BadNumber, UnknownReference, fault, number_of, stop_ids, Rules}
 use Rattle.mt_base.specs.declared.tables.RuleRow.{RuleRow}
-use Rattle.mt_base.specs.declared.tables.StopRow.{StopRow}
-use Rattle.mt_base.specs.declared.tables.TransferRow.{TransferRow}
-use Rattle.feed_tables.specs.Lawful.{AreDistinct, IsTransfer, IsRule}
-use Rattle.gtfs_tables.specs.declared.columns.Column.{Column}
+use Rattle.feed_tables.specs.Lawful.{IsRule}
 use Rattle.gtfs_tables.specs.declared.columns.Column.TheVariants.{StopId, MaxWait}
-use Rattle.gtfs_tables.specs.declared.faults.Cause.TheVariants.{BadNumber, UnknownReference}
-use Rattle.gtfs_tables.specs.Checks.{fault}
-use Rattle.gtfs_tables.specs.Fields.{number_of}
-use Rattle.gtfs_tables.specs.Stops.{stop_ids}
 use Rattle.gtfs_tables.specs.Transfers.{Transfers, transfer_of, with_transfer, transfer_step, transfers_of, needed_transfer_columns}
-use Rattle.gtfs_tables.specs.WaitingRules.{Rules, waiting_place, wait_of, route_in, routes_with, with_rule, rule_step, rule_columns, waiting_rules_of}
+use Rattle.gtfs_tables.specs.WaitingRules.{waiting_place, wait_of, route_in, routes_with, with_rule, rule_step, rule_columns, waiting_rules_of}
 use Rattle.gtfs_tables.proofs.LawNames.{number-below, with-name}
 use Rattle.gtfs_tables.proofs.LawSteps.{bind-ok, need-ok, ok-same, table-keeps}
 use Rattle.gtfs_tables.proofs.LawTimes.{below-small}

@@ -1,19 +1,15 @@
 -- What the rows of `calendar.txt` and `calendar_dates.txt` keep: each is of one of the services, and dates are of the calendar.
-use Rattle.std.proofs.Common.{◌≡◌, ℕ, ◌≤◌, List, [], Bool, true, Some, Ok, All, not, length, subst, arith}
+use Rattle.gtfs_tables.proofs.Words.{◌≡◌, ℕ, ◌≤◌, List, [], Bool, true, Some, Ok, All, not, length, subst, arith, All-nil, All-push, All-weaker, AreDistinct, Column, ServiceId, Calendar, Dates, fault, number_in, names_with}
 use Rattle.std.proofs.lemmas.Bool.Decides.{nat_tests}
 use Rattle.std.proofs.lemmas.Int.{ints}
-use Rattle.std.proofs.lemmas.List.Elements.{All-nil, All-push, All-weaker}
 use Rattle.mt_base.specs.Civil.{IsCivil, is_civil}
 use Rattle.mt_base.specs.declared.tables.CalendarRow.{CalendarRow}
-use Rattle.feed_tables.specs.Lawful.{AreDistinct, IsWeekly, IsException}
-use Rattle.gtfs_tables.specs.declared.columns.Column.{Column}
-use Rattle.gtfs_tables.specs.declared.columns.Column.TheVariants.{ServiceId, Monday, Tuesday, Wednesday, Thursday, Friday, Saturday, Sunday}
-use Rattle.gtfs_tables.specs.Calendar.{Calendar, calendar_columns, calendar_of, calendar_step, days_of, has_service, with_service}
-use Rattle.gtfs_tables.specs.CalendarDates.{Dates, calendar_dates_of, date_columns, date_step, with_date}
+use Rattle.feed_tables.specs.Lawful.{IsWeekly, IsException}
+use Rattle.gtfs_tables.specs.declared.columns.Column.TheVariants.{Monday, Tuesday, Wednesday, Thursday, Friday, Saturday, Sunday}
+use Rattle.gtfs_tables.specs.Calendar.{calendar_columns, calendar_of, calendar_step, days_of, has_service, with_service}
+use Rattle.gtfs_tables.specs.CalendarDates.{calendar_dates_of, date_columns, date_step, with_date}
 use Rattle.gtfs_tables.specs.declared.faults.Cause.TheVariants.{BadDate, DuplicateKey}
-use Rattle.gtfs_tables.specs.Checks.{fault}
 use Rattle.mt_base.specs.Texts.{date_of, eight_digits}
-use Rattle.gtfs_tables.specs.Numbers.{number_in, names_with}
 use Rattle.gtfs_tables.proofs.LawNames.{with-name}
 use Rattle.gtfs_tables.proofs.LawSteps.{check-ok, ok-same, bind-ok, need-ok, table-keeps, tested}
 

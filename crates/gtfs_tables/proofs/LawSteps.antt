@@ -1,10 +1,6 @@
 -- What steps that went well say, and what every row of a table keeps.
-use Rattle.std.proofs.Common.{arith, ◌≡◌, ℕ, ◌+◌, List, [], ◌∷◌, Bool, true, false, Option, Some, None, Result, Ok, Err, option_and_then, refl, subst, if◌then◌else◌}
-use Rattle.gtfs_tables.specs.declared.columns.Column.{Column}
-use Rattle.gtfs_tables.specs.declared.faults.Fault.{Fault}
-use Rattle.gtfs_tables.specs.Checks.{Step, need, check, rows_from, table_from, ◌>>=◌}
-use Rattle.gtfs_tables.specs.Columns.{field_in}
-use Rattle.gtfs_tables.specs.Feeds.{Records}
+use Rattle.gtfs_tables.proofs.Words.{arith, ◌≡◌, ℕ, ◌+◌, List, [], ◌∷◌, Bool, true, false, Option, Some, None, Result, Ok, Err, option_and_then, refl, subst, if◌then◌else◌, Column, Fault, Step, check, rows_from, table_from, ◌>>=◌, field_in, Records}
+use Rattle.gtfs_tables.specs.Checks.{need}
 
 -- what goes on was good so far
 pub bind-ok : {A B E : Type 0} (r : Result A E) (f : A → Result B E) (y : B) → (r >>= f) ≡ Ok y → (x : A) × (r ≡ Ok x) × (f x ≡ Ok y)

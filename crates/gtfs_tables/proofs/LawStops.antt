@@ -1,16 +1,11 @@
 -- What the rows of `stops.txt` keep: a `parent_station` is a station, and no two have one id.
-use Rattle.std.proofs.Common.{◌≡◌, ℕ, zero, suc, ◌+◌, List, [], ◌∷◌, ◌++◌, Option, IfSome, Ok, All, map, true, refl, subst, arith, append_assoc, append-nil}
-use Rattle.std.proofs.lemmas.List.{map_push}
-use Rattle.std.proofs.lemmas.List.Elements.{All-nil, All-push, All-weaker}
+use Rattle.gtfs_tables.proofs.Words.{◌≡◌, ℕ, zero, suc, ◌+◌, List, [], ◌∷◌, ◌++◌, Option, IfSome, Ok, All, map, true, refl, subst, arith, append_assoc, append-nil, map_push, All-nil, All-push, All-weaker, Platform, StopRow, AreDistinct, HasKind, Column, table_from, line_ids, with_stations, stop_ids}
 use Rattle.mt_base.specs.declared.places.PlaceKind.{PlaceKind}
-use Rattle.mt_base.specs.declared.places.PlaceKind.TheVariants.{Platform, Station}
-use Rattle.mt_base.specs.declared.tables.StopRow.{StopRow}
+use Rattle.mt_base.specs.declared.places.PlaceKind.TheVariants.{Station}
 use Rattle.mt_base.specs.Places.{is_platform}
-use Rattle.feed_tables.specs.Lawful.{AreDistinct, HasKind, IsLocation}
-use Rattle.gtfs_tables.specs.declared.columns.Column.{Column}
+use Rattle.feed_tables.specs.Lawful.{IsLocation}
 use Rattle.gtfs_tables.specs.declared.stops.StopLine.{StopLine}
-use Rattle.gtfs_tables.specs.Checks.{table_from}
-use Rattle.gtfs_tables.specs.Stops.{stop_columns, line_ids, stop_step, has_station, parent_of, with_stations, stop_ids, stops_of}
+use Rattle.gtfs_tables.specs.Stops.{stop_columns, stop_step, has_station, parent_of, stops_of}
 use Rattle.gtfs_tables.proofs.LawNames.{ids-push}
 use Rattle.gtfs_tables.proofs.LawSteps.{bind-ok, ok-same, table-keeps}
 

@@ -1,24 +1,9 @@
 -- The tables that a feed gives are lawful.
-use Rattle.std.proofs.Common.{rules, ◌≡◌, ℕ, ◌≤◌, List, [], Ok, All, length, subst, arith}
+use Rattle.gtfs_tables.proofs.Words.{rules, ◌≡◌, ℕ, ◌≤◌, List, [], Ok, All, length, subst, arith, length-map, All-nil, CallRow, StopRow, TransferRow, TripRow, calls_of, AreDistinct, IsCall, IsTransfer, IsTripwise, Calendar, Dates, table_from, Contents, Records, stops_in, trips_in, calls_in, calendar_in, dates_in, transfers_in, rules_in, stop_ids, Named, call_step, check_trips, ListedTrips, Rules}
 use Rattle.std.proofs.Math.Nat.{le_trans}
-use Rattle.std.proofs.lemmas.List.{length-map}
-use Rattle.std.proofs.lemmas.List.Elements.{All-nil}
-use Rattle.mt_base.specs.declared.tables.CallRow.{CallRow}
-use Rattle.mt_base.specs.declared.tables.StopRow.{StopRow}
 use Rattle.mt_base.specs.declared.tables.Tables.{Tables}
-use Rattle.mt_base.specs.declared.tables.TransferRow.{TransferRow}
-use Rattle.mt_base.specs.declared.tables.TripRow.{TripRow}
-use Rattle.feed_tables.specs.Calls.{calls_of}
-use Rattle.feed_tables.specs.Lawful.{AreDistinct, IsCall, IsLawful, IsTransfer, IsTripwise}
-use Rattle.gtfs_tables.specs.Calendar.{Calendar}
-use Rattle.gtfs_tables.specs.CalendarDates.{Dates}
-use Rattle.gtfs_tables.specs.Checks.{table_from}
-use Rattle.gtfs_tables.specs.Feeds.{Contents, Records, stops_in, trips_in, calls_in, calendar_in, dates_in, transfers_in, rules_in}
-use Rattle.feed_tables.specs.Lawful.{HasFewRows}
-use Rattle.gtfs_tables.specs.Stops.{stop_ids}
-use Rattle.gtfs_tables.specs.StopTimes.{Named, call_step, check_trips, needed_columns, no_calls, stop_times_of}
-use Rattle.gtfs_tables.specs.Trips.{ListedTrips}
-use Rattle.gtfs_tables.specs.WaitingRules.{Rules}
+use Rattle.feed_tables.specs.Lawful.{IsLawful, HasFewRows}
+use Rattle.gtfs_tables.specs.StopTimes.{needed_columns, no_calls, stop_times_of}
 use Rattle.gtfs_tables.proofs.LawCalls.{AreCalls, call-added}
 use Rattle.gtfs_tables.proofs.LawKeptRows.{alike-none}
 use Rattle.gtfs_tables.proofs.LawRules.{AreRules, no-rules, no-transfers, rules-keep, transfers-keep}

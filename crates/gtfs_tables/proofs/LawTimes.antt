@@ -1,7 +1,6 @@
 -- The times that a field gives are at most 99:59:59.
-use Rattle.std.proofs.Common.{◌≡◌, ℕ, ◌+◌, ◌*◌, ◌<◌, ◌≤◌, ◌==◌, ◌&&◌, List, [], ◌∷◌, Bool, cond, Option, Some, None, IfSome, option_and_then, arith}
+use Rattle.gtfs_tables.proofs.Words.{◌≡◌, ℕ, ◌+◌, ◌*◌, ◌<◌, ◌≤◌, ◌==◌, ◌&&◌, List, [], ◌∷◌, Bool, cond, Option, Some, None, IfSome, option_and_then, arith, time_of}
 use Rattle.mt_base.specs.Texts.{below, digit, two, clock, seconds_of}
-use Rattle.gtfs_tables.specs.Fields.{time_of}
 
 digit-small : (byte d : ℕ) → digit byte ≡ Some d → d ≤ 9
 digit-small byte d h = grind arith

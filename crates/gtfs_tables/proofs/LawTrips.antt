@@ -1,12 +1,8 @@
 -- What the rows of `trips.txt` keep: each has one of the routes and one of the services, and no two have one id.
-use Rattle.std.proofs.Common.{◌≡◌, ℕ, ◌≤◌, List, Ok, All, length, arith}
-use Rattle.std.proofs.lemmas.List.Elements.{All-nil, All-push, All-weaker}
-use Rattle.mt_base.specs.declared.tables.TripRow.{TripRow}
-use Rattle.feed_tables.specs.Lawful.{AreDistinct, IsTrip}
-use Rattle.gtfs_tables.specs.declared.columns.Column.{Column}
-use Rattle.gtfs_tables.specs.declared.columns.Column.TheVariants.{RouteId, ServiceId}
-use Rattle.gtfs_tables.specs.Numbers.{names_with}
-use Rattle.gtfs_tables.specs.Trips.{ListedTrips, no_trips, trip_columns, trip_ids, trip_step, trips_of}
+use Rattle.gtfs_tables.proofs.Words.{◌≡◌, ℕ, ◌≤◌, List, Ok, All, length, arith, All-nil, All-push, All-weaker, TripRow, AreDistinct, Column, ServiceId, names_with, ListedTrips}
+use Rattle.feed_tables.specs.Lawful.{IsTrip}
+use Rattle.gtfs_tables.specs.declared.columns.Column.TheVariants.{RouteId}
+use Rattle.gtfs_tables.specs.Trips.{no_trips, trip_columns, trip_ids, trip_step, trips_of}
 use Rattle.gtfs_tables.proofs.LawNames.{ids-push, with-name}
 use Rattle.gtfs_tables.proofs.LawSteps.{table-keeps}
 

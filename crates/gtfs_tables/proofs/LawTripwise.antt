@@ -1,13 +1,7 @@
 -- What the check of the trips says of their calls: both ends have times, which do not fall.
-use Rattle.std.proofs.Common.{◌≡◌, ℕ, ◌<◌, List, [], ◌∷◌, ◌++◌, true, Option, Ok, map, refl, sym, ◌∙◌, ap, subst, arith, append_assoc}
-use Rattle.std.proofs.lemmas.Grind.{common_steps}
-use Rattle.std.proofs.lemmas.List.{append-nil}
-use Rattle.mt_base.specs.declared.tables.CallRow.{CallRow}
-use Rattle.feed_tables.specs.Calls.{calls_of, sequence, times_of, DoNotFall}
-use Rattle.feed_tables.specs.Lawful.{AreDistinct, HasTimedEnds, IsTimed, IsTripwise, last_row}
-use Rattle.feed_tables.proofs.OrderLemmas.{Rises}
-use Rattle.gtfs_tables.specs.declared.keyed_calls.CallTimes.{CallTimes}
-use Rattle.gtfs_tables.specs.StopTimes.{is_timed, last_call, check_order, check_trip, check_trips}
+use Rattle.gtfs_tables.proofs.Words.{◌≡◌, ℕ, ◌<◌, List, [], ◌∷◌, ◌++◌, true, Option, Ok, map, refl, sym, ◌∙◌, ap, subst, arith, append_assoc, common_steps, append-nil, CallRow, calls_of, sequence, AreDistinct, IsTripwise, Rises, CallTimes, is_timed, last_call, check_order, check_trip, check_trips}
+use Rattle.feed_tables.specs.Calls.{times_of, DoNotFall}
+use Rattle.feed_tables.specs.Lawful.{HasTimedEnds, IsTimed, last_row}
 use Rattle.gtfs_tables.proofs.LawByTrip.{Entry, entry_trip, entry_sequence, entries_of, entries-none}
 use Rattle.gtfs_tables.proofs.LawKeptRows.{Facts, row_facts, entry_facts, IsAlike}
 use Rattle.gtfs_tables.proofs.LawSteps.{bind-ok}

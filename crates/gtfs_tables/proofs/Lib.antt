@@ -1,3 +1,4 @@
+pub mod Words
 pub mod FieldLemmas
 pub mod Records
 pub mod TextLemmas

@@ -1,12 +1,8 @@
 -- The numbers of names after one more name.
-use Rattle.std.proofs.Common.{◌≡◌, ◌+◌, ◌++◌, ◌∷◌, ◌<◌, [], ℕ, zero, suc, List, Option, Some, None, true, false, get_or, length, map, arith}
-use Rattle.std.proofs.lemmas.Grind.{common_steps}
-use Rattle.std.proofs.lemmas.Slice.Eq.{bytes_eq-Decides}
-use Rattle.std.proofs.lemmas.List.{length-map, get_or-map}
+use Rattle.gtfs_tables.proofs.Words.{◌≡◌, ◌+◌, ◌++◌, ◌∷◌, ◌<◌, [], ℕ, zero, suc, List, Option, Some, None, true, false, get_or, length, map, arith, common_steps, bytes_eq-Decides, length-map, bytes_eq, if◌then◌else◌, AreDistinct, number_from}
+use Rattle.std.proofs.lemmas.List.{get_or-map}
 use Rattle.std.proofs.lemmas.Option.{slice_get-get_or, slice_get_within, get_or_from_slice_get}
-use Rattle.std.specs.Prelude.{bytes_eq, if◌then◌else◌, slice_get}
-use Rattle.feed_tables.specs.Lawful.{AreDistinct}
-use Rattle.gtfs_tables.specs.Numbers.{number_from}
+use Rattle.std.specs.Prelude.{slice_get}
 
 -- a name that is not there yet has the place at the end
 number_from-end : (at : ℕ) (name : List ℕ) (names : List (List ℕ)) → number_from at name names ≡ None → number_from at name (names ++ name ∷ []) ≡ Some (at + length names)

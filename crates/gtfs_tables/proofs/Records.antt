@@ -1,16 +1,12 @@
 -- The records of a text, one at a time.
+use Rattle.gtfs_tables.proofs.Words.{◌≡◌, ◌++◌, map, ℕ, zero, suc, List, [], ◌∷◌, None, Bool, true, false, Ok, get_or, refl, arith, next_record, Reached, AreRecords, default_config, Reader, State, Column, Text, Steps}
 use Rattle.std.proofs.lemmas.List.{map-append}
-use Rattle.std.proofs.Common.{◌≡◌, ◌++◌, map, ℕ, zero, suc, List, [], ◌∷◌, None, Bool, true, false, Ok, get_or, refl, arith}
-use Rattle.csv.specs.Machine.{next_record}
-use Rattle.csv.specs.Reading.{Reached, AreRecords, ReadRecord, default_config, reader_config, reader_state}
-use Rattle.csv.specs.declared.reader.Reader.{Reader}
-use Rattle.csv.specs.declared.parser.State.{State}
+use Rattle.csv.specs.Reading.{ReadRecord, reader_config, reader_state}
 use Rattle.csv.proofs.ReadFacts.{rows-more, rows-end}
 use Rattle.csv.specs.Records.{field_at}
-use Rattle.gtfs_tables.specs.declared.columns.Column.{Column}
 use Rattle.gtfs_tables.specs.Checks.{check_header}
 use Rattle.gtfs_tables.specs.Sheets.{header_of}
-use Rattle.gtfs_tables.specs.Texts.{Text, known, Steps}
+use Rattle.gtfs_tables.specs.Texts.{known}
 
 first_record : (s : State) (y : List ℕ) (f : List (List ℕ)) (t : State) (z : List ℕ) (all : List (List (List ℕ)))
     → Reached default_config s y (f ∷ []) t z → AreRecords default_config s y all

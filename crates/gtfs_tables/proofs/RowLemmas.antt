@@ -1,11 +1,7 @@
 -- The rows that were read of any table, and those of the records that remain.
-use Rattle.std.proofs.Common.{◌≡◌, ◌+◌, ◌∷◌, ℕ, List, Result, length, refl, arith}
-use Rattle.gtfs_tables.specs.declared.columns.Column.{Column}
-use Rattle.gtfs_tables.specs.declared.faults.Fault.{Fault}
+use Rattle.gtfs_tables.proofs.Words.{◌≡◌, ◌+◌, ◌∷◌, ℕ, List, Result, length, refl, arith, Column, Fault, Step, rows_from, ◌>>=◌, field_in, IsUnder}
 use Rattle.gtfs_tables.specs.declared.sheets.Sheet.{Sheet}
-use Rattle.gtfs_tables.specs.Checks.{Step, check_row, rows_from, ◌>>=◌}
-use Rattle.gtfs_tables.specs.Columns.{field_in}
-use Rattle.gtfs_tables.specs.Sheets.{IsUnder}
+use Rattle.gtfs_tables.specs.Checks.{check_row}
 
 -- a table has the same header and columns after a row more
 pub under_kept : (header : List (List ℕ)) (columns : List Column) (old new : Sheet) → new.width ≡ old.width → new.places ≡ old.places → IsUnder header columns old → IsUnder header columns new

@@ -1,15 +1,13 @@
 -- Fields without blanks round them are text where the fields are.
-use Rattle.std.proofs.Common.{◌≡◌, ◌<◌, ◌++◌, ◌∷◌, [], ℕ, zero, suc, List, Option, Some, None, true, length, reverse, get_or, inl, inr, ◌-◌, drop, refl, arith}
+use Rattle.gtfs_tables.proofs.Words.{◌≡◌, ◌<◌, ◌++◌, ◌∷◌, [], ℕ, zero, suc, List, Option, Some, None, true, length, reverse, get_or, inl, inr, ◌-◌, drop, refl, arith, IsUtf8-from_is_utf8, is_utf8-from_IsUtf8, IsUtf8, all_utf8, trim_start}
 use Rattle.std.proofs.Math.Seq.{take-append_seam, get_or-append_seam}
 use Rattle.std.proofs.lemmas.Bool.{cases_Bool}
 use Rattle.std.proofs.lemmas.List.{reverse-append, reverse-reverse, length-append}
-use Rattle.std.proofs.lemmas.Str.{IsUtf8-nil, IsUtf8-drop, IsUtf8-take, IsUtf8-from_is_utf8, IsUtf8-from_ascii, IsAscii-drop, IsAscii-take, is_utf8-from_IsUtf8, IsCharBoundary-after_ascii, IsCharBoundary-before_ascii}
-use Rattle.std.specs.Prelude.{IsUtf8}
+use Rattle.std.proofs.lemmas.Str.{IsUtf8-nil, IsUtf8-drop, IsUtf8-take, IsUtf8-from_ascii, IsAscii-drop, IsAscii-take, IsCharBoundary-after_ascii, IsCharBoundary-before_ascii}
 use Rattle.std.specs.Str.{IsAscii}
 use Rattle.csv.specs.Records.{cut_from}
-use Rattle.gtfs_tables.specs.Checks.{all_utf8}
 use Rattle.gtfs_tables.specs.Columns.{field_at_place}
-use Rattle.gtfs_tables.specs.Fields.{is_blank, trim_start, trimmed}
+use Rattle.gtfs_tables.specs.Fields.{is_blank, trimmed}
 
 -- a blank is ASCII
 blank_small : (byte : ℕ) → is_blank byte ≡ true → byte < 128

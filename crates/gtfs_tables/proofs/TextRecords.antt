@@ -1,12 +1,10 @@
 -- The records of a text are all that `csv` reads of it.
-use Rattle.std.proofs.Common.{◌≡◌, ℕ, zero, suc, ◌+◌, ◌<◌, ◌⊎◌, List, [], ◌∷◌, Option, None, Some, length, refl, arith, inl, inr}
-use Rattle.csv.specs.Machine.{Read, next_record, step, fields_after, field_after}
+use Rattle.gtfs_tables.proofs.Words.{◌≡◌, ℕ, zero, suc, ◌+◌, ◌<◌, List, [], ◌∷◌, Option, None, Some, length, refl, arith, inl, inr, next_record, Reached, AreRecords, default_config, State, records_of, AreRecordsOf}
+use Rattle.std.proofs.Common.{◌⊎◌}
+use Rattle.csv.specs.Machine.{Read, step, fields_after, field_after}
 use Rattle.csv.specs.declared.parser.Config.{Config}
-use Rattle.csv.specs.Reading.{Reached, AreRecords, default_config, records_from, records_next, strip_bom}
-use Rattle.csv.specs.declared.parser.State.{State}
+use Rattle.csv.specs.Reading.{records_from, records_next, strip_bom}
 use Rattle.csv.specs.declared.parser.State.TheVariants as st
-use Rattle.gtfs_tables.specs.Records.{records_of}
-use Rattle.gtfs_tables.specs.Texts.{AreRecordsOf}
 
 -- a record takes bytes, or it is what the end of the text leaves
 record IsLast (p : Read) : Type 0 where

@@ -5,8 +5,8 @@ use Rattle.gtfs_tables.specs.Feeds.{Files}
 use Rattle.gtfs_tables.specs.declared.refusals.FeedError.{FeedError}
 use Rattle.gtfs_tables.specs.declared.refusals.FeedError.TheVariants.{ReadFault}
 
--- the reading had this result; it found the feed with these files, where it tells them, and after so
--- many failed reads, and left it so
+-- a reading of a table had this result. The files, where the feed tells them, and the number of
+-- failed reads are those before the reading and after it
 pub record IsRead {T : Type 0} (result : Result T FeedError) (files files_after : Option Files)
     (faults faults_after : ℕ) : Type 0 where
   -- it fails only where a read of the feed failed

@@ -1,25 +1,11 @@
 -- How answering ends: what was taken, and what the lines leave.
-use Rattle.std.proofs.Common.{◌≡◌, ◌∙◌, ℕ, List, [], ◌++◌, Option, Some, None, Result, Ok, Err, sym, ap, refl, subst, true, false}
-use Rattle.std.proofs.KnownBytes.{Appends-nil}
-use Rattle.std.proofs.lemmas.List.{append-nil}
-use Rattle.std.proofs.lemmas.Option.{none-some, same_Some}
-use Rattle.std.specs.Io.KnownBytes.{Consumes, IsAtEnd}
+use Rattle.information_service.proofs.Words.{◌≡◌, ◌∙◌, ℕ, List, [], ◌++◌, Option, Some, None, Result, Ok, Err, sym, ap, refl, subst, true, false, Appends-nil, append-nil, none-some, same_Some, Consumes, IsAtEnd, Network, State, table, Line, lines_of, Reader, consumes_none, Names, WhereLinesStop, AreAnswered, AppendsReplies, IsOutput, ServiceState}
 use Rattle.std.specs.Prelude.{IfErr}
 use Rattle.std.specs.Result.{IsErrAnd}
-use Rattle.delay_model.specs.declared.network.Network.{Network}
-use Rattle.delay_model.specs.declared.state.State.{State}
-use Rattle.delay_report.specs.Table.{table}
-use Rattle.mt_io.specs.Lines.{Line, lines_of}
-use Rattle.mt_io.specs.Reader.{Reader, IsDone}
-use Rattle.mt_io.proofs.Gives.{consumes_none}
+use Rattle.mt_io.specs.Reader.{IsDone}
 use Rattle.mt_io.proofs.Runs.{ends}
-use Rattle.schedule_build.specs.Directory.{Names}
 use Rattle.information_service.specs.declared.fault.LinesFault.{LinesFault}
 use Rattle.information_service.specs.declared.fault.LinesFault.TheVariants.{ReadFault, WriteFault, OutOfMemory, TooLong}
-use Rattle.information_service.specs.Causes.{WhereLinesStop}
-use Rattle.information_service.specs.Fronts.{AreAnswered, AppendsReplies}
-use Rattle.information_service.specs.Output.{IsOutput}
-use Rattle.information_service.specs.ServiceState.{ServiceState}
 
 -- all bytes were taken where the source is at its end
 pub all_taken : (left now : Option (List ℕ)) (bytes all : List ℕ) → Consumes left now all → IsAtEnd now → left ≡ Some bytes → all ≡ bytes

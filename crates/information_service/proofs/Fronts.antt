@@ -1,18 +1,10 @@
 -- Fronts of what is to be written, one after the other.
-use Rattle.std.proofs.Common.{◌≡◌, ◌∙◌, ◌+◌, ◌-◌, ◌≤◌, ℕ, zero, suc, List, [], ◌++◌, Option, Some, None, sym, subst, ap, refl, append_assoc, take, drop, arith, true, inr}
-use Rattle.std.proofs.KnownBytes.{Appends-nil, Appends-trans}
-use Rattle.std.proofs.lemmas.List.{append-nil, take-append-drop}
-use Rattle.std.proofs.lemmas.Option.{none-some, same_Some}
-use Rattle.std.specs.Io.KnownBytes.{Appends, Consumes, IsAtEnd}
-use Rattle.delay_model.specs.declared.network.Network.{Network}
-use Rattle.delay_model.specs.declared.state.State.{State}
-use Rattle.delay_report.specs.Table.{header, rows_from, rows_of_train}
+use Rattle.information_service.proofs.Words.{◌≡◌, ◌∙◌, ◌+◌, ◌≤◌, ℕ, zero, suc, List, [], ◌++◌, Option, Some, None, sym, subst, ap, refl, append_assoc, arith, true, inr, Appends-nil, Appends-trans, append-nil, none-some, same_Some, Appends, Consumes, IsAtEnd, Network, State, header, rows_from, rows_of_train, Line, lines_of, Reader, Names, AreAnswered, AppendsFirstReplies, AppendsFront, Begun, ServiceState}
+use Rattle.std.proofs.Common.{◌-◌, take, drop}
+use Rattle.std.proofs.lemmas.List.{take-append-drop}
 use Rattle.mt_io.specs.Causes.{AppendsPart}
-use Rattle.mt_io.specs.Lines.{Line, lines_of}
-use Rattle.mt_io.specs.Reader.{Reader, ahead}
-use Rattle.schedule_build.specs.Directory.{Names}
-use Rattle.information_service.specs.Fronts.{AreAnswered, AppendsFirstReplies, AppendsFront, AppendsOutput, AppendsOutputFront, Begun}
-use Rattle.information_service.specs.ServiceState.{ServiceState}
+use Rattle.mt_io.specs.Reader.{ahead}
+use Rattle.information_service.specs.Fronts.{AppendsOutput, AppendsOutputFront}
 
 pub front_none : (a : Option (List ℕ)) (bytes : List ℕ) → AppendsFront a a bytes
 front_none a bytes = record { front = []; rest = bytes; written = Appends-nil a; all = refl }
@@ -65,7 +57,7 @@ table_front names nw st a b m count l f =
     (front_longer a b (header ++ rows_from names nw st 0 m) (rows_from names nw st (0 + m) (count - m)) f)
 
 -- the lines of the whole input begin with those that were answered
-first_lines : (r : Reader) (left left_now : Option (List ℕ)) (taken bytes : List ℕ) (lines : List Line) → Consumes left left_now taken → left ≡ Some bytes
+pub first_lines : (r : Reader) (left left_now : Option (List ℕ)) (taken bytes : List ℕ) (lines : List Line) → Consumes left left_now taken → left ≡ Some bytes
     → (r.ended ≡ true → IsAtEnd left_now) → Rattle.mt_io.specs.Runs.HasAnswered taken lines r → (more : List Line) × (lines_of true bytes ≡ lines ++ more)
 first_lines r None now taken bytes lines source is end answered = absurd (none-some bytes is)
 first_lines r (Some xs) None taken bytes lines source is end answered = absurd source

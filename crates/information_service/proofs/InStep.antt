@@ -1,32 +1,25 @@
 -- Names and trains stay in step, line by line.
-use Rattle.std.proofs.Common.{◌≡◌, ℕ, List, [], ◌∷◌, true, false, Option, Some, None, Result, Ok, Err, is_none, length, refl, sym, subst, arith, inl, inr}
-use Rattle.std.proofs.lemmas.Bool.{cases_Bool}
+use Rattle.information_service.proofs.Words.{◌≡◌, ℕ, List, [], ◌∷◌, true, false, Option, Some, None, Result, Ok, Err, is_none, length, refl, sym, subst, arith, inl, inr, cases_Bool, Message, Refusal, Network, State, accepted, known_after, refusal, resolved, Wire, Names, by_names, names_with}
 use Rattle.std.specs.Prelude.{IfSome}
 use Rattle.mt_base.specs.declared.keys.Node.{Node}
 use Rattle.mt_base.specs.declared.new_calls.NewCall.{NewCall}
-use Rattle.delay_model.specs.declared.messages.Message.{Message}
 use Rattle.delay_model.specs.declared.messages.Message.TheVariants as messages
-use Rattle.delay_model.specs.declared.messages.Refusal.{Refusal}
 use Rattle.delay_model.specs.declared.messages.Refusal.TheVariants.{Known, Unknown}
-use Rattle.delay_model.specs.declared.network.Network.{Network}
-use Rattle.delay_model.specs.declared.state.State.{State}
-use Rattle.delay_model.specs.After.{after_messages, accepted, known_after}
+use Rattle.delay_model.specs.After.{after_messages}
 use Rattle.delay_model.specs.Effect.{effect}
-use Rattle.delay_model.specs.Refusals.{refusal}
 use Rattle.message_reader.specs.Chain.{◌>>=◌, need, unless}
-use Rattle.message_reader.specs.Resolved.{resolved, event_resolved, cancel_resolved, reroute_resolved, extra_resolved, connect_resolved, connect_message, new_calls, node_named, train_on}
+use Rattle.message_reader.specs.Resolved.{event_resolved, cancel_resolved, reroute_resolved, extra_resolved, connect_resolved, connect_message, new_calls, node_named, train_on}
 use Rattle.train_nodes.specs.Kinds.{message_by_kind}
 use Rattle.train_nodes.specs.declared.kinds.ValueKind.{ValueKind}
 use Rattle.train_nodes.specs.declared.kinds.ValueKind.TheVariants as values
 use Rattle.message_reader.specs.declared.wire.Connect.{Connect as AConnect}
 use Rattle.message_reader.specs.declared.wire.Connect.TheVariants as connects
-use Rattle.message_reader.specs.declared.wire.Wire.{Wire}
 use Rattle.message_reader.specs.declared.wire.Wire.TheVariants.{Event, Cancel, Reroute, Extra, Connect}
 use Rattle.message_reader.specs.declared.wire.WireCall.{WireCall}
 use Rattle.schedule_build.proofs.InStepLemmas.{message-in_step, extra-next}
-use Rattle.schedule_build.specs.Directory.{Names, day_named, train_named, route_named}
+use Rattle.schedule_build.specs.Directory.{day_named, train_named, route_named}
 use Rattle.schedule_build.specs.InStep.{AreInStep}
-use Rattle.information_service.specs.Lines.{added_name, by_names, names_with, CanBeAdded}
+use Rattle.information_service.specs.Lines.{added_name, CanBeAdded}
 
 -- the first step of a chain that ends well, and the rest
 record EndsWell {A B E : Type 0} (first : Result A E) (rest : A → Result B E) (y : B) : Type 0 where

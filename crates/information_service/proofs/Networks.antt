@@ -1,33 +1,20 @@
 -- Networks with the same change times, waits and stations have the same outputs.
-use Rattle.std.proofs.Common.{◌≡◌, ◌++◌, ◌+◌, ℕ, zero, suc, List, [], ◌∷◌, Option, Result, Ok, Err, arith, refl}
+use Rattle.information_service.proofs.Words.{◌≡◌, ◌++◌, ◌+◌, ℕ, zero, suc, List, [], ◌∷◌, Option, Result, Ok, Err, arith, refl, Message, Refusal, Network, State, accepted, accepted_message, known_after, refusal, Reply, rows_from, table, BadLine, AskedQuery, Wire, query_resolved, Line, Names, messages_of, by_names, reply_to_message, IsReplyToResolved, IsReply, IsTextAfter, AreReplies, IsOutput}
 use Rattle.mt_base.specs.declared.keys.Key.{Key}
 use Rattle.mt_base.specs.declared.journeys.PlanRide.{PlanRide}
 use Rattle.mt_base.specs.declared.journeys.Query.{Query}
-use Rattle.delay_model.specs.declared.messages.Message.{Message}
 use Rattle.delay_model.specs.declared.overrides.Override.{Override}
-use Rattle.delay_model.specs.declared.messages.Refusal.{Refusal}
-use Rattle.delay_model.specs.declared.network.Network.{Network}
 use Rattle.delay_model.specs.declared.state.Event.{Event}
-use Rattle.delay_model.specs.declared.state.State.{State}
-use Rattle.delay_model.specs.After.{Reading, accepted, accepted_message, known_after}
+use Rattle.delay_model.specs.After.{Reading}
 use Rattle.delay_model.specs.Edges.{transfer, edges}
 use Rattle.delay_model.specs.Journeys.{IsRide, GoesOn, IsJourney}
-use Rattle.delay_model.specs.Refusals.{against_rank, refusal}
+use Rattle.delay_model.specs.Refusals.{against_rank}
 use Rattle.delay_model.specs.Timing.{event_time}
 use Rattle.delay_model.specs.Touched.{changed, changed_count}
-use Rattle.delay_report.specs.declared.replies.Reply.{Reply}
-use Rattle.delay_report.specs.Table.{rows_from, table}
-use Rattle.message_reader.specs.declared.bad_line.BadLine.{BadLine}
-use Rattle.message_reader.specs.declared.resolve_queries.AskedQuery.{AskedQuery}
-use Rattle.message_reader.specs.declared.wire.Wire.{Wire}
 use Rattle.message_reader.specs.declared.wire.Line.{Line as Spoken}
 use Rattle.message_reader.specs.declared.wire.Line.TheVariants.{Query as Asks}
-use Rattle.message_reader.specs.ResolvedQueries.{query_resolved}
-use Rattle.mt_io.specs.Lines.{Line}
-use Rattle.schedule_build.specs.Directory.{Names}
 use Rattle.information_service.specs.Networks.{IsSame}
-use Rattle.information_service.specs.Lines.{messages_of, by_names}
-use Rattle.information_service.specs.Output.{reply_to_message, IsReplyToQuery, IsReplyToResolved, IsReply, IsTextAfter, AreReplies, IsOutput}
+use Rattle.information_service.specs.Output.{IsReplyToQuery}
 
 transfer-same : (a b : Network) → IsSame a b → (choice : Option Override) (u v : Event) → transfer b choice u v ≡ transfer a choice u v
 unfolding transfer
@@ -59,13 +46,13 @@ answer-same : (a b : Network) → IsSame a b → (st : State) (read : Result Mes
 answer-same a b h st read = grind (arith, refusal-same a b h)
 
 -- the same messages are accepted
-accepted-same : {X N : Type 0} (a b : Network) → IsSame a b → (reading : Reading X N) (st : State) (names : N) (xs : List X) → accepted b reading st names xs ≡ accepted a reading st names xs
+pub accepted-same : {X N : Type 0} (a b : Network) → IsSame a b → (reading : Reading X N) (st : State) (names : N) (xs : List X) → accepted b reading st names xs ≡ accepted a reading st names xs
 accepted-same a b h reading st names [] = refl
 accepted-same a b h reading st names (x ∷ xs) =
     grind (arith, answer-same a b h, λ (s : State). accepted-same a b h reading s (reading.known names x) xs, accepted-same a b h reading st names xs)
 
 -- and the same names are known after them
-known-same : {X N : Type 0} (a b : Network) → IsSame a b → (reading : Reading X N) (st : State) (names : N) (xs : List X) → known_after b reading st names xs ≡ known_after a reading st names xs
+pub known-same : {X N : Type 0} (a b : Network) → IsSame a b → (reading : Reading X N) (st : State) (names : N) (xs : List X) → known_after b reading st names xs ≡ known_after a reading st names xs
 known-same a b h reading st names [] = refl
 known-same a b h reading st names (x ∷ xs) =
     grind (arith, answer-same a b h, λ (s : State). known-same a b h reading s (reading.known names x) xs, known-same a b h reading st names xs)
@@ -92,11 +79,11 @@ same-back a b h = grind arith
 query-same : (a b : Network) → IsSame a b → (st : State) (count line day : ℕ) (q : Query) (reply : Reply) → IsReplyToQuery b st count line day q reply → IsReplyToQuery a st count line day q reply
 query-same a b h st count line day q reply is = grind (arith, journey-same a b h st q, journey-same b a (same-back a b h) st q)
 
-resolved-same : (a b : Network) → IsSame a b → (st : State) (count line : ℕ) (asked : Result AskedQuery BadLine) (reply : Reply) → IsReplyToResolved b st count line asked reply → IsReplyToResolved a st count line asked reply
+pub resolved-same : (a b : Network) → IsSame a b → (st : State) (count line : ℕ) (asked : Result AskedQuery BadLine) (reply : Reply) → IsReplyToResolved b st count line asked reply → IsReplyToResolved a st count line asked reply
 resolved-same a b h st count line (Ok q) reply is = query-same a b h st count line q.day q.query reply is
 resolved-same a b h st count line (Err bad) reply is = is
 
-reply-same : (a b : Network) → IsSame a b → (names : Names) (st : State) (count line : ℕ) (said : Result Spoken BadLine) (reply : Reply) → IsReply b names st count line said reply → IsReply a names st count line said reply
+pub reply-same : (a b : Network) → IsSame a b → (names : Names) (st : State) (count line : ℕ) (said : Result Spoken BadLine) (reply : Reply) → IsReply b names st count line said reply → IsReply a names st count line said reply
 reply-same a b h names st count line (Ok (Asks q)) reply is = resolved-same a b h st count line (query_resolved names q) reply is
 reply-same a b h names st count line said reply is = grind (arith, reply-to-message-same a b h names st count line)
 

@@ -1,40 +1,23 @@
 -- One more line: the state of the service, the replies, and what was taken from the input.
-use Rattle.std.proofs.Common.{◌≡◌, ◌≤◌, ℕ, ◌+◌, List, [], ◌∷◌, ◌++◌, cond, is_none, true, false, Option, Some, None, Result, Ok, Err, refl, sym, ◌∙◌, ap, subst, length, arith, append_assoc, inl, inr}
-use Rattle.std.proofs.KnownBytes.{Appends-nil, Appends-trans}
-use Rattle.std.proofs.lemmas.Bool.{cases_Bool}
-use Rattle.std.proofs.lemmas.List.{append-nil}
+use Rattle.information_service.proofs.Words.{◌≡◌, ◌≤◌, ℕ, ◌+◌, List, [], ◌∷◌, ◌++◌, is_none, true, false, Option, Some, None, Result, Ok, Err, refl, sym, ◌∙◌, ap, subst, length, arith, append_assoc, inl, inr, Appends-nil, Appends-trans, cases_Bool, append-nil, Appends, Consumes, IsAtEnd, Message, Refusal, Network, State, accepted_message, refusal, Reply, text_of_reply, Wire, BadLine, resolved, Line, Reader, GivesNext, next_lines, consumes_none, Names, AreAnswered, AppendsFirstReplies, AppendsFront, Begun, said_by, messages_of, names_with, by_names, reply_to_message, IsReply, IsReplyTo, IsTextAfter, AreReplies, ServiceState, after_line}
+use Rattle.std.proofs.Common.{cond}
 use Rattle.std.proofs.lemmas.List.Sums.{fold-append}
 use Rattle.std.proofs.lemmas.List.Elements.{filter_map-append}
-use Rattle.std.specs.Io.KnownBytes.{Appends, Consumes, IsAtEnd}
 use Rattle.std.specs.List.{fold}
-use Rattle.delay_model.specs.declared.messages.Message.{Message}
-use Rattle.delay_model.specs.declared.messages.Refusal.{Refusal}
-use Rattle.delay_model.specs.declared.network.Network.{Network}
-use Rattle.delay_model.specs.declared.state.State.{State}
-use Rattle.delay_model.specs.After.{accepted_message, after_accepted, after_line as after_message_line, Progress}
-use Rattle.delay_model.specs.Refusals.{refusal}
+use Rattle.delay_model.specs.After.{after_accepted, after_line as after_message_line, Progress}
 use Rattle.delay_model.proofs.WindowLemmas.{beginning, progress-all}
-use Rattle.delay_report.specs.declared.replies.Reply.{Reply}
-use Rattle.delay_report.specs.Replies.{text_of_reply}
-use Rattle.message_reader.specs.declared.wire.Wire.{Wire}
 use Rattle.message_reader.specs.declared.wire.Line.{Line as Spoken}
-use Rattle.message_reader.specs.declared.bad_line.BadLine.{BadLine}
 use Rattle.message_reader.specs.declared.wire.Line.TheVariants.{Message as Says, Query as Asks, Flush}
 use Rattle.message_reader.specs.Lines.{message_in}
-use Rattle.message_reader.specs.Resolved.{resolved}
-use Rattle.mt_io.specs.Lines.{Line}
-use Rattle.mt_io.specs.Reader.{Reader, GivesNext}
-use Rattle.mt_io.specs.Answers.{next_lines, LeavesNext}
+use Rattle.mt_io.specs.Answers.{LeavesNext}
 use Rattle.mt_io.specs.declared.lines.Next.{Next}
 use Rattle.mt_io.specs.Runs.{fresh, HasAnswered}
-use Rattle.mt_io.proofs.Gives.{consumes_none, consumes_more, open_ended}
+use Rattle.mt_io.proofs.Gives.{consumes_more, open_ended}
 use Rattle.mt_io.proofs.Runs.{begins, goes_on}
-use Rattle.schedule_build.specs.Directory.{Names}
-use Rattle.information_service.specs.Fronts.{AreAnswered, AppendsFirstReplies, AppendsFront, Begun, IsTaken}
+use Rattle.information_service.specs.Fronts.{IsTaken}
 use Rattle.information_service.proofs.Fronts.{front_after}
-use Rattle.information_service.specs.Lines.{said_by, messages_of, names_with, by_names}
-use Rattle.information_service.specs.Output.{reply_by_refusal, reply_to_message, IsReply, IsReplyTo, IsTextAfter, AreReplies}
-use Rattle.information_service.specs.ServiceState.{ServiceState, after_said, after_message, after_answer, after_line, service_after}
+use Rattle.information_service.specs.Output.{reply_by_refusal}
+use Rattle.information_service.specs.ServiceState.{after_said, after_message, after_answer, service_after}
 
 -- the service by what lines leave
 abbrev standing : Network → Progress Names → ServiceState
@@ -66,7 +49,7 @@ lines-leave : (nw : Network) (names : Names) (st : State) (lines : List Line) �
 lines-leave nw names st lines = ap (standing nw) (sym (progress-all nw by_names st names (messages_of lines)))
 
 -- one more line leaves the service as it is after all of them
-line-after : (nw : Network) (names : Names) (st : State) (lines : List Line) (x : Line) → after_line (service_after nw names st lines) x ≡ service_after nw names st (lines ++ x ∷ [])
+pub line-after : (nw : Network) (names : Names) (st : State) (lines : List Line) (x : Line) → after_line (service_after nw names st lines) x ≡ service_after nw names st (lines ++ x ∷ [])
 line-after nw names st lines x =
     let next : Progress Names → Wire → Progress Names = after_message_line nw by_names in
     let start : Progress Names = beginning st names in
@@ -123,15 +106,14 @@ reply_is first now next lines x number reply stood is_number is is_next =
     }
 
 -- a call takes more bytes and lines. The source is at its end where the end was read
-taken-more : {first now : ServiceState} {old new : Reader} {left left_old left_new written written_old : Option (List ℕ)} {bytes : List ℕ} {lines more : List Line}
-    → AreAnswered first now old left left_old written written_old bytes lines → (old.ended ≡ true → left_new ≡ left_old) → GivesNext old new left_old left_new more
-    → (all : List ℕ) × IsTaken new left left_new all (lines ++ more)
-taken-more {old = old} {new = new} {left = left} {left_old = left_old} {left_new = left_new} {bytes = bytes} {lines = lines} {more = more} a same gives = (
+pub taken-more : {old new : Reader} {left left_old left_new : Option (List ℕ)} {bytes : List ℕ} {lines more : List Line} → IsTaken old left left_old bytes lines
+    → (old.ended ≡ true → left_new ≡ left_old) → GivesNext old new left_old left_new more → (all : List ℕ) × IsTaken new left left_new all (lines ++ more)
+taken-more {old = old} {new = new} {left = left} {left_old = left_old} {left_new = left_new} {bytes = bytes} {lines = lines} {more = more} taken same gives = (
   bytes ++ gives.0,
   record {
-    source = consumes_more left left_old left_new bytes gives.0 a.taken.source gives.1.source;
-    lines_so_far = goes_on bytes gives.0 lines more old new left_old left_new a.taken.lines_so_far gives.1;
-    end = λ ended. elim (cases_Bool old.ended) [ inl was ↦ subst IsAtEnd (sym (same was)) (a.taken.end was) | inr not_yet ↦ gives.1.end not_yet ended ];
+    source = consumes_more left left_old left_new bytes gives.0 taken.source gives.1.source;
+    lines_so_far = goes_on bytes gives.0 lines more old new left_old left_new taken.lines_so_far gives.1;
+    end = λ ended. elim (cases_Bool old.ended) [ inl was ↦ subst IsAtEnd (sym (same was)) (taken.end was) | inr not_yet ↦ gives.1.end not_yet ended ];
   },
 )
 
@@ -149,7 +131,7 @@ pub none_more : {first now : ServiceState} {old new : Reader} {left left_old lef
     → AreAnswered first now old left left_old written written_now bytes lines → (old.ended ≡ true → left_new ≡ left_old) → GivesNext old new left_old left_new (next_lines n) × LeavesNext n old new
     → (all : List ℕ) × AreAnswered first now new left left_new written written_now all lines × LeavesNext m old new
 none_more {old = old} {new = new} {left = left} {left_old = left_old} {left_new = left_new} {lines = lines} n m is none a same gives =
-    let next = taken-more a same (subst (λ (ls : List Line). GivesNext old new left_old left_new ls) (ap next_lines is ∙ none) gives.0) in (
+    let next = taken-more a.taken same (subst (λ (ls : List Line). GivesNext old new left_old left_new ls) (ap next_lines is ∙ none) gives.0) in (
       next.0,
       record { taken = subst (IsTaken new left left_new next.0) (append-nil lines) next.1; output = a.output; service = a.service },
       subst (λ (k : Next). LeavesNext k old new) is gives.1,
@@ -161,7 +143,7 @@ pub one_line_more : {first now : ServiceState} {old new : Reader} {left left_old
     → number ≡ length lines + 1 → IsReplyTo now number x reply → next ≡ after_line now x → Appends written_old written_new (text_of_reply next.names reply)
     → (all : List ℕ) × AreAnswered first next new left left_new written written_new all (lines ++ x ∷ [])
 one_line_more {first = first} {now = now} {written = written} {written_old = written_old} {written_new = written_new} {lines = lines} next x number reply a same gives is_number is is_next wrote =
-    let more = taken-more a same gives in
+    let more = taken-more a.taken same gives in
     let text = text_of_reply next.names reply in (
       more.0,
       record {
@@ -214,5 +196,5 @@ pub one_line_begun : {first now : ServiceState} {old new : Reader} {left left_ol
     → AppendsFirstReplies first.network first.names first.state (lines ++ x ∷ []) written written_new
     → (all : List ℕ) × (ls : List Line) × Begun first new left left_new written written_new all ls
 one_line_begun {lines = lines} x a same gives f =
-    let more = taken-more a same gives in
+    let more = taken-more a.taken same gives in
     (more.0, lines ++ x ∷ [], record { taken = more.1; output = f })

@@ -32,7 +32,11 @@ pub record ServiceState : Type 0 where
 -- it is stored as its fields
 abbrev pub service_state_code : Coded ServiceState
 service_state_code =
-    code_by (Network × (State × (ℕ × Names))) (coded× network_row.coded (coded× state_row.coded (coded× coded_ℕ directory_row.coded))) (λ t. (t.network, (t.state, (t.count, t.names)))) (λ p. record { network = p.0; state = p.1.0; count = p.1.1.0; names = p.1.1.1 }) (λ _. refl)
+    code_by (Network × (State × (ℕ × Names)))
+    (coded× network_row.coded (coded× state_row.coded (coded× coded_ℕ directory_row.coded)))
+    (λ t. (t.network, (t.state, (t.count, t.names))))
+    (λ p. record { network = p.0; state = p.1.0; count = p.1.1.0; names = p.1.1.1 })
+    (λ _. refl)
 
 -- after a message with this answer
 abbrev pub after_answer : ServiceState → Wire → Message → Option Refusal → ServiceState

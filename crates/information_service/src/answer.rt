@@ -1,85 +1,25 @@
 //! The answer to a line: the reply, and what the line does to the timetable and its names.
 
-ghost use Rattle.std.specs.Prelude.{◌≡◌, ◌<◌, ◌-◌, ◌^◌, Ok, Err, IfOk, IfErr, IfSome, OnOk};
+ghost use Rattle.std.specs.Prelude.{◌≡◌, ◌<◌, ◌-◌, ◌^◌, Ok, Err, IfOk, IfErr, OnOk};
 ghost use Rattle.message_reader.specs.declared.wire.Line.TheVariants.{Message as Says};
 ghost use Rattle.message_reader.specs.Resolved.{resolved};
 ghost use Rattle.message_reader.specs.ResolvedQueries.{query_resolved};
 ghost use Rattle.message_reader.specs.Wires.{IsLine, IsWire, IsWireQuery};
 ghost use Rattle.mt_io.specs.Lines.{short};
-ghost use Rattle.information_service.specs.Lines.{added_name, with_added, CanBeAdded};
-ghost use Rattle.information_service.specs.Output.{reply_to_message, reply_to_refused, IsReply, IsReplyTo, IsReplyToQuery, IsReplyToResolved};
+ghost use Rattle.information_service.specs.Output.{reply_to_message, IsReply, IsReplyTo, IsReplyToResolved};
 ghost use Rattle.information_service.specs.ServiceState.{after_line, after_said, after_message};
 
+use crate::replies::{add_name, added_name, reply_to_asked, reply_to_refused};
 use crate::service::InformationService;
-use conn_scan::{Found, earliest};
-use delay_model::messages::Refusal;
 use delay_report::Reply;
 use message_reader::{
     Line, LineError, ResolveError, Wire, WireQuery, read_line, resolve, resolve_query,
 };
-use mt_base::journeys::{PlanRide, Query};
 use mt_base::memory::OutOfMemory;
-use mt_base::numbers::Day;
-use mt_base::rows::Rows;
-use schedule_build::{Directory, ExtraName};
 use std::alloc::{AllocError, Global};
 use std::marker::Brand;
 use std::sync::ledger::{Blank, Ledger};
 use train_nodes::{Msg, Steps};
-
-/// The name of the train that a message adds, if it adds one.
-fn added_name(
-    alloc: Global,
-    directory: &Directory,
-    wire: &Wire,
-) -> Result<Option<ExtraName>, OutOfMemory>
-    ensures { IfOk result (λ name. name ≡ added_name directory.now wire.now) }
-{
-    if let Wire::Extra { trip, date, .. } = wire
-        && let Some(day) = directory.day(*date)
-    {
-        return Ok(Some(directory.extra_name(alloc, trip.text(), day)?));
-    }
-    Ok(None)
-}
-
-/// Adds the name of an extra train, if there is one.
-fn add_name(directory: &mut Directory, name: Option<ExtraName>)
-    requires ready { IfSome name (λ n. CanBeAdded directory.old n) }
-    ensures { directory.new ≡ with_added name directory.old }
-{
-    if let Some(name) = name {
-        let _ = directory.add_extra(name);
-    }
-}
-
-/// The reply to a refused message.
-fn reply_to_refused(
-    alloc: Global,
-    directory: &Directory,
-    number: u64,
-    wire: &Wire,
-    refusal: &Refusal,
-) -> Result<Reply, OutOfMemory>
-    ensures { IfOk result (λ r. r ≡ reply_to_refused directory.now number wire.now refusal.now) }
-{
-    if let Wire::Extra { trip, date, .. } = wire
-        && let Refusal::AgainstRank { from, to } = refusal
-        && let Some(day) = directory.day(*date)
-    {
-        return Ok(Reply::RefusedExtra {
-            line: number,
-            trip: trip.copy(alloc)?,
-            day,
-            from: *from,
-            to: *to,
-        });
-    }
-    Ok(Reply::Refused {
-        line: number,
-        refusal: *refusal,
-    })
-}
 
 /// The reply to a message. The steps that it counts are not used.
 fn reply_to_message<L: Ledger>(
@@ -152,48 +92,6 @@ fn reply_to_wire(
     }
 }
 
-/// The same rides once more.
-fn copy_rides(alloc: Global, rides: &[PlanRide]) -> Result<Rows<PlanRide>, OutOfMemory>
-    ensures { IfOk result (λ copy. copy ≡ rides.now) }
-{
-    let mut copy = Vec::with_capacity(alloc, rides.len())?;
-    copy.extend_from_slice(rides)?;
-    Ok(Rows::build(copy))
-}
-
-/// The reply to a query by number. The steps that it counts are not used.
-fn reply_to_query<L: Ledger>(
-    alloc: Global,
-    service: &mut InformationService,
-    number: u64,
-    day: Day,
-    query: &Query,
-    blank: Blank,
-) -> Result<Reply, OutOfMemory>
-    requires name { blank.name ≡ L.name }
-    requires parts { blank.parts ≡ L.parts }
-    requires some { 0 < blank.parts }
-    ensures reply { IfOk result (IsReplyToQuery service.old.network service.old.state
-        service.old.count number day query.now) }
-    ensures kept { service.new ≡ service.old }
-{
-    let mut steps = Steps::<L>::open(blank);
-    let after = service.timetable.count();
-    match earliest(&service.timetable, query, &mut service.scratch, &mut steps) {
-        Found::Arrives { at } => Ok(Reply::Journey {
-            line: number,
-            after,
-            day,
-            arrives: at,
-            rides: copy_rides(alloc, service.scratch.rides())?,
-        }),
-        Found::NoWay => Ok(Reply::NoJourney {
-            line: number,
-            after,
-        }),
-    }
-}
-
 /// The reply to a query by names. Who asks it has no use here.
 fn reply_to_wire_query(
     alloc: Global,
@@ -207,14 +105,17 @@ fn reply_to_wire_query(
     ensures kept { service.new ≡ service.old }
 {
     match resolve_query(query, &service.directory) {
-        Ok(asked) => reply_to_query::<Brand>(
-            alloc,
-            service,
-            number,
-            asked.day,
-            &asked.query,
-            Blank::new(1),
-        ),
+        Ok(asked) => {
+            let after = service.timetable.count();
+            reply_to_asked(
+                alloc,
+                &service.timetable,
+                &mut service.scratch,
+                number,
+                after,
+                &asked,
+            )
+        }
         Err(bad) => Ok(Reply::Bad { line: number, bad }),
     }
 }

@@ -6,10 +6,12 @@ mod fault;
 mod laws;
 mod lines;
 mod output;
+mod replies;
 mod service;
 mod table;
 
 pub use fault::LinesFault;
 pub use laws::{lines_keep_names_in_step, outputs_differ_in_journeys_alone};
 pub use output::write_output;
+pub use replies::{add_name, added_name, reply_to_asked, reply_to_refused};
 pub use service::InformationService;

@@ -1,6 +1,6 @@
 //! The whole output: the replies to all lines of the input, and the table of all times.
 
-ghost use Rattle.std.specs.Prelude.{◌≡◌, List, ℕ, Some, true, false, OnOk, IfErr};
+ghost use Rattle.std.specs.Prelude.{◌≡◌, ◌≤◌, List, ℕ, Some, true, false, OnOk, IfErr};
 ghost use Rattle.std.specs.Io.KnownBytes.{Consumes, IsAtEnd};
 ghost use Rattle.mt_io.specs.Causes.{Rose};
 ghost use Rattle.mt_io.specs.Lines.{lines_of};
@@ -28,10 +28,14 @@ pub fn write_output<S: Source, K: Sink>(
     budget: u64,
 ) -> Result<(), LinesFault>
     requires count { service.old.count ≡ 0 }
+
+    // all went well
     ensures ok { OnOk result ((bytes : List ℕ) → S.left input.old ≡ Some bytes
         → AppendsOutput service.old.network service.old.names service.old.state
         (lines_of true bytes) (K.written out.old) (K.written out.new)) }
     ensures ended { OnOk result (IsAtEnd (S.left input.new)) }
+
+    // what is written where the run stops
     ensures stopped { IfErr result (WhereLinesStop ((bytes : List ℕ)
         × Consumes (S.left input.old) (S.left input.new) bytes
         × AppendsReplies service.old.network service.old.names service.old.state
@@ -39,10 +43,14 @@ pub fn write_output<S: Source, K: Sink>(
     ensures front { IfErr result (λ f. (bytes : List ℕ) → S.left input.old ≡ Some bytes
         → AppendsOutputFront service.old.network service.old.names service.old.state
         (lines_of true bytes) (K.written out.old) (K.written out.new)) }
+
+    // faults have causes, and their counts do not fall
     ensures fault { IfErr result (HasLinesFaultCause
         (Rose (S.faults input.old) (S.faults input.new))
         (Rose (K.faults out.old) (K.faults out.new))
         (TookAll budget (S.left input.old) (S.left input.new))) }
+    ensures later { (S.faults input.old ≤ S.faults input.new)
+        × (K.faults out.old ≤ K.faults out.new) }
 {
     let mut reader = LineReader::build(alloc, budget)?;
     answer_lines(alloc, service, &mut reader, input, out)?;

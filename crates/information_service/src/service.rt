@@ -36,7 +36,8 @@ impl Model for InformationService {
 
 impl InformationService {
     /// A timetable with its names. The search for journeys remembers where it has been of trains
-    /// below the number `trains`; for others it only takes longer. It fails only by memory.
+    /// below the number `trains`; for others it only takes longer. `OutOfMemory` where there is no
+    /// memory.
     pub fn build(
         alloc: Global,
         timetable: Timetable,
@@ -58,12 +59,5 @@ impl InformationService {
             directory,
             scratch,
         })
-    }
-
-    /// The names of the trains, stops, routes and service days.
-    pub fn directory(&self) -> &Directory
-        ensures { result.now ≡ self.now.names }
-    {
-        &self.directory
     }
 }

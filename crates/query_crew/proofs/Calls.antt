@@ -1,11 +1,8 @@
 -- Calls of a line reader one after the other, as one call.
-use Rattle.std.proofs.Common.{◌≡◌, ◌∙◌, List, ◌++◌, Option, true, sym, ap, subst, append_assoc, arith, inl, inr}
+use Rattle.query_crew.proofs.Words.{◌≡◌, ◌∙◌, List, ◌++◌, Option, true, sym, ap, subst, append_assoc, arith, inl, inr, length-append, ℕ, Line, Reader, GivesNext}
 use Rattle.std.proofs.lemmas.Bool.{cases_Bool}
-use Rattle.std.proofs.lemmas.List.{length-append}
 use Rattle.std.specs.Io.KnownBytes.{IsAtEnd}
-use Rattle.std.specs.Prelude.{ℕ}
-use Rattle.mt_io.specs.Lines.{Line}
-use Rattle.mt_io.specs.Reader.{Reader, GivesNext, ahead}
+use Rattle.mt_io.specs.Reader.{ahead}
 use Rattle.mt_io.proofs.Gives.{consumes_more}
 
 -- what two calls take and answer, where the second reads nothing once the end was read

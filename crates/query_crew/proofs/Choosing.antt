@@ -1,29 +1,8 @@
 -- What the publisher and the workers have for the lines of a window, as the replies of the crew.
-use Rattle.std.proofs.Common.{◌≡◌, ◌≤◌, ◌<◌, ◌%◌, ◌==◌, ℕ, ◌+◌, List, [], ◌∷◌, ◌++◌, length, get_or, slice_get, take, true, Option, Some, None, IsSome, Result, Ok, Err, IfOk, refl, sym, ◌∙◌, ap, subst, inl, inr, arith}
-use Rattle.std.proofs.lemmas.Option.{same_Some, get_or_from_slice_get, slice_get-get_or, slice_get_within}
-use Rattle.std.specs.List.{sum}
-use Rattle.delay_model.specs.declared.messages.Message.{Message}
-use Rattle.delay_report.specs.declared.replies.Reply.{Reply}
-use Rattle.information_service.specs.ServiceState.{ServiceState}
-use Rattle.message_reader.specs.declared.bad_line.BadLine.{BadLine}
-use Rattle.message_reader.specs.declared.resolve_queries.AskedQuery.{AskedQuery}
-use Rattle.timetable.specs.TimetableState.{TimetableState}
-use Rattle.query_crew.specs.declared.window_line.ClientQuery.{ClientQuery}
-use Rattle.query_crew.specs.declared.window_line.WindowLine.{WindowLine}
+use Rattle.query_crew.proofs.Words.{◌≡◌, ◌≤◌, ◌<◌, ◌%◌, ℕ, ◌+◌, List, [], ◌∷◌, ◌++◌, length, slice_get, take, true, Option, Some, None, IsSome, Result, Ok, Err, IfOk, refl, sym, ◌∙◌, ap, subst, inl, inr, arith, same_Some, slice_get-get_or, slice_get_within, sum, Message, Reply, ServiceState, BadLine, AskedQuery, TimetableState, ClientQuery, WindowLine, answer_for, chosen, reply_for, AreJoined, IsAnswerAt, after_lines, after_shown, publisher_reply, publisher_replies, shown_count, asked_of, IsEntry, HasAnsweredAll, Network, State, service_after, Line, Names, StandsAt, ArePosted, AreWindowReplies, window_lines}
+use Rattle.std.proofs.Common.{◌==◌, get_or}
+use Rattle.std.proofs.lemmas.Option.{get_or_from_slice_get}
 use Rattle.query_crew.specs.declared.window_line.WindowLine.TheVariants as shown
-use Rattle.query_crew.specs.Joining.{answer_for, chosen, reply_for, AreJoined}
-use Rattle.query_crew.specs.Posted.{IsAnswerAt}
-use Rattle.query_crew.specs.Posting.{after_lines, after_shown, publisher_reply, publisher_replies}
-use Rattle.query_crew.specs.Served.{shown_count}
-use Rattle.query_crew.specs.Working.{asked_of, IsEntry, HasAnsweredAll}
-use Rattle.delay_model.specs.declared.network.Network.{Network}
-use Rattle.delay_model.specs.declared.state.State.{State}
-use Rattle.information_service.specs.ServiceState.{service_after}
-use Rattle.mt_io.specs.Lines.{Line}
-use Rattle.schedule_build.specs.Directory.{Names}
-use Rattle.query_crew.specs.Posting.{StandsAt, ArePosted}
-use Rattle.query_crew.specs.Served.{AreWindowReplies}
-use Rattle.query_crew.specs.WindowLines.{window_lines}
 use Rattle.query_crew.proofs.Joined.{IsCrewReply, AreCrewReplies, joined-replies, stands-after}
 use Rattle.query_crew.proofs.PostedStates.{reply-at}
 

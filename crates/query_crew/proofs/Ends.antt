@@ -1,20 +1,15 @@
 -- Where windows end.
-use Rattle.std.proofs.Common.{◌≡◌, ◌∙◌, ℕ, zero, suc, ◌<◌, ◌≤◌, List, [], ◌∷◌, ◌++◌, length, get_or, Bool, true, false, nat_eq, Result, Ok, Err, refl, sym, ap, arith, length-append}
+use Rattle.query_crew.proofs.Words.{◌≡◌, ◌∙◌, ℕ, zero, suc, ◌<◌, ◌≤◌, List, [], ◌∷◌, ◌++◌, length, Bool, true, false, Result, Ok, Err, refl, sym, ap, arith, length-append, append-nil, All-append, All-cons, All-nil, All, list_any, lines_of, BadLine, Line, Names, window_line, is_flush_line, is_flush, windows_of, with_last, AreReadWindows}
+use Rattle.std.proofs.Common.{get_or, nat_eq}
 use Rattle.std.proofs.Math.ListN.{get_or-append}
 use Rattle.std.proofs.lemmas.Grind.{flat_map-append}
-use Rattle.std.proofs.lemmas.List.{append-nil}
-use Rattle.std.proofs.lemmas.List.Elements.{All-append, All-cons, All-nil}
 use Rattle.std.proofs.lemmas.List.Folds.{list_any-append}
-use Rattle.std.specs.List.{All, AllPairs, list_any}
-use Rattle.delay_model.specs.Windows.{lines_of, HasFlushLast, is_closed, AreWindows}
+use Rattle.std.specs.List.{AllPairs}
+use Rattle.delay_model.specs.Windows.{HasFlushLast, is_closed, AreWindows}
 use Rattle.delay_model.proofs.WindowLemmas.{windows-are}
-use Rattle.message_reader.specs.declared.bad_line.BadLine.{BadLine}
 use Rattle.message_reader.specs.declared.wire.Line.{Line as Spoken}
 use Rattle.message_reader.specs.declared.wire.Line.TheVariants as says
-use Rattle.mt_io.specs.Lines.{Line}
-use Rattle.schedule_build.specs.Directory.{Names}
-use Rattle.query_crew.specs.WindowLines.{window_line, is_flush_line}
-use Rattle.query_crew.specs.Windows.{says_flush, is_flush, windows_of, with_last, IsClosedWindow, IsOpenWindow, AreReadWindows}
+use Rattle.query_crew.specs.Windows.{says_flush, IsClosedWindow, IsOpenWindow}
 
 -- a flush stands in a window as a flush
 pub shown-flush : (names : Names) (said : Result Spoken BadLine) → is_flush_line (window_line names said) ≡ says_flush said

@@ -1,18 +1,12 @@
 -- A window that is filled line by line.
-use Rattle.std.proofs.Common.{◌≡◌, ◌∙◌, ℕ, ◌+◌, ◌<◌, ◌≤◌, List, [], ◌∷◌, ◌++◌, length, Bool, true, false, nat_eq, Option, refl, sym, ap, subst, arith, length-append}
-use Rattle.std.proofs.lemmas.List.{append-nil, map-append, length-map}
-use Rattle.std.specs.List.{list_any}
-use Rattle.mt_io.specs.Lines.{Line}
-use Rattle.mt_io.specs.Reader.{Reader, GivesNext, work}
+use Rattle.query_crew.proofs.Words.{◌≡◌, ◌∙◌, ℕ, ◌+◌, ◌<◌, ◌≤◌, List, [], ◌∷◌, ◌++◌, length, Bool, true, false, Option, refl, sym, ap, subst, arith, length-append, append-nil, length-map, list_any, Line, Reader, GivesNext, Names, WindowLine, said_by, window_line, window_lines, is_flush_line, is_flush}
+use Rattle.std.proofs.Common.{nat_eq}
+use Rattle.std.proofs.lemmas.List.{map-append}
+use Rattle.mt_io.specs.Reader.{work}
 use Rattle.mt_io.proofs.Gives.{gives_nothing}
-use Rattle.schedule_build.specs.Directory.{Names}
 use Rattle.query_crew.specs.declared.reading.WindowEnd.{WindowEnd}
 use Rattle.query_crew.specs.declared.reading.WindowEnd.TheVariants as ends
-use Rattle.query_crew.specs.declared.window_line.WindowLine.{WindowLine}
 use Rattle.query_crew.specs.Reading.{StopsAt, IsOneLine, EndsWindow, IsReadWindow}
-use Rattle.information_service.specs.Lines.{said_by}
-use Rattle.query_crew.specs.WindowLines.{window_line, window_lines, is_flush_line}
-use Rattle.query_crew.specs.Windows.{is_flush}
 use Rattle.query_crew.proofs.Calls.{gives-both}
 use Rattle.query_crew.proofs.Ends.{shown-flush, none-more, closed-by-flush, closed-by-count, open-lines}
 

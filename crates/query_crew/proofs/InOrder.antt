@@ -1,25 +1,9 @@
 -- Replies to lines in their order, each in the state after the lines before it, as replies of a window.
-use Rattle.std.proofs.Common.{◌≡◌, ◌≤◌, ℕ, ◌+◌, List, ◌++◌, length, Some, Result, Ok, Err, sym, ◌∙◌, ap, subst, arith, append_assoc, take, drop}
+use Rattle.query_crew.proofs.Words.{◌≡◌, ◌≤◌, ℕ, ◌+◌, List, ◌++◌, length, Some, Result, Ok, Err, sym, ◌∙◌, ap, subst, arith, append_assoc, take, drop, take-length, Message, Network, State, after_messages, Reply, said_by, accepted_of, IsReply, IsReplyTo, IsReplyToResolved, service_after, BadLine, AskedQuery, Flush, WireQuery, query_resolved, Line, Names, IsQueryReply, IsReplyAt, shown_count, AreWindowReplies}
 use Rattle.std.specs.List.{slice_get}
-use Rattle.std.proofs.Math.Seq.{take-length}
 use Rattle.std.proofs.lemmas.List.{take-append-drop, take-take}
-use Rattle.delay_model.specs.declared.messages.Message.{Message}
-use Rattle.delay_model.specs.declared.network.Network.{Network}
-use Rattle.delay_model.specs.declared.state.State.{State}
-use Rattle.delay_model.specs.After.{after_messages}
-use Rattle.delay_report.specs.declared.replies.Reply.{Reply}
-use Rattle.information_service.specs.Lines.{said_by, accepted_of}
-use Rattle.information_service.specs.Output.{IsReply, IsReplyTo, IsReplyToResolved}
-use Rattle.information_service.specs.ServiceState.{service_after}
-use Rattle.message_reader.specs.declared.bad_line.BadLine.{BadLine}
-use Rattle.message_reader.specs.declared.resolve_queries.AskedQuery.{AskedQuery}
 use Rattle.message_reader.specs.declared.wire.Line.{Line as Spoken}
-use Rattle.message_reader.specs.declared.wire.Line.TheVariants.{Message as Says, Query as Asks, Flush}
-use Rattle.message_reader.specs.declared.wire.WireQuery.{WireQuery}
-use Rattle.message_reader.specs.ResolvedQueries.{query_resolved}
-use Rattle.mt_io.specs.Lines.{Line}
-use Rattle.schedule_build.specs.Directory.{Names}
-use Rattle.query_crew.specs.Served.{IsQueryReply, IsReplyAt, shown_count, AreWindowReplies}
+use Rattle.message_reader.specs.declared.wire.Line.TheVariants.{Message as Says, Query as Asks}
 use Rattle.query_crew.proofs.KnownNames.{asked-by-feed}
 use Rattle.query_crew.proofs.ServedLemmas.{accepted-rise, accepted-first, count-of, counts-by-place}
 

@@ -1,35 +1,15 @@
 -- What the publisher replied and what workers answered, as the replies of a window.
-use Rattle.std.proofs.Common.{◌≡◌, ◌≤◌, ◌<◌, ◌⊎◌, ℕ, ◌+◌, List, [], ◌++◌, length, take, Option, Some, Result, Ok, Err, refl, sym, ◌∙◌, ap, subst, arith, inl, inr, length-append}
-use Rattle.std.proofs.lemmas.List.{take-map, length-map}
-use Rattle.std.proofs.lemmas.Option.{same_Some, slice_get-map}
+use Rattle.query_crew.proofs.Words.{◌≡◌, ◌≤◌, ◌<◌, ◌⊎◌, ℕ, ◌+◌, List, [], ◌++◌, length, take, Option, Some, Result, Ok, Err, refl, sym, ◌∙◌, ap, subst, arith, inl, inr, length-append, length-map, same_Some, Message, Network, State, after_messages, accepted, Reply, said_by, messages_of, by_names, accepted_of, names_after, IsReplyToQuery, IsReplyToResolved, ServiceState, service_after, BadLine, AskedQuery, Flush, WireQuery, query_resolved, Line, Names, TimetableState, ClientQuery, WindowLine, IsAnswerAt, StandsAt, after_lines, publisher_reply, ArePosted, IsReplyAt, shown_count, AreWindowReplies, window_line, window_lines}
+use Rattle.std.proofs.lemmas.List.{take-map}
+use Rattle.std.proofs.lemmas.Option.{slice_get-map}
 use Rattle.std.specs.List.{slice_get}
 use Rattle.std.specs.Option.{option_map}
-use Rattle.delay_model.specs.declared.messages.Message.{Message}
-use Rattle.delay_model.specs.declared.network.Network.{Network}
-use Rattle.delay_model.specs.declared.state.State.{State}
-use Rattle.delay_model.specs.After.{after_messages, accepted}
 use Rattle.delay_model.proofs.AfterLemmas.{accepted-are}
-use Rattle.delay_report.specs.declared.replies.Reply.{Reply}
 use Rattle.delay_report.specs.declared.replies.Reply.TheVariants.{Bad}
-use Rattle.information_service.specs.Lines.{said_by, messages_of, by_names, accepted_of, names_after}
-use Rattle.information_service.specs.Output.{IsReplyToQuery, IsReplyToResolved}
-use Rattle.information_service.specs.ServiceState.{ServiceState, service_after}
-use Rattle.message_reader.specs.declared.bad_line.BadLine.{BadLine}
-use Rattle.message_reader.specs.declared.resolve_queries.AskedQuery.{AskedQuery}
 use Rattle.message_reader.specs.declared.wire.Line.{Line as Spoken}
-use Rattle.message_reader.specs.declared.wire.Line.TheVariants.{Message as Says, Query as Asks, Flush}
-use Rattle.message_reader.specs.declared.wire.WireQuery.{WireQuery}
-use Rattle.message_reader.specs.ResolvedQueries.{query_resolved}
-use Rattle.mt_io.specs.Lines.{Line}
-use Rattle.schedule_build.specs.Directory.{Names}
-use Rattle.timetable.specs.TimetableState.{TimetableState}
-use Rattle.query_crew.specs.declared.window_line.ClientQuery.{ClientQuery}
-use Rattle.query_crew.specs.declared.window_line.WindowLine.{WindowLine}
+use Rattle.message_reader.specs.declared.wire.Line.TheVariants.{Message as Says, Query as Asks}
 use Rattle.query_crew.specs.declared.window_line.WindowLine.TheVariants as shown
-use Rattle.query_crew.specs.Posted.{IsAnswerAt}
-use Rattle.query_crew.specs.Posting.{StandsAt, after_lines, reply_to_bad, publisher_reply, ArePosted}
-use Rattle.query_crew.specs.Served.{IsReplyAt, shown_count, AreWindowReplies}
-use Rattle.query_crew.specs.WindowLines.{window_line, window_lines}
+use Rattle.query_crew.specs.Posting.{reply_to_bad}
 use Rattle.query_crew.proofs.KnownNames.{asked-by-feed}
 use Rattle.query_crew.proofs.PostedStates.{lines-lead, messages-same, reply-at, answer-is}
 use Rattle.query_crew.proofs.ServedLemmas.{Later, accepted-more, accepted-rise, counts-by-place}

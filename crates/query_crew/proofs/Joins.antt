@@ -1,18 +1,17 @@
 -- Entries that are taken place by place.
-use Rattle.std.proofs.Common.{◌≡◌, ◌<◌, ◌≤◌, ◌%◌, ◌⊎◌, ⊎_elim, ℕ, zero, suc, ◌+◌, List, [], ◌∷◌, ◌++◌, length, get_or, slice_get, set, Option, Some, None, IsSome, refl, sym, ap, subst, ◌∙◌, arith}
-use Rattle.std.proofs.lemmas.List.{length-set, get_or-set_other}
-use Rattle.std.proofs.lemmas.Option.{same_Some}
-use Rattle.std.specs.List.{sum}
-use Rattle.delay_report.specs.declared.replies.Reply.{Reply}
-use Rattle.query_crew.specs.declared.window_line.WindowLine.{WindowLine}
+use Rattle.query_crew.proofs.Words.{◌≡◌, ◌<◌, ◌≤◌, ◌%◌, ◌⊎◌, ⊎_elim, ℕ, zero, suc, ◌+◌, List, [], ◌∷◌, ◌++◌, length, slice_get, set, Option, Some, None, IsSome, refl, sym, ap, subst, ◌∙◌, arith, length-set, get_or-set_other, same_Some, sum, Reply, WindowLine, answer_for, chosen, reply_for, AreJoined}
+use Rattle.std.proofs.Common.{get_or}
 use Rattle.query_crew.specs.declared.window_line.WindowLine.TheVariants as shown
-use Rattle.query_crew.specs.Joining.{answer_for, chosen, reply_for, IsSameBehind, AreJoined}
+use Rattle.query_crew.specs.Joining.{IsSameBehind}
 use Rattle.query_crew.proofs.WorkLemmas.{at-end}
 
 -- the entries from this place on are the same
 pub record IsSameFrom (place : ℕ) (xs ys : List (Option Reply)) : Type 0 where
   pub count : length ys ≡ length xs
   pub from : (p : ℕ) → place ≤ p → get_or ys p None ≡ get_or xs p None
+
+pub same-behind : (place : ℕ) (xs : List (Option Reply)) → IsSameBehind place xs xs
+same-behind place xs = record { count = refl; behind = λ p l. refl }
 
 pub same-from-start : (xs : List (Option Reply)) → IsSameFrom 0 xs xs
 same-from-start xs = record { count = refl; from = λ p l. refl }

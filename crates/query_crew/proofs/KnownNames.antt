@@ -1,33 +1,16 @@
 -- The names that lines leave: what queries ask by them, and what replies say by them.
-use Rattle.std.proofs.Common.{◌≡◌, ℕ, List, [], ◌∷◌, ◌++◌, cond, Option, Some, None, Result, Ok, Err, is_none, length, refl, sym, ◌∙◌, ap}
+use Rattle.query_crew.proofs.Words.{◌≡◌, ℕ, List, [], ◌∷◌, ◌++◌, Option, Some, None, Result, Ok, Err, is_none, length, refl, sym, ◌∙◌, ap, option_map_or, filter_map-append, fold-append, Message, Refusal, Network, State, after_messages, effect, refusal, Reply, text_of_reply, said_by, messages_of, added_name, with_added, by_names, accepted_of, names_after, IsReply, IsReplyTo, service_after, BadLine, Flush, Wire, WireQuery, message_in, resolved, query_resolved, Line, Names}
+use Rattle.std.proofs.Common.{cond}
 use Rattle.std.specs.List.{fold}
-use Rattle.std.specs.Option.{option_map_or}
-use Rattle.std.proofs.lemmas.List.Elements.{filter_map-append}
-use Rattle.std.proofs.lemmas.List.Sums.{fold-append}
-use Rattle.delay_model.specs.declared.messages.Message.{Message}
-use Rattle.delay_model.specs.declared.messages.Refusal.{Refusal}
-use Rattle.delay_model.specs.declared.network.Network.{Network}
-use Rattle.delay_model.specs.declared.state.State.{State}
-use Rattle.delay_model.specs.After.{after_messages, after_accepted, accepted_message, after_line, known_after, Progress}
-use Rattle.delay_model.specs.Effect.{effect}
+use Rattle.delay_model.specs.After.{after_accepted, accepted_message, after_line, known_after, Progress}
 use Rattle.delay_model.specs.Names.{TrainName}
-use Rattle.delay_model.specs.Refusals.{refusal}
 use Rattle.delay_model.proofs.WindowLemmas.{beginning, progress-all}
-use Rattle.delay_report.specs.declared.replies.Reply.{Reply}
-use Rattle.delay_report.specs.Replies.{text_of_reply}
-use Rattle.information_service.specs.Lines.{said_by, messages_of, added_name, with_added, names_with, by_names, accepted_of, names_after}
-use Rattle.information_service.specs.Output.{reply_by_refusal, reply_to_message, IsReply, IsReplyTo}
-use Rattle.information_service.specs.ServiceState.{service_after}
-use Rattle.message_reader.specs.declared.bad_line.BadLine.{BadLine}
+use Rattle.information_service.specs.Lines.{names_with}
+use Rattle.information_service.specs.Output.{reply_by_refusal, reply_to_message}
 use Rattle.message_reader.specs.declared.wire.Line.{Line as Spoken}
-use Rattle.message_reader.specs.declared.wire.Line.TheVariants.{Message as Says, Query as Asks, Flush}
-use Rattle.message_reader.specs.declared.wire.Wire.{Wire}
-use Rattle.message_reader.specs.declared.wire.WireQuery.{WireQuery}
-use Rattle.message_reader.specs.Lines.{message_in}
-use Rattle.message_reader.specs.Resolved.{resolved}
-use Rattle.message_reader.specs.ResolvedQueries.{query_resolved, stop_or_station_named}
-use Rattle.mt_io.specs.Lines.{Line}
-use Rattle.schedule_build.specs.Directory.{Names, day_named, place_named}
+use Rattle.message_reader.specs.declared.wire.Line.TheVariants.{Message as Says, Query as Asks}
+use Rattle.message_reader.specs.ResolvedQueries.{stop_or_station_named}
+use Rattle.schedule_build.specs.Directory.{day_named, place_named}
 
 -- ---- what queries ask
 

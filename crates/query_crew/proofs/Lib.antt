@@ -1,3 +1,4 @@
+pub mod Words
 pub mod Calls
 pub mod Ends
 pub mod Filling
@@ -6,12 +7,11 @@ pub mod KnownNames
 pub mod InOrder
 pub mod SingleLemmas
 pub mod WorkLemmas
-pub mod OneLine
 pub mod Taking
 pub mod PostingLemmas
 pub mod Putting
 pub mod PostedStates
 pub mod Joined
 pub mod Joins
-pub mod Gathering
 pub mod Choosing
+pub mod Building

@@ -1,32 +1,12 @@
 -- The timetable after the first of the posted messages, and what the lines of a window lead to.
-use Rattle.std.proofs.Common.{◌≡◌, ◌-◌, ℕ, zero, suc, ◌+◌, List, [], ◌∷◌, ◌++◌, length, take, fold, Option, Some, None, Result, Ok, Err, refl, sym, ◌∙◌, ap, subst, arith, append_assoc}
+use Rattle.query_crew.proofs.Words.{◌≡◌, ◌-◌, ℕ, zero, suc, ◌+◌, List, [], ◌∷◌, ◌++◌, length, take, fold, Option, Some, None, Result, Ok, Err, refl, sym, ◌∙◌, ap, subst, arith, append_assoc, append-nil, fold-append, same_Some, filter_map, Message, Network, State, after_messages, effect, Reply, said_by, messages_of, IsReplyToQuery, ServiceState, service_after, BadLine, AskedQuery, Flush, message_in, Line, Names, TimetableState, taken, stepped, WindowLine, timetable_after, IsAnswerAt, after_shown, after_lines, message_shown, publisher_reply, publisher_replies, window_line, window_lines}
 use Rattle.std.proofs.Math.Seq.{take-append-add}
-use Rattle.std.proofs.lemmas.List.{append-nil}
-use Rattle.std.proofs.lemmas.List.Sums.{fold-append}
-use Rattle.std.proofs.lemmas.Option.{same_Some}
-use Rattle.std.specs.List.{filter_map, slice_get}
-use Rattle.delay_model.specs.declared.messages.Message.{Message}
-use Rattle.delay_model.specs.declared.network.Network.{Network}
-use Rattle.delay_model.specs.declared.state.State.{State}
-use Rattle.delay_model.specs.After.{after_messages, AreAccepted}
-use Rattle.delay_model.specs.Effect.{effect}
-use Rattle.delay_report.specs.declared.replies.Reply.{Reply}
-use Rattle.information_service.specs.Lines.{said_by, messages_of}
-use Rattle.information_service.specs.Output.{IsReplyToQuery}
-use Rattle.information_service.specs.ServiceState.{ServiceState, after_said, service_after}
-use Rattle.query_crew.proofs.OneLine.{line-after}
-use Rattle.message_reader.specs.declared.bad_line.BadLine.{BadLine}
-use Rattle.message_reader.specs.declared.resolve_queries.AskedQuery.{AskedQuery}
+use Rattle.std.specs.List.{slice_get}
+use Rattle.delay_model.specs.After.{AreAccepted}
+use Rattle.information_service.specs.ServiceState.{after_said}
+use Rattle.information_service.proofs.OneMore.{line-after}
 use Rattle.message_reader.specs.declared.wire.Line.{Line as Spoken}
-use Rattle.message_reader.specs.declared.wire.Line.TheVariants.{Message as Says, Query as Asks, Flush}
-use Rattle.message_reader.specs.Lines.{message_in}
-use Rattle.mt_io.specs.Lines.{Line}
-use Rattle.schedule_build.specs.Directory.{Names}
-use Rattle.timetable.specs.TimetableState.{TimetableState, taken, stepped}
-use Rattle.query_crew.specs.declared.window_line.WindowLine.{WindowLine}
-use Rattle.query_crew.specs.Posted.{timetable_after, IsAnswerAt}
-use Rattle.query_crew.specs.Posting.{after_shown, after_lines, message_shown, publisher_reply, publisher_replies}
-use Rattle.query_crew.specs.WindowLines.{window_line, window_lines}
+use Rattle.message_reader.specs.declared.wire.Line.TheVariants.{Message as Says, Query as Asks}
 use Rattle.query_crew.proofs.Taking.{same-timetable}
 
 -- ---- what the lines of a window lead to

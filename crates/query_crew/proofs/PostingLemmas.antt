@@ -1,22 +1,8 @@
 -- The lines that the publisher took, one more at a time.
-use Rattle.std.proofs.Common.{◌≡◌, ◌≤◌, ℕ, ◌+◌, List, [], ◌∷◌, ◌++◌, length, drop, Option, Some, None, Result, Ok, Err, refl, sym, ◌∙◌, ap, subst, arith, append_assoc, length-append}
-use Rattle.std.proofs.lemmas.List.{append-nil}
-use Rattle.std.specs.List.{filter_map}
-use mathlib.Core.List.{IsPrefix}
-use Rattle.delay_model.specs.declared.messages.Message.{Message}
-use Rattle.delay_model.specs.declared.messages.Refusal.{Refusal}
-use Rattle.delay_model.specs.After.{accepted}
-use Rattle.delay_model.specs.Refusals.{refusal}
-use Rattle.delay_report.specs.declared.replies.Reply.{Reply}
-use Rattle.information_service.specs.Lines.{by_names}
-use Rattle.information_service.specs.ServiceState.{ServiceState, after_message}
-use Rattle.message_reader.specs.declared.wire.Wire.{Wire}
-use Rattle.message_reader.specs.Resolved.{resolved}
-use Rattle.schedule_build.specs.Directory.{Names}
-use Rattle.timetable.specs.TimetableState.{TimetableState}
-use Rattle.query_crew.specs.declared.window_line.WindowLine.{WindowLine}
+use Rattle.query_crew.proofs.Words.{◌≡◌, ◌≤◌, ℕ, ◌+◌, List, [], ◌∷◌, ◌++◌, length, drop, Option, Some, None, Result, Ok, Err, refl, sym, ◌∙◌, ap, subst, arith, append_assoc, length-append, append-nil, filter_map, IsPrefix, Message, Refusal, accepted, refusal, Reply, by_names, ServiceState, Wire, resolved, Names, TimetableState, WindowLine, StandsAt, after_shown, after_lines, message_shown, publisher_replies, IsTaken, ArePosted}
+use Rattle.information_service.specs.ServiceState.{after_message}
 use Rattle.query_crew.specs.declared.window_line.WindowLine.TheVariants as shown
-use Rattle.query_crew.specs.Posting.{StandsAt, after_shown, after_lines, message_shown, accepted_in, publisher_replies, IsTaken, ArePosted}
+use Rattle.query_crew.specs.Posting.{accepted_in}
 
 -- what is a beginning of a beginning
 pub prefix-trans : {M : Type 0} (xs ys zs : List M) → IsPrefix xs ys → IsPrefix ys zs → IsPrefix xs zs

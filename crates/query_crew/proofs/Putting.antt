@@ -1,7 +1,8 @@
 -- A list in which one element was put.
-use Rattle.std.proofs.Common.{◌≡◌, ℕ, ◌<◌, ◌≢◌, List, length, get_or, set, sym, ap, subst, ◌∙◌, ⊎_elim, ◌⊎◌, inl, inr, eqb, true, false}
+use Rattle.query_crew.proofs.Words.{◌≡◌, ℕ, ◌<◌, List, length, set, sym, ap, subst, ◌∙◌, ⊎_elim, ◌⊎◌, inl, inr, true, false, get_or-set_other}
+use Rattle.std.proofs.Common.{◌≢◌, get_or, eqb}
 use Rattle.std.proofs.lemmas.Bool.Decides.{eqb_tells}
-use Rattle.std.proofs.lemmas.List.{get_or-set_same, get_or-set_other}
+use Rattle.std.proofs.lemmas.List.{get_or-set_same}
 
 same-or : (v w : ℕ) → (v ≡ w) ⊎ (v ≢ w)
 same-or v w = ⊎_elim (λ (t : (eqb v w ≡ true) × (v ≡ w)). inl t.1) (λ (t : (eqb v w ≡ false) × (v ≢ w)). inr t.1) (eqb_tells v w)

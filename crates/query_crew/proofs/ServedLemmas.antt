@@ -1,31 +1,13 @@
 -- Counts along windows, and one window more.
-use Rattle.std.proofs.Common.{◌≡◌, ◌<◌, ◌≤◌, ℕ, suc, ◌+◌, List, [], ◌∷◌, ◌++◌, length, Option, Some, None, Result, Ok, Err, refl, sym, ◌∙◌, ap, subst, arith, inl, inr, length-append, append_assoc, take}
-use Rattle.std.specs.List.{All, slice_get}
-use Rattle.std.specs.Option.{option_map_or}
-use Rattle.std.proofs.lemmas.List.{append-nil, take-append-le}
-use Rattle.std.proofs.lemmas.Option.{none-some, same_Some}
-use Rattle.std.proofs.lemmas.List.Elements.{All-append, All-cons, All-nil, filter_map-append}
-use Rattle.delay_model.specs.declared.messages.Message.{Message}
-use Rattle.delay_model.specs.declared.network.Network.{Network}
-use Rattle.delay_model.specs.declared.state.State.{State}
-use Rattle.delay_model.specs.After.{after_messages, accepted}
-use Rattle.delay_model.specs.Windows.{Answer, CountsDoNotFall, lines_of}
+use Rattle.query_crew.proofs.Words.{◌≡◌, ◌<◌, ◌≤◌, ℕ, suc, ◌+◌, List, [], ◌∷◌, ◌++◌, length, Option, Some, None, Result, Ok, Err, refl, sym, ◌∙◌, ap, subst, arith, inl, inr, length-append, append_assoc, take, All, option_map_or, append-nil, take-append-le, same_Some, All-append, All-cons, All-nil, filter_map-append, Message, Network, State, after_messages, accepted, lines_of, Reply, said_by, messages_of, by_names, accepted_of, names_after, IsReplyToResolved, BadLine, AskedQuery, Flush, WireQuery, message_in, query_resolved, Line, Names, IsQueryReply, IsReplyAt, shown_count, AreWindowReplies, AreRepliesFrom, text_of_replies, text_from, AreServed, with_last, AreReadWindows}
+use Rattle.std.specs.List.{slice_get}
+use Rattle.std.proofs.lemmas.Option.{none-some}
+use Rattle.delay_model.specs.Windows.{Answer, CountsDoNotFall}
 use Rattle.delay_model.proofs.AfterLemmas.{accepted-append}
 use Rattle.delay_model.proofs.Lists.{AllPairs-append, AllPairs-nil}
-use Rattle.delay_report.specs.declared.replies.Reply.{Reply}
-use Rattle.information_service.specs.Lines.{said_by, messages_of, by_names, accepted_of, names_after}
-use Rattle.information_service.specs.Output.{IsReplyToResolved}
-use Rattle.message_reader.specs.declared.bad_line.BadLine.{BadLine}
-use Rattle.message_reader.specs.declared.resolve_queries.AskedQuery.{AskedQuery}
 use Rattle.message_reader.specs.declared.wire.Line.{Line as Spoken}
-use Rattle.message_reader.specs.declared.wire.Line.TheVariants.{Message as Says, Query as Asks, Flush}
-use Rattle.message_reader.specs.declared.wire.WireQuery.{WireQuery}
-use Rattle.message_reader.specs.Lines.{message_in}
-use Rattle.message_reader.specs.ResolvedQueries.{query_resolved}
-use Rattle.mt_io.specs.Lines.{Line}
-use Rattle.schedule_build.specs.Directory.{Names}
-use Rattle.query_crew.specs.Served.{IsQueryReply, IsReplyAt, shown_count, shown_to, shown_counts, AreWindowReplies, AreRepliesFrom, replies_of, text_of_replies, text_from, AreServed, IsServed}
-use Rattle.query_crew.specs.Windows.{with_last, AreReadWindows}
+use Rattle.message_reader.specs.declared.wire.Line.TheVariants.{Message as Says, Query as Asks}
+use Rattle.query_crew.specs.Served.{shown_to, shown_counts, replies_of, IsServed}
 use Rattle.query_crew.proofs.Ends.{read-windows}
 
 -- ---- accepted messages

@@ -1,31 +1,11 @@
 -- Windows of one line each.
-use Rattle.std.proofs.Common.{◌≡◌, ℕ, zero, suc, ◌+◌, List, [], ◌∷◌, ◌++◌, length, Some, Result, Ok, Err, refl, sym, ◌∙◌, ap, subst, arith, take}
+use Rattle.query_crew.proofs.Words.{◌≡◌, ℕ, zero, suc, ◌+◌, List, [], ◌∷◌, ◌++◌, length, Some, Result, Ok, Err, refl, sym, ◌∙◌, ap, subst, arith, take, take-length, append-nil, same_Some, slice_get_within, filter_map-append, Message, Network, State, after_messages, accepted, Reply, text_of_reply, said_by, messages_of, by_names, accepted_of, names_after, IsReply, IsReplyTo, IsReplyToResolved, service_after, BadLine, AskedQuery, Flush, WireQuery, message_in, query_resolved, Line, Names, IsQueryReply, IsReplyAt, AreWindowReplies, AreRepliesFrom, text_of_replies, text_from, AreServed}
 use Rattle.std.proofs.Math.Logic.{◌↔◌}
 use Rattle.std.specs.List.{slice_get}
-use Rattle.std.proofs.Math.Seq.{take-length}
-use Rattle.std.proofs.lemmas.List.{append-nil}
-use Rattle.std.proofs.lemmas.Option.{same_Some, slice_get_within}
-use Rattle.std.proofs.lemmas.List.Elements.{filter_map-append}
-use Rattle.delay_model.specs.declared.messages.Message.{Message}
-use Rattle.delay_model.specs.declared.network.Network.{Network}
-use Rattle.delay_model.specs.declared.state.State.{State}
-use Rattle.delay_model.specs.After.{after_messages, accepted}
 use Rattle.delay_model.specs.Windows.{single_windows}
-use Rattle.delay_report.specs.declared.replies.Reply.{Reply}
-use Rattle.delay_report.specs.Replies.{text_of_reply}
-use Rattle.information_service.specs.Lines.{said_by, messages_of, by_names, accepted_of, names_after}
-use Rattle.information_service.specs.Output.{IsReply, IsReplyTo, IsReplyToResolved, AreReplies}
-use Rattle.information_service.specs.ServiceState.{service_after}
-use Rattle.message_reader.specs.declared.bad_line.BadLine.{BadLine}
-use Rattle.message_reader.specs.declared.resolve_queries.AskedQuery.{AskedQuery}
+use Rattle.information_service.specs.Output.{AreReplies}
 use Rattle.message_reader.specs.declared.wire.Line.{Line as Spoken}
-use Rattle.message_reader.specs.declared.wire.Line.TheVariants.{Message as Says, Query as Asks, Flush}
-use Rattle.message_reader.specs.declared.wire.WireQuery.{WireQuery}
-use Rattle.message_reader.specs.Lines.{message_in}
-use Rattle.message_reader.specs.ResolvedQueries.{query_resolved}
-use Rattle.mt_io.specs.Lines.{Line}
-use Rattle.schedule_build.specs.Directory.{Names}
-use Rattle.query_crew.specs.Served.{IsQueryReply, IsReplyAt, AreWindowReplies, AreRepliesFrom, text_of_replies, text_from, AreServed}
+use Rattle.message_reader.specs.declared.wire.Line.TheVariants.{Message as Says, Query as Asks}
 use Rattle.query_crew.proofs.KnownNames.{asked-by-feed, reply-text}
 use Rattle.query_crew.proofs.InOrder.{window-in-order}
 use Rattle.query_crew.proofs.ServedLemmas.{served-by}

@@ -1,22 +1,10 @@
 -- A line that the publisher takes.
-use Rattle.std.proofs.Common.{◌≡◌, ℕ, List, [], ◌∷◌, ◌++◌, length, Option, Some, None, Ok, refl, sym, ◌∙◌, ap, arith, length-append}
-use Rattle.std.proofs.lemmas.List.Sums.{fold-append}
-use Rattle.delay_model.specs.declared.messages.Message.{Message}
-use Rattle.delay_model.specs.Effect.{effect}
-use Rattle.delay_model.specs.Refusals.{refusal}
+use Rattle.query_crew.proofs.Words.{◌≡◌, ℕ, List, [], ◌∷◌, ◌++◌, length, Option, Some, None, Ok, refl, sym, ◌∙◌, ap, arith, length-append, fold-append, Message, effect, refusal, added_name, with_added, ServiceState, Wire, resolved, Names, TimetableState, taken, stepped, timetable_after, StandsAt, IsTaken}
 use Rattle.delay_model.specs.Touched.{changed}
 use Rattle.delay_report.specs.declared.replies.Reply.TheVariants.{Accepted}
-use Rattle.information_service.specs.Lines.{added_name, with_added}
-use Rattle.information_service.specs.ServiceState.{ServiceState}
 use Rattle.information_service.proofs.InStep.{stays-in_step}
-use Rattle.message_reader.specs.declared.wire.Wire.{Wire}
-use Rattle.message_reader.specs.Resolved.{resolved}
-use Rattle.schedule_build.specs.Directory.{Names}
-use Rattle.timetable.specs.TimetableState.{TimetableState, taken, stepped}
 use Rattle.timetable.proofs.Changed.{changed-length}
 use Rattle.query_crew.specs.declared.window_line.WindowLine.TheVariants as shown
-use Rattle.query_crew.specs.Posted.{timetable_after}
-use Rattle.query_crew.specs.Posting.{StandsAt, IsTaken}
 
 pub same-timetable : (t u : TimetableState) → Some t ≡ Some u → t ≡ u
 same-timetable t u h = grind arith

@@ -1,21 +1,10 @@
 -- Answers of a worker, one line more at a time.
-use Rattle.std.proofs.Common.{◌≡◌, ℕ, zero, suc, ◌+◌, ◌<◌, ◌≤◌, List, [], ◌∷◌, ◌++◌, length, take, Option, Some, None, Result, Ok, Err, refl, sym, ap, subst, ◌∙◌, ◌⊎◌, ⊎_elim, inl, inr, arith, length-append, slice_get, get_or, IfOk, Bool, true, false, if◌then◌else◌, is_none, fold, take_all, append-nil}
-use Rattle.std.proofs.lemmas.Option.{slice_get-get_or, same_Some}
-use lib.Seq.{take-append-le}
-use mathlib.Core.List.{IsPrefix}
-use Rattle.delay_model.specs.declared.messages.Message.{Message}
-use Rattle.delay_report.specs.declared.replies.Reply.{Reply}
-use Rattle.message_reader.specs.declared.bad_line.BadLine.{BadLine}
-use Rattle.message_reader.specs.declared.resolve_queries.AskedQuery.{AskedQuery}
-use Rattle.delay_model.specs.declared.network.Network.{Network}
-use Rattle.delay_model.specs.Refusals.{refusal}
-use Rattle.information_service.specs.Output.{IsReplyToQuery}
-use Rattle.timetable.specs.TimetableState.{TimetableState, taken, stepped}
-use Rattle.query_crew.specs.declared.window_line.WindowLine.{WindowLine}
-use Rattle.query_crew.specs.Posted.{HasFewStops, IsAnswerAt, timetable_after}
-use Rattle.query_crew.specs.Served.{shown_count}
-use Rattle.query_crew.specs.Working.{asked_of, IsEntry, IsNewEntry, IsPushed, CountsRise, HasAnswered, HasAnsweredAll}
+use Rattle.query_crew.proofs.Words.{◌≡◌, ℕ, zero, suc, ◌+◌, ◌<◌, ◌≤◌, List, [], ◌∷◌, ◌++◌, length, take, Option, Some, None, Result, Ok, Err, refl, sym, ap, subst, ◌∙◌, ◌⊎◌, ⊎_elim, inl, inr, arith, length-append, slice_get, IfOk, Bool, true, false, is_none, fold, append-nil, slice_get-get_or, same_Some, take-append-le, IsPrefix, Message, Reply, BadLine, AskedQuery, Network, refusal, IsReplyToQuery, TimetableState, taken, stepped, WindowLine, HasFewStops, IsAnswerAt, timetable_after, shown_count, asked_of, IsEntry, HasAnswered, HasAnsweredAll}
+use Rattle.std.proofs.Common.{get_or, if◌then◌else◌, take_all}
+use Rattle.query_crew.specs.Working.{IsNewEntry, IsPushed, CountsRise}
 use Rattle.query_crew.proofs.ServedLemmas.{count-of}
+use Rattle.snapshot_board.specs.Knowledge.{Knowledge}
+use Rattle.query_crew.specs.Working.{HasWorked, IsWithin}
 
 pub longer : {X : Type 0} (list later : List X) → IsPrefix list later → length list ≤ length later
 longer list later h = omega (arith, sym (ap length h.1), length-append list h.0)
@@ -175,6 +164,12 @@ settled-within o start seen posted first me workers lines xs worked pre = record
   };
   all = worked.all;
 }
+
+-- what a worker answered that has a viewer, if all that this saw was posted
+pub settled-by-viewer : (o : Option TimetableState) (start posted : List Message) (viewer : Option (Knowledge Message)) (first me workers : ℕ) (lines : List WindowLine) (xs : List (Option Reply)) → HasWorked o start viewer first me workers lines xs
+    → IsWithin true viewer posted → HasAnsweredAll o posted (length start) first me workers lines xs
+settled-by-viewer o start posted None first me workers lines xs worked within = absurd within
+settled-by-viewer o start posted (Some v) first me workers lines xs worked within = settled-within o start v.seen posted first me workers lines xs worked within
 
 -- what the publisher answered is not older than the window's start
 pub settled-apart : (o : Option TimetableState) (start posted : List Message) (first me workers : ℕ) (lines : List WindowLine) (xs : List (Option Reply)) → IsPrefix start posted → HasAnsweredAll o posted (length posted) first me workers lines xs

@@ -6,5 +6,5 @@ pub mod Served
 pub mod Posted
 pub mod Posting
 pub mod Working
-pub mod Gathered
 pub mod Joining
+pub mod Crews

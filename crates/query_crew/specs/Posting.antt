@@ -1,5 +1,5 @@
 -- What the publisher of the crew posts for the lines of a window, and what it replies at once.
-use Rattle.std.specs.Prelude.{◌≡◌, ℕ, ◌+◌, List, [], ◌∷◌, ◌++◌, length, fold, Some, None, Result, Ok, Err}
+use Rattle.std.specs.Prelude.{◌≡◌, ◌<◌, ℕ, ◌+◌, ◌^◌, All, List, [], ◌∷◌, ◌++◌, length, fold, Some, None, Result, Ok, Err}
 use Rattle.std.specs.declared.option.Option.{Option}
 use Rattle.std.specs.List.{filter_map}
 use Rattle.delay_model.specs.declared.messages.Message.{Message}
@@ -20,6 +20,7 @@ use Rattle.timetable.specs.TimetableState.{TimetableState}
 use Rattle.query_crew.specs.declared.window_line.WindowLine.{WindowLine}
 use Rattle.query_crew.specs.declared.window_line.WindowLine.TheVariants as shown
 use Rattle.query_crew.specs.Posted.{timetable_after}
+use Rattle.query_crew.specs.WindowLines.{IsWindowLine}
 
 -- ---- the state of a board
 
@@ -36,6 +37,20 @@ pub record StandsAt (o : Option TimetableState) (posted : List Message) (names :
   pub after : timetable_after o posted ≡ Some timetable
   pub is : s ≡ service_with timetable (length posted) names
   pub in_step : AreInStep names timetable.state
+
+-- the board stands as a service in some state
+abbrev pub HasService : Option TimetableState → List Message → Names → Type 0
+HasService o posted names = (s : ServiceState) × StandsAt o posted names s
+
+-- what must hold of a board, the names that are known and the lines of a window, of which so many
+-- lines of the input stand before it: the board stands as a service, each message is one that was
+-- read, and the numbers of lines and of messages fit
+pub record CanBeRun (o : Option TimetableState) (posted : List Message) (names : Names) (first : ℕ)
+    (lines : List WindowLine) : Type 0 where
+  pub board : HasService o posted names
+  pub kept : All IsWindowLine lines
+  pub numbers : first + length lines < 2 ^ 64
+  pub posts : length posted + length lines < 2 ^ 64
 
 -- the message is accepted by the board
 abbrev pub IsAccepted : Option TimetableState → List Message → Message → Type 0
@@ -107,3 +122,15 @@ pub record ArePosted (o : Option TimetableState) (s : ServiceState) (first : ℕ
   pub stands : StandsAt o new names (after_lines s lines)
   pub posted : new ≡ old ++ accepted_in s lines
   pub replied : replies_new ≡ replies_old ++ publisher_replies s first lines
+
+-- the same for one line, and for lines, in whatever state the board stands as a service
+abbrev pub IsLineTaken : Option TimetableState → ℕ → WindowLine → List Message → List Message
+    → Names → Names → Option Reply → Type 0
+IsLineTaken o number line old new names names_new reply = (s : ServiceState)
+    → StandsAt o old names s → IsTaken o s number line old new names_new reply
+
+abbrev pub AreLinesPosted : Option TimetableState → ℕ → List WindowLine → List Message
+    → List Message → Names → Names → List (Option Reply) → List (Option Reply) → Type 0
+AreLinesPosted o first lines old new names names_new replies_old replies_new = (s : ServiceState)
+    → StandsAt o old names s
+    → ArePosted o s first lines old new names_new replies_old replies_new

@@ -1,5 +1,5 @@
 -- What the workers of the crew answer.
-use Rattle.std.specs.Prelude.{◌≡◌, ◌<◌, ◌≤◌, ℕ, ◌+◌, ◌%◌, ◌==◌, List, [], ◌∷◌, ◌++◌, length, slice_get, sum, cond, Some, None, Result, Ok, Err}
+use Rattle.std.specs.Prelude.{◌≡◌, ◌<◌, ◌≤◌, ℕ, ◌+◌, ◌%◌, ◌==◌, List, [], ◌∷◌, ◌++◌, length, slice_get, sum, cond, Bool, true, false, Some, None, Result, Ok, Err}
 use Rattle.std.specs.declared.option.Option.{Option}
 use mathlib.Core.List.{IsPrefix}
 use Rattle.delay_model.specs.declared.messages.Message.{Message}
@@ -55,8 +55,9 @@ CountsRise xs =
 
 -- what a worker has for the first of these lines, of which `first` stand before the window: each
 -- query of its clients has an answer over the list
-pub record HasAnswered (o : Option TimetableState) (list : List Message) (least first me workers : ℕ)
-    (lines : List WindowLine) (xs : List (Option Reply)) : Type 0 where
+pub record HasAnswered (o : Option TimetableState) (list : List Message)
+    (least first me workers : ℕ) (lines : List WindowLine)
+    (xs : List (Option Reply)) : Type 0 where
   pub each : (place : ℕ) (line : WindowLine) (entry : Option Reply)
       → slice_get lines place ≡ Some line → slice_get xs place ≡ Some entry
       → IsEntry o list least (first + (place + 1)) (asked_of me workers line) entry
@@ -68,9 +69,16 @@ pub record HasAnsweredAll (o : Option TimetableState) (list : List Message)
   pub answered : HasAnswered o list least first me workers lines xs
   pub all : length xs ≡ length lines
 
--- what a worker did that learnt the note: it answered all lines, over the list that its viewer saw
--- in the end, and no answer is older than the note
-abbrev pub HasWorked : Option TimetableState → List Message → Knowledge Message → ℕ → ℕ → ℕ
+-- what a worker did that learnt the note, if it has a viewer: it answered all lines, over the list
+-- that its viewer saw in the end, and no answer is older than the note
+abbrev pub HasWorked : Option TimetableState → List Message → Option (Knowledge Message) → ℕ → ℕ → ℕ
     → List WindowLine → List (Option Reply) → Type 0
-HasWorked o note viewer first me workers lines xs =
+HasWorked o note None first me workers lines xs = Unit {0}
+HasWorked o note (Some viewer) first me workers lines xs =
     HasAnsweredAll o viewer.seen (length note) first me workers lines xs
+
+-- where it is told that a viewer is there and saw no more than was posted, this is so
+abbrev pub IsWithin : Bool → Option (Knowledge Message) → List Message → Type 0
+IsWithin false viewer posted = Unit {0}
+IsWithin true None posted = ⊥
+IsWithin true (Some viewer) posted = IsPrefix viewer.seen posted

@@ -1,77 +1,211 @@
-//! A window from its lines to the replies to them.
+//! How the queries of a window are answered: by workers, each in a thread of its own, or by the
+//! publisher.
 
-ghost use Rattle.std.specs.Prelude.{◌≡◌, ℕ, ◌+◌, ◌++◌, ◌^◌, ◌<◌, ◌≤◌, List, All, IfOk, length, slice_index_or};
+ghost use Rattle.std.specs.Prelude.{◌≡◌, ℕ, ◌+◌, ◌^◌, ◌<◌, ◌≤◌, true, IfOk, length, slice_index_or};
 ghost use mathlib.Core.List.{IsPrefix};
-ghost use Rattle.delay_model.specs.declared.network.Network.{Network};
-ghost use Rattle.delay_model.specs.declared.state.State.{State};
-ghost use Rattle.information_service.specs.ServiceState.{ServiceState, service_after};
-ghost use Rattle.mt_io.specs.Lines.{Line};
-ghost use Rattle.schedule_build.specs.Directory.{Names};
 ghost use Rattle.query_crew.specs.Posted.{HasFewStops};
-ghost use Rattle.query_crew.specs.Posting.{StandsAt};
-ghost use Rattle.query_crew.specs.Served.{AreWindowReplies};
-ghost use Rattle.query_crew.specs.WindowLines.{window_lines, IsWindowLine};
+ghost use Rattle.query_crew.specs.Working.{IsNewEntry, HasAnswered, HasAnsweredAll, HasWorked, IsWithin};
 
-use crate::joining::join_replies;
 use crate::window_line::WindowLine;
-use crate::window_run::run_window;
-use crate::worker::Worker;
+use crate::worker::{Worker, asked_by, push_entry, work};
+use conn_scan::Scratch;
+use core::mem::replace_with;
 use delay_report::Reply;
+use information_service::reply_to_asked;
+use message_reader::AskedQuery;
 use mt_base::memory::OutOfMemory;
 use mt_io::Gate;
-use schedule_build::Directory;
-use snapshot_board::{Opening, Publisher, Viewer};
+use snapshot_board::{Meet, Note, Opening, Publisher, Viewer};
 use std::alloc::Global;
 use std::sync::Wait;
+use std::thread;
 use std::thread::Threads;
 use timetable::Timetable;
+use train_nodes::Msg;
 
-/// Runs a window, and gives the reply to each of its lines, in their order. There is a worker at
-/// least. `first` is the number of lines before the window.
-pub fn answer_window<H: Opening<Timetable> + Send + Sync, R: Threads + Wait + Sync, G: Gate + Sync>(
+/// The worker learns the note, and answers the queries of its clients, in line order.
+fn work_on<H: Opening<Timetable>, R: Wait, G: Gate>(
     rt: &R,
     alloc: Global,
-    publisher: &mut Publisher<Timetable, H>,
-    directory: &mut Directory,
+    worker: &mut Worker<Viewer<Timetable, H>>,
+    lines: &[WindowLine],
+    first: u64,
+    note: &Note<Msg, H>,
+    me: u32,
+    workers: u32,
+    gate: &G,
+)
+    requires some { 1 ≤ workers }
+    requires numbers { first + length lines.now < 2 ^ 64 }
+    requires room { HasFewStops H.opening worker.old.scratch.stops }
+    ensures worked { worker.new.is_whole ≡ true → HasWorked H.opening note.now worker.new.viewer
+        first me workers lines.now worker.new.answers.items }
+    ensures room { worker.new.scratch.stops ≡ worker.old.scratch.stops }
+{
+    replace_with(worker, (), |worker, _nothing| {
+        (
+            work(rt, alloc, worker, lines, first, note, me, workers, gate),
+            (),
+        )
+    })
+}
+
+/// The workers answer, each in a thread of its own.
+pub(crate) fn answer_all<
+    H: Opening<Timetable> + Send + Sync,
+    R: Threads + Wait + Sync,
+    G: Gate + Sync,
+>(
+    rt: &R,
+    alloc: Global,
     all: &mut [Worker<Viewer<Timetable, H>>],
     lines: &[WindowLine],
     first: u64,
+    note: &Note<Msg, H>,
     gate: &G,
-) -> Result<Vec<Reply>, OutOfMemory>
-    // names and trains are in step, each message is one that was read
-    requires board { (s : ServiceState) × StandsAt H.opening publisher.old directory.old s }
-    requires kept { All IsWindowLine lines.now }
-
-    // numbers fit, and there is room for the answers
-    requires numbers { first + length lines.now < 2 ^ 64 }
-    requires posts { length publisher.old + length lines.now < 2 ^ 64 }
-    requires some { 1 ≤ length all.old }
+)
     requires few { length all.old < 2 ^ 32 }
+    requires numbers { first + length lines.now < 2 ^ 64 }
     requires room { (i : ℕ) (d : _) → i < length all.old
         → HasFewStops H.opening (slice_index_or all.old i d).scratch.stops }
-
-    // the replies, and how the board stands then, where it stood in the state after the lines before
-    ensures replies { IfOk result (λ replies. (nw : Network) (names : Names) (st : State)
-        (before window : List Line)
-        → StandsAt H.opening publisher.old directory.old (service_after nw names st before)
-        → first ≡ length before → lines.now ≡ window_lines directory.old window
-        → AreWindowReplies nw names st before window replies.items) }
-    ensures stands { IfOk result (λ _. (nw : Network) (names : Names) (st : State)
-        (before window : List Line)
-        → StandsAt H.opening publisher.old directory.old (service_after nw names st before)
-        → first ≡ length before → lines.now ≡ window_lines directory.old window
-        → StandsAt H.opening publisher.new directory.new
-        (service_after nw names st (before ++ window))) }
-
-    // nothing that was posted is taken back, and room stays
-    ensures later { IsPrefix publisher.old publisher.new }
+    ensures worked { (i : ℕ) (d : _) → i < length all.old
+        → (slice_index_or all.new i d).is_whole ≡ true
+        → HasWorked H.opening note.now (slice_index_or all.new i d).viewer first i
+        (length all.old) lines.now (slice_index_or all.new i d).answers.items }
     ensures room { (i : ℕ) (d : _) → i < length all.old
         → HasFewStops H.opening (slice_index_or all.new i d).scratch.stops }
     ensures same { length all.new ≡ length all.old }
 {
-    let mut own = Vec::new(alloc);
-    run_window(
-        rt, alloc, publisher, directory, all, lines, first, &mut own, gate,
-    )?;
-    join_replies(alloc, lines, &mut own, all)
+    if all.is_empty() {
+        return;
+    }
+    let workers = all.len() as u32;
+    thread::for_each_mut(
+        rt,
+        all,
+        all.len(),
+        &|i: usize, worker: &mut Worker<Viewer<Timetable, H>>|
+            requires { (1 ≤ workers) × (i < 2 ^ 32) × (first + length lines.now < 2 ^ 64)
+                × HasFewStops H.opening worker.now.scratch.stops }
+            ensures { (worker.exit.now.is_whole ≡ true → HasWorked H.opening note.entry.now
+                worker.exit.now.viewer first i workers lines.entry.now
+                worker.exit.now.answers.items)
+                × HasFewStops H.opening worker.exit.now.scratch.stops }
+        {
+            work_on(
+                rt, alloc, worker, lines, first, note, i as u32, workers, gate,
+            )
+        },
+    )
+}
+
+/// The answer to a line in the publisher's own timetable, if the line asks something.
+fn answer_here<H: Opening<Timetable>>(
+    alloc: Global,
+    publisher: &Publisher<Timetable, H>,
+    scratch: &mut Scratch,
+    number: u64,
+    asked: &Option<AskedQuery>,
+) -> Result<Option<Reply>, OutOfMemory>
+    requires room { HasFewStops H.opening scratch.old.stops }
+    ensures entry { IfOk result (IsNewEntry H.opening publisher.now publisher.now number
+        asked.now) }
+    ensures room { scratch.new.stops ≡ scratch.old.stops }
+{
+    if let Some(query) = asked {
+        let after = publisher.count();
+        let reply = reply_to_asked(alloc, publisher.state(), scratch, number, after, query)?;
+        return Ok(Some(reply));
+    }
+    Ok(None)
+}
+
+/// Answers the queries of a worker's clients in the publisher's own timetable. It says whether there
+/// was memory for all of them.
+fn answer_own<H: Opening<Timetable>>(
+    alloc: Global,
+    publisher: &Publisher<Timetable, H>,
+    scratch: &mut Scratch,
+    answers: &mut Vec<Option<Reply>>,
+    lines: &[WindowLine],
+    first: u64,
+    me: u32,
+    workers: u32,
+) -> bool
+    requires some { 1 ≤ workers }
+    requires numbers { first + length lines.now < 2 ^ 64 }
+    requires room { HasFewStops H.opening scratch.old.stops }
+    ensures answered { result ≡ true → HasAnsweredAll H.opening publisher.now
+        (length publisher.now) first me workers lines.now answers.new.items }
+    ensures room { scratch.new.stops ≡ scratch.old.stops }
+{
+    answers.clear();
+    for (i, line) in lines.iter().enumerate() {
+        let asked = asked_by(line, me, workers);
+        let number = first + i as u64 + 1;
+        let entry = answer_here(alloc, publisher, scratch, number, &asked);
+        if !push_entry(answers, entry) {
+            return false;
+        }
+    }
+    true
+}
+
+/// Whether the worker has a viewer that saw no more than was posted. The viewer learns what was
+/// posted.
+fn is_within<H: Opening<Timetable>>(
+    publisher: &Publisher<Timetable, H>,
+    viewer: &mut Option<Viewer<Timetable, H>>,
+) -> bool
+    ensures { IsWithin result viewer.old publisher.now }
+{
+    if let Some(viewer) = viewer {
+        return matches!(
+            publisher.meet(viewer, publisher.tell()),
+            Meet::Within { .. }
+        );
+    }
+    false
+}
+
+/// Where the worker has no viewer, or its viewer saw more than was posted, the publisher answers in
+/// its place. It says whether there was memory for all answers.
+pub(crate) fn settle<H: Opening<Timetable>>(
+    alloc: Global,
+    publisher: &Publisher<Timetable, H>,
+    start: &Note<Msg, H>,
+    worker: &mut Worker<Viewer<Timetable, H>>,
+    lines: &[WindowLine],
+    first: u64,
+    me: u32,
+    workers: u32,
+) -> bool
+    // what the worker answered, and what was posted since
+    requires worked { worker.old.is_whole ≡ true → HasWorked H.opening start.now worker.old.viewer
+        first me workers lines.now worker.old.answers.items }
+    requires later { IsPrefix start.now publisher.now }
+
+    // room for the answers
+    requires some { 1 ≤ workers }
+    requires numbers { first + length lines.now < 2 ^ 64 }
+    requires room { HasFewStops H.opening worker.old.scratch.stops }
+
+    // the answers over what was posted
+    ensures answered { result ≡ true → HasAnsweredAll H.opening publisher.now (length start.now)
+        first me workers lines.now worker.new.answers.items }
+    ensures room { worker.new.scratch.stops ≡ worker.old.scratch.stops }
+{
+    if is_within(publisher, &mut worker.viewer) {
+        return worker.is_whole;
+    }
+    answer_own(
+        alloc,
+        publisher,
+        &mut worker.scratch,
+        &mut worker.answers,
+        lines,
+        first,
+        me,
+        workers,
+    )
 }

@@ -1,196 +1,187 @@
-//! The workers of a window, each in a thread of its own, and what the publisher answers itself.
+//! A crew: a publisher of messages, and workers that answer queries beside it.
 
-ghost use Rattle.std.specs.Prelude.{◌≡◌, ℕ, ◌+◌, ◌^◌, ◌<◌, ◌≤◌, true, IfOk, length, slice_index_or};
+ghost use Rattle.std.specs.Prelude.{◌≡◌, ◌≤◌, [], All, Some, IfOk, OnOk, vec_len};
 ghost use mathlib.Core.List.{IsPrefix};
-ghost use Rattle.query_crew.specs.Posted.{HasFewStops};
-ghost use Rattle.query_crew.specs.Working.{IsNewEntry, HasAnswered, HasAnsweredAll, HasWorked};
+ghost use Rattle.schedule_build.specs.InStep.{AreInStep};
+ghost use Rattle.query_crew.specs.Crews.{IsReady, AreRepliesTo, StandsBehind};
+ghost use Rattle.query_crew.specs.Posting.{CanBeRun};
 
-use crate::replies::reply_to_asked;
 use crate::window_line::WindowLine;
-use crate::worker::{Worker, asked_by, push_entry, work};
-use conn_scan::Scratch;
-use core::mem::replace_with;
+use crate::window_run::run_lines;
+use crate::worker::Worker;
 use delay_report::Reply;
-use message_reader::AskedQuery;
 use mt_base::memory::OutOfMemory;
 use mt_io::Gate;
-use snapshot_board::{Meet, Note, Opening, Publisher, Viewer};
-use std::alloc::Global;
+use schedule_build::Directory;
+use snapshot_board::{NewHistory, Opening, Publisher, Viewer, open_board};
+use std::alloc::{AllocError, Global};
 use std::sync::Wait;
-use std::thread;
 use std::thread::Threads;
 use timetable::Timetable;
 use train_nodes::Msg;
 
-/// The worker learns the note, and answers the queries of its clients, in line order.
-fn work_on<H: Opening<Timetable>, R: Wait, G: Gate>(
-    rt: &R,
+/// Who answers the lines of windows: a publisher of the messages, the names that are known, and
+/// workers that answer the queries. `P` is the publisher of a board of timetables and `V` its
+/// viewers.
+pub struct Crew<P, V: Drop> {
+    /// Posts the messages that are accepted.
+    pub publisher: P,
+
+    /// The names of the trains, stops, routes and service days.
+    pub directory: Directory,
+
+    /// The workers, each at its number.
+    pub workers: Vec<Worker<V>>,
+}
+
+/// So many workers. The first of them get the viewers, as far as these reach.
+fn build_workers<V: Drop>(
     alloc: Global,
-    worker: &mut Worker<Viewer<Timetable, H>>,
-    lines: &[WindowLine],
-    first: u64,
-    note: &Note<Msg, H>,
-    me: u32,
+    viewers: &mut Vec<V>,
     workers: u32,
-    gate: &G,
-)
-    requires some { 1 ≤ workers }
-    requires numbers { first + length lines.now < 2 ^ 64 }
-    requires room { HasFewStops H.opening worker.old.scratch.stops }
-    ensures worked { worker.new.is_whole ≡ true → HasWorked H.opening note.now worker.new.viewer
-        first me workers lines.now worker.new.answers.items }
-    ensures room { worker.new.scratch.stops ≡ worker.old.scratch.stops }
+    stops: u32,
+    trains: u32,
+) -> Result<Vec<Worker<V>>, OutOfMemory>
+    ensures count { IfOk result (λ all. vec_len all ≡ workers) }
+    ensures room { IfOk result (λ all. All (λ w. w.scratch.stops ≡ stops) all.items) }
 {
-    replace_with(worker, (), |worker, _nothing| {
-        (
-            work(rt, alloc, worker, lines, first, note, me, workers, gate),
-            (),
+    let mut all = Vec::with_capacity(alloc, workers as usize)?;
+    for _ in 0..workers {
+        all.push(Worker::build(alloc, viewers.pop(), stops, trains)?)?;
+    }
+    Ok(all)
+}
+
+impl<H: Opening<Timetable> + Send + Sync> Crew<Publisher<Timetable, H>, Viewer<Timetable, H>> {
+    /// A crew of so many workers, each with a viewer of its own. No message was posted yet. The search
+    /// for journeys remembers where it has been of trains below the number `trains`; for others it
+    /// only takes longer. `OutOfMemory` where there is no memory.
+    pub fn build<R: Wait>(
+        rt: &R,
+        alloc: Global,
+        history: NewHistory<Msg>,
+        timetable: Timetable,
+        directory: Directory,
+        workers: u32,
+        trains: u32,
+    ) -> Result<Crew<Publisher<Timetable, H>, Viewer<Timetable, H>>, OutOfMemory>
+        // the history of the board, and how it opens
+        requires book { history ≡ H.book }
+        requires opening { H.opening ≡ Some timetable }
+
+        // names and trains are in step, and one to sixteen workers
+        requires in_step { AreInStep directory timetable.state }
+        requires some { 1 ≤ workers }
+        requires few { workers ≤ 16 }
+
+        // nothing was posted, these names are known, and so many workers are ready
+        ensures posted { IfOk result (λ crew. crew.publisher ≡ []) }
+        ensures names { IfOk result (λ crew. crew.directory ≡ directory) }
+        ensures workers { IfOk result (λ crew. vec_len crew.workers ≡ workers) }
+        ensures ready { IfOk result (IsReady H.opening) }
+    {
+        Crew::build_limited(
+            rt, alloc, history, timetable, directory, workers, workers, trains,
         )
-    })
-}
-
-/// The workers answer, each in a thread of its own.
-pub(crate) fn answer_all<
-    H: Opening<Timetable> + Send + Sync,
-    R: Threads + Wait + Sync,
-    G: Gate + Sync,
->(
-    rt: &R,
-    alloc: Global,
-    all: &mut [Worker<Viewer<Timetable, H>>],
-    lines: &[WindowLine],
-    first: u64,
-    note: &Note<Msg, H>,
-    gate: &G,
-)
-    requires few { length all.old < 2 ^ 32 }
-    requires numbers { first + length lines.now < 2 ^ 64 }
-    requires room { (i : ℕ) (d : _) → i < length all.old
-        → HasFewStops H.opening (slice_index_or all.old i d).scratch.stops }
-    ensures worked { (i : ℕ) (d : _) → i < length all.old
-        → (slice_index_or all.new i d).is_whole ≡ true
-        → HasWorked H.opening note.now (slice_index_or all.new i d).viewer first i
-        (length all.old) lines.now (slice_index_or all.new i d).answers.items }
-    ensures room { (i : ℕ) (d : _) → i < length all.old
-        → HasFewStops H.opening (slice_index_or all.new i d).scratch.stops }
-    ensures same { length all.new ≡ length all.old }
-{
-    if all.is_empty() {
-        return;
     }
-    let workers = all.len() as u32;
-    thread::for_each_mut(
-        rt,
-        all,
-        all.len(),
-        &|i: usize, worker: &mut Worker<Viewer<Timetable, H>>|
-            requires { (1 ≤ workers) × (i < 2 ^ 32) × (first + length lines.now < 2 ^ 64)
-                × HasFewStops H.opening worker.now.scratch.stops }
-            ensures { (worker.exit.now.is_whole ≡ true → HasWorked H.opening note.entry.now
-                worker.exit.now.viewer first i workers lines.entry.now
-                worker.exit.now.answers.items)
-                × HasFewStops H.opening worker.exit.now.scratch.stops }
-        {
-            work_on(
-                rt, alloc, worker, lines, first, note, i as u32, workers, gate,
-            )
-        },
-    )
-}
 
-/// The answer to a line in the publisher's own timetable, if the line asks something.
-fn answer_here<H: Opening<Timetable>>(
-    alloc: Global,
-    publisher: &Publisher<Timetable, H>,
-    scratch: &mut Scratch,
-    number: u64,
-    asked: &Option<AskedQuery>,
-) -> Result<Option<Reply>, OutOfMemory>
-    requires room { HasFewStops H.opening scratch.old.stops }
-    ensures entry { IfOk result (IsNewEntry H.opening publisher.now publisher.now number
-        asked.now) }
-    ensures room { scratch.new.stops ≡ scratch.old.stops }
-{
-    if let Some(query) = asked {
-        let after = publisher.count();
-        let reply = reply_to_asked(alloc, publisher.state(), scratch, number, after, query)?;
-        return Ok(Some(reply));
-    }
-    Ok(None)
-}
+    /// The same, but only the first workers have a viewer: as many as `viewers`. The publisher
+    /// answers in place of the others.
+    pub fn build_limited<R: Wait>(
+        rt: &R,
+        alloc: Global,
+        history: NewHistory<Msg>,
+        timetable: Timetable,
+        directory: Directory,
+        workers: u32,
+        viewers: u32,
+        trains: u32,
+    ) -> Result<Crew<Publisher<Timetable, H>, Viewer<Timetable, H>>, OutOfMemory>
+        // the history of the board, and how it opens
+        requires book { history ≡ H.book }
+        requires opening { H.opening ≡ Some timetable }
 
-/// Answers the queries of a worker's clients in the publisher's own timetable, and those of all
-/// clients where the worker is number 0 of 1. It says whether there was memory for all of them.
-pub fn answer_own<H: Opening<Timetable>>(
-    alloc: Global,
-    publisher: &Publisher<Timetable, H>,
-    scratch: &mut Scratch,
-    answers: &mut Vec<Option<Reply>>,
-    lines: &[WindowLine],
-    first: u64,
-    me: u32,
-    workers: u32,
-) -> bool
-    requires some { 1 ≤ workers }
-    requires numbers { first + length lines.now < 2 ^ 64 }
-    requires room { HasFewStops H.opening scratch.old.stops }
-    ensures answered { result ≡ true → HasAnsweredAll H.opening publisher.now
-        (length publisher.now) first me workers lines.now answers.new.items }
-    ensures room { scratch.new.stops ≡ scratch.old.stops }
-{
-    answers.clear();
-    for (i, line) in lines.iter().enumerate() {
-        let asked = asked_by(line, me, workers);
-        let number = first + i as u64 + 1;
-        let entry = answer_here(alloc, publisher, scratch, number, &asked);
-        if !push_entry(answers, entry) {
-            return false;
+        // names and trains are in step, and one to sixteen workers
+        requires in_step { AreInStep directory timetable.state }
+        requires some { 1 ≤ workers }
+        requires few { workers ≤ 16 }
+
+        // nothing was posted, these names are known, and so many workers are ready
+        ensures posted { IfOk result (λ crew. crew.publisher ≡ []) }
+        ensures names { IfOk result (λ crew. crew.directory ≡ directory) }
+        ensures workers { IfOk result (λ crew. vec_len crew.workers ≡ workers) }
+        ensures ready { IfOk result (IsReady H.opening) }
+    {
+        let stops = timetable.graph().changes().stops();
+        let copy = timetable.copy(alloc)?;
+        // a board has one viewer at least, and nobody looks with one that is not given to a worker
+        let seats = viewers.min(workers).max(1);
+        let (publisher, mut all) = open_board(rt, alloc, history, timetable, copy, seats)?;
+        if viewers == 0 {
+            all.clear();
+        }
+        match build_workers(alloc, &mut all, workers, stops, trains) {
+            Ok(workers) => Ok(Crew {
+                publisher,
+                directory,
+                workers,
+            }),
+            Err(_) => {
+                drop(publisher.close(rt, all));
+                Err(AllocError)
+            }
         }
     }
-    true
-}
 
-/// Where the worker's viewer saw more than was posted, the publisher answers in its place. It says
-/// whether there was memory for all answers.
-pub(crate) fn settle<H: Opening<Timetable>>(
-    alloc: Global,
-    publisher: &Publisher<Timetable, H>,
-    start: &Note<Msg, H>,
-    worker: &mut Worker<Viewer<Timetable, H>>,
-    lines: &[WindowLine],
-    first: u64,
-    me: u32,
-    workers: u32,
-) -> bool
-    // what the worker answered, and what was posted since
-    requires worked { worker.old.is_whole ≡ true → HasWorked H.opening start.now worker.old.viewer
-        first me workers lines.now worker.old.answers.items }
-    requires later { IsPrefix start.now publisher.now }
+    /// Runs a window, and gives the reply to each of its lines, in their order. `first` is the number
+    /// of lines before the window. Each message that is accepted is posted, in line order; beside it
+    /// each worker with a viewer answers the queries of its clients, in line order, each by a look of
+    /// its own. The publisher answers the other queries when the messages are posted. The gate is
+    /// called after each post and before each look. `OutOfMemory` where there is no memory; then the
+    /// crew can only be closed.
+    pub fn run_window<R: Threads + Wait + Sync, G: Gate + Sync>(
+        &mut self,
+        rt: &R,
+        alloc: Global,
+        lines: &[WindowLine],
+        first: u64,
+        gate: &G,
+    ) -> Result<Vec<Reply>, OutOfMemory>
+        requires ready { IsReady H.opening self.old }
+        requires lines { CanBeRun H.opening self.old.publisher self.old.directory first lines.now }
 
-    // room for the answers
-    requires some { 1 ≤ workers }
-    requires numbers { first + length lines.now < 2 ^ 64 }
-    requires room { HasFewStops H.opening worker.old.scratch.stops }
+        // the replies, and how the board stands then
+        ensures replies { IfOk result (λ replies. AreRepliesTo H.opening self.old.publisher
+            self.old.directory first lines.now replies.items) }
+        ensures stands { OnOk result (StandsBehind H.opening self.old.publisher self.new.publisher
+            self.old.directory self.new.directory first lines.now) }
 
-    // the answers over what was posted
-    ensures answered { result ≡ true → HasAnsweredAll H.opening publisher.now (length start.now)
-        first me workers lines.now worker.new.answers.items }
-    ensures room { worker.new.scratch.stops ≡ worker.old.scratch.stops }
-{
-    if !worker.is_whole {
-        return false;
-    }
-    match publisher.meet(&mut worker.viewer, publisher.tell()) {
-        Meet::Within { .. } => true,
-        Meet::Apart { .. } => answer_own(
+        // nothing that was posted is taken back, and the crew is ready for the next window
+        ensures later { IsPrefix self.old.publisher self.new.publisher }
+        ensures ready { OnOk result (IsReady H.opening self.new) }
+        ensures workers { OnOk result (vec_len self.new.workers ≡ vec_len self.old.workers) }
+    {
+        run_lines(
+            rt,
             alloc,
-            publisher,
-            &mut worker.scratch,
-            &mut worker.answers,
+            &mut self.publisher,
+            &mut self.directory,
+            self.workers.as_mut_slice(),
             lines,
             first,
-            me,
+            gate,
+        )
+    }
+
+    /// Ends the crew and its board. It waits for those that look.
+    pub fn close<R: Wait>(self, rt: &R, alloc: Global) {
+        let Crew {
+            publisher,
+            directory,
             workers,
-        ),
+        } = self;
+        drop(workers);
+        drop(directory);
+        drop(publisher.close(rt, Vec::new(alloc)));
     }
 }

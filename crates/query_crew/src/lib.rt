@@ -1,25 +1,22 @@
-//! The windows of `serve`: reading them, which worker answers which client, and what is written.
+//! The windows of `serve`: reading them, what is to be written for them, and the crew that answers
+//! them, a publisher of messages and workers that answer queries beside it.
 #![tactic(auto)]
 
 mod answering;
 mod clients;
 mod crew;
-mod crew_laws;
 mod joining;
 mod laws;
 mod posting;
 mod reading;
-mod replies;
 mod served_laws;
 mod window;
 mod window_line;
 mod window_run;
 mod worker;
 
-pub use answering::answer_window;
 pub use clients::worker_of;
-pub use crew::answer_own;
-pub use crew_laws::gathered_replies_are_those_of_a_window;
+pub use crew::Crew;
 pub use laws::windows_are_those_of_the_input;
 pub use reading::{WindowEnd, read_window};
 pub use served_laws::{
@@ -30,5 +27,4 @@ pub use served_laws::{
 };
 pub use window::{LINES_PER_WINDOW, Window};
 pub use window_line::{ClientQuery, WindowLine};
-pub use window_run::run_window;
 pub use worker::Worker;

@@ -1,18 +1,17 @@
 //! What the publisher does with the lines of a window: it posts the messages, and replies to all
 //! lines but the queries.
 
-ghost use Rattle.std.specs.Prelude.{◌≡◌, ◌+◌, ◌^◌, ◌<◌, All, Ok, Some, IfOk, length};
+ghost use Rattle.std.specs.Prelude.{◌≡◌, ◌+◌, ◌^◌, ◌<◌, Ok, Some, IfOk, OnOk, length};
 ghost use mathlib.Core.List.{IsPrefix};
-ghost use Rattle.information_service.specs.ServiceState.{ServiceState};
 ghost use Rattle.message_reader.specs.Resolved.{resolved};
 ghost use Rattle.message_reader.specs.Wires.{IsWire};
 ghost use Rattle.query_crew.specs.declared.window_line.WindowLine.TheVariants.{Message as Says};
-ghost use Rattle.query_crew.specs.Posting.{reply_to_bad, StandsAt, IsAccepted, IsTaken, ArePosted};
+ghost use Rattle.query_crew.specs.Posting.{reply_to_bad, HasService, CanBeRun, IsAccepted, IsLineTaken, AreLinesPosted};
 ghost use Rattle.query_crew.specs.WindowLines.{IsWindowLine};
 
-use crate::replies::{add_name, added_name, reply_to_refused};
 use crate::window_line::{ClientQuery, WindowLine};
 use delay_report::Reply;
+use information_service::{add_name, added_name, reply_to_refused};
 use message_reader::{ResolveError, Wire, resolve};
 use mt_base::memory::OutOfMemory;
 use mt_io::{Gate, Point};
@@ -35,14 +34,12 @@ fn post_accepted<H: Opening<Timetable>, R: Wait, G: Gate>(
     message: Msg,
     gate: &G,
 ) -> Result<Reply, OutOfMemory>
-    requires board { (s : ServiceState) × StandsAt H.opening publisher.old directory.old s }
+    requires board { HasService H.opening publisher.old directory.old }
     requires resolved { resolved directory.old wire.now ≡ Ok message }
     requires accepted { IsAccepted H.opening publisher.old message }
     requires room { length publisher.old + 1 < 2 ^ 64 }
-    ensures taken { IfOk result (λ reply. (s : ServiceState)
-        → StandsAt H.opening publisher.old directory.old s
-        → IsTaken H.opening s number (Says wire.now) publisher.old publisher.new directory.new
-        (Some reply)) }
+    ensures taken { IfOk result (λ reply. IsLineTaken H.opening number (Says wire.now)
+        publisher.old publisher.new directory.old directory.new (Some reply)) }
     ensures later { IsPrefix publisher.old publisher.new }
 {
     let name = added_name(alloc, directory, wire)?;
@@ -69,13 +66,11 @@ fn post_message<H: Opening<Timetable>, R: Wait, G: Gate>(
     message: Msg,
     gate: &G,
 ) -> Result<Reply, OutOfMemory>
-    requires board { (s : ServiceState) × StandsAt H.opening publisher.old directory.old s }
+    requires board { HasService H.opening publisher.old directory.old }
     requires resolved { resolved directory.old wire.now ≡ Ok message }
     requires room { length publisher.old + 1 < 2 ^ 64 }
-    ensures taken { IfOk result (λ reply. (s : ServiceState)
-        → StandsAt H.opening publisher.old directory.old s
-        → IsTaken H.opening s number (Says wire.now) publisher.old publisher.new directory.new
-        (Some reply)) }
+    ensures taken { IfOk result (λ reply. IsLineTaken H.opening number (Says wire.now)
+        publisher.old publisher.new directory.old directory.new (Some reply)) }
     ensures later { IsPrefix publisher.old publisher.new }
 {
     match publisher.state().check(&message) {
@@ -94,13 +89,11 @@ fn post_wire<H: Opening<Timetable>, R: Wait, G: Gate>(
     wire: &Wire,
     gate: &G,
 ) -> Result<Reply, OutOfMemory>
-    requires board { (s : ServiceState) × StandsAt H.opening publisher.old directory.old s }
+    requires board { HasService H.opening publisher.old directory.old }
     requires kept { IsWire wire.now }
     requires room { length publisher.old + 1 < 2 ^ 64 }
-    ensures taken { IfOk result (λ reply. (s : ServiceState)
-        → StandsAt H.opening publisher.old directory.old s
-        → IsTaken H.opening s number (Says wire.now) publisher.old publisher.new directory.new
-        (Some reply)) }
+    ensures taken { IfOk result (λ reply. IsLineTaken H.opening number (Says wire.now)
+        publisher.old publisher.new directory.old directory.new (Some reply)) }
     ensures later { IsPrefix publisher.old publisher.new }
 {
     match resolve(alloc, wire, directory) {
@@ -136,12 +129,11 @@ fn post_line<H: Opening<Timetable>, R: Wait, G: Gate>(
     line: &WindowLine,
     gate: &G,
 ) -> Result<Option<Reply>, OutOfMemory>
-    requires board { (s : ServiceState) × StandsAt H.opening publisher.old directory.old s }
+    requires board { HasService H.opening publisher.old directory.old }
     requires kept { IsWindowLine line.now }
     requires room { length publisher.old + 1 < 2 ^ 64 }
-    ensures taken { IfOk result (λ reply. (s : ServiceState)
-        → StandsAt H.opening publisher.old directory.old s
-        → IsTaken H.opening s number line.now publisher.old publisher.new directory.new reply) }
+    ensures taken { IfOk result (λ reply. IsLineTaken H.opening number line.now publisher.old
+        publisher.new directory.old directory.new reply) }
     ensures later { IsPrefix publisher.old publisher.new }
 {
     match line {
@@ -175,20 +167,11 @@ pub(crate) fn post_all<H: Opening<Timetable>, R: Wait, G: Gate>(
     replies: &mut Vec<Option<Reply>>,
     gate: &G,
 ) -> Result<(), OutOfMemory>
-    // names and trains are in step, each message is one that was read, and numbers of lines and of
-    // messages fit
-    requires board { (s : ServiceState) × StandsAt H.opening publisher.old directory.old s }
-    requires kept { All IsWindowLine lines.now }
-    requires numbers { first + length lines.now < 2 ^ 64 }
-    requires room { length publisher.old + length lines.now < 2 ^ 64 }
+    requires ready { CanBeRun H.opening publisher.old directory.old first lines.now }
 
-    // what was posted and replied, in whatever state the board stands as a service
-    ensures posted { IfOk result (λ _. (s : ServiceState)
-        → StandsAt H.opening publisher.old directory.old s
-        → ArePosted H.opening s first lines.now publisher.old publisher.new directory.new
-        replies.old.items replies.new.items) }
-
-    // nothing that was posted is taken back
+    // what was posted and replied; nothing that was posted is taken back
+    ensures posted { OnOk result (AreLinesPosted H.opening first lines.now publisher.old
+        publisher.new directory.old directory.new replies.old.items replies.new.items) }
     ensures later { IsPrefix publisher.old publisher.new }
 {
     for (i, line) in lines.iter().enumerate() {

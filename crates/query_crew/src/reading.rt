@@ -19,7 +19,7 @@ use std::alloc::Global;
 pub enum WindowEnd {
     /// With a flush, or with the last line that it can have.
     More,
-    /// With the last line of the input.
+    /// Behind the last line of the input. The window may have no line.
     End,
     /// A read of the input failed. The next call of the reader reads on.
     ReadFault,

@@ -1,15 +1,15 @@
-//! A whole window: messages are posted beside the workers, and then the publisher meets each
-//! worker's viewer.
+//! The messages of a window, which are posted beside the workers, and then the meeting of the
+//! publisher with each worker's viewer.
 
-ghost use Rattle.std.specs.Prelude.{◌≡◌, ℕ, ◌+◌, ◌^◌, ◌<◌, ◌≤◌, true, All, IfOk, length, slice_index_or};
+ghost use Rattle.std.specs.Prelude.{◌≡◌, ℕ, ◌+◌, ◌^◌, ◌<◌, ◌≤◌, true, IfOk, OnOk, length, slice_index_or};
 ghost use mathlib.Core.List.{IsPrefix};
-ghost use Rattle.information_service.specs.ServiceState.{ServiceState};
+ghost use Rattle.query_crew.specs.Crews.{AreRepliesTo, StandsBehind};
 ghost use Rattle.query_crew.specs.Posted.{HasFewStops};
-ghost use Rattle.query_crew.specs.Posting.{StandsAt, ArePosted};
-ghost use Rattle.query_crew.specs.WindowLines.{IsWindowLine};
+ghost use Rattle.query_crew.specs.Posting.{HasService, CanBeRun, AreLinesPosted};
 ghost use Rattle.query_crew.specs.Working.{HasAnsweredAll, HasWorked};
 
-use crate::crew::{answer_all, settle};
+use crate::answering::{answer_all, settle};
+use crate::joining::join_replies;
 use crate::posting::post_all;
 use crate::window_line::WindowLine;
 use crate::worker::Worker;
@@ -36,22 +36,15 @@ fn run_beside<H: Opening<Timetable> + Send + Sync, R: Threads + Wait + Sync, G: 
     replies: &mut Vec<Option<Reply>>,
     gate: &G,
 ) -> Result<(), OutOfMemory>
-    // names and trains are in step, each message is one that was read
-    requires board { (s : ServiceState) × StandsAt H.opening publisher.old directory.old s }
-    requires kept { All IsWindowLine lines.now }
-
-    // numbers fit, and there is room for the answers
-    requires numbers { first + length lines.now < 2 ^ 64 }
-    requires posts { length publisher.old + length lines.now < 2 ^ 64 }
+    // numbers fit, names and trains are in step, and there is room for the answers
+    requires ready { CanBeRun H.opening publisher.old directory.old first lines.now }
     requires few { length all.old < 2 ^ 32 }
     requires room { (i : ℕ) (d : _) → i < length all.old
         → HasFewStops H.opening (slice_index_or all.old i d).scratch.stops }
 
-    // what was posted and replied, in whatever state the board stands as a service
-    ensures posted { IfOk result (λ _. (s : ServiceState)
-        → StandsAt H.opening publisher.old directory.old s
-        → ArePosted H.opening s first lines.now publisher.old publisher.new directory.new
-        replies.old.items replies.new.items) }
+    // what was posted and replied
+    ensures posted { OnOk result (AreLinesPosted H.opening first lines.now publisher.old
+        publisher.new directory.old directory.new replies.old.items replies.new.items) }
     ensures later { IsPrefix publisher.old publisher.new }
 
     // what each worker answered
@@ -80,14 +73,10 @@ fn run_beside<H: Opening<Timetable> + Send + Sync, R: Threads + Wait + Sync, G: 
                 × (length all.exit.now ≡ length all.entry.now) }
         { answer_all(rt, alloc, all, lines, first, &note, gate) },
         &mut || -> Result<(), OutOfMemory>
-            requires { ((s : ServiceState) × StandsAt H.opening publisher.now directory.now s)
-                × All IsWindowLine lines.now × (first + length lines.now < 2 ^ 64)
-                × (length publisher.now + length lines.now < 2 ^ 64) }
-            ensures { IfOk result (λ _. (s : ServiceState)
-                → StandsAt H.opening publisher.entry.now directory.entry.now s
-                → ArePosted H.opening s first lines.entry.now publisher.entry.now
-                publisher.exit.now directory.exit.now replies.entry.now.items
-                replies.exit.now.items)
+            requires { CanBeRun H.opening publisher.now directory.now first lines.now }
+            ensures { OnOk result (AreLinesPosted H.opening first lines.entry.now
+                publisher.entry.now publisher.exit.now directory.entry.now directory.exit.now
+                replies.entry.now.items replies.exit.now.items)
                 × IsPrefix publisher.entry.now publisher.exit.now }
         { post_all(rt, alloc, publisher, directory, lines, first, replies, gate) },
     );
@@ -137,10 +126,10 @@ fn settle_all<H: Opening<Timetable>>(
     true
 }
 
-/// Runs a window: the messages of its lines are posted in their order, while the workers answer its
-/// queries, and `replies` gets the reply to each line but the queries. Then the publisher meets each
-/// worker's viewer; where one saw more than was posted, the publisher answers in its place.
-pub fn run_window<H: Opening<Timetable> + Send + Sync, R: Threads + Wait + Sync, G: Gate + Sync>(
+/// Posts the messages of a window in their order, while the workers answer its queries; `replies`
+/// gets the reply to each line but the queries. Then the publisher meets each worker's viewer; where
+/// there is none, or one saw more than was posted, the publisher answers in its place.
+fn post_and_answer<H: Opening<Timetable> + Send + Sync, R: Threads + Wait + Sync, G: Gate + Sync>(
     rt: &R,
     alloc: Global,
     publisher: &mut Publisher<Timetable, H>,
@@ -151,22 +140,15 @@ pub fn run_window<H: Opening<Timetable> + Send + Sync, R: Threads + Wait + Sync,
     replies: &mut Vec<Option<Reply>>,
     gate: &G,
 ) -> Result<(), OutOfMemory>
-    // names and trains are in step, each message is one that was read
-    requires board { (s : ServiceState) × StandsAt H.opening publisher.old directory.old s }
-    requires kept { All IsWindowLine lines.now }
-
-    // numbers fit, and there is room for the answers
-    requires numbers { first + length lines.now < 2 ^ 64 }
-    requires posts { length publisher.old + length lines.now < 2 ^ 64 }
+    // numbers fit, names and trains are in step, and there is room for the answers
+    requires ready { CanBeRun H.opening publisher.old directory.old first lines.now }
     requires few { length all.old < 2 ^ 32 }
     requires room { (i : ℕ) (d : _) → i < length all.old
         → HasFewStops H.opening (slice_index_or all.old i d).scratch.stops }
 
-    // what was posted and replied, in whatever state the board stands as a service
-    ensures posted { IfOk result (λ _. (s : ServiceState)
-        → StandsAt H.opening publisher.old directory.old s
-        → ArePosted H.opening s first lines.now publisher.old publisher.new directory.new
-        replies.old.items replies.new.items) }
+    // what was posted and replied
+    ensures posted { OnOk result (AreLinesPosted H.opening first lines.now publisher.old
+        publisher.new directory.old directory.new replies.old.items replies.new.items) }
     ensures later { IsPrefix publisher.old publisher.new }
 
     // what the clients of each worker are answered, over what was posted
@@ -186,4 +168,46 @@ pub fn run_window<H: Opening<Timetable> + Send + Sync, R: Threads + Wait + Sync,
     } else {
         Err(AllocError)
     }
+}
+
+/// Runs a window, and gives the reply to each of its lines, in their order. There is a worker at
+/// least.
+pub(crate) fn run_lines<
+    H: Opening<Timetable> + Send + Sync,
+    R: Threads + Wait + Sync,
+    G: Gate + Sync,
+>(
+    rt: &R,
+    alloc: Global,
+    publisher: &mut Publisher<Timetable, H>,
+    directory: &mut Directory,
+    all: &mut [Worker<Viewer<Timetable, H>>],
+    lines: &[WindowLine],
+    first: u64,
+    gate: &G,
+) -> Result<Vec<Reply>, OutOfMemory>
+    requires ready { CanBeRun H.opening publisher.old directory.old first lines.now }
+    requires some { 1 ≤ length all.old }
+    requires few { length all.old < 2 ^ 32 }
+    requires room { (i : ℕ) (d : _) → i < length all.old
+        → HasFewStops H.opening (slice_index_or all.old i d).scratch.stops }
+
+    // the replies, and how the board stands then
+    ensures replies { IfOk result (λ replies. AreRepliesTo H.opening publisher.old directory.old
+        first lines.now replies.items) }
+    ensures stands { OnOk result (StandsBehind H.opening publisher.old publisher.new directory.old
+        directory.new first lines.now) }
+
+    // nothing that was posted is taken back, and names and trains and room stay as they have to be
+    ensures board { OnOk result (HasService H.opening publisher.new directory.new) }
+    ensures later { IsPrefix publisher.old publisher.new }
+    ensures room { (i : ℕ) (d : _) → i < length all.old
+        → HasFewStops H.opening (slice_index_or all.new i d).scratch.stops }
+    ensures same { length all.new ≡ length all.old }
+{
+    let mut own = Vec::new(alloc);
+    post_and_answer(
+        rt, alloc, publisher, directory, all, lines, first, &mut own, gate,
+    )?;
+    join_replies(alloc, lines, &mut own, all)
 }

@@ -8,10 +8,10 @@ ghost use Rattle.query_crew.specs.Posted.{HasFewStops, IsAnswerAt};
 ghost use Rattle.query_crew.specs.Working.{asked_of, IsNewEntry, IsPushed, HasWorked};
 
 use crate::clients::worker_of;
-use crate::replies::reply_to_asked;
 use crate::window_line::WindowLine;
 use conn_scan::Scratch;
 use delay_report::Reply;
+use information_service::reply_to_asked;
 use message_reader::AskedQuery;
 use mt_base::memory::OutOfMemory;
 use mt_io::{Gate, Point};
@@ -21,11 +21,12 @@ use std::sync::Wait;
 use timetable::Timetable;
 use train_nodes::Msg;
 
-/// Who answers the queries of some of the clients.
+/// Who answers the queries of some of the clients. The publisher answers in its place where it has
+/// no viewer.
 #[derive(Drop)]
 pub struct Worker<V: Drop> {
-    /// With what it looks at the timetable.
-    pub viewer: V,
+    /// With what it looks at the timetable, if it has that.
+    pub viewer: Option<V>,
     /// Room for the search.
     pub scratch: Scratch,
     /// What was answered to each line of the last window: nothing to a line that is no query of its
@@ -33,6 +34,28 @@ pub struct Worker<V: Drop> {
     pub answers: Vec<Option<Reply>>,
     /// Whether there was memory for all answers.
     pub is_whole: bool,
+}
+
+impl<V: Drop> Worker<V> {
+    /// A worker that has answered nothing, with room for a search between so many stops, which
+    /// remembers where it has been of trains below the number `trains`; of others it only takes
+    /// longer. `OutOfMemory` where there is no memory.
+    pub fn build(
+        alloc: Global,
+        viewer: Option<V>,
+        stops: u32,
+        trains: u32,
+    ) -> Result<Worker<V>, OutOfMemory>
+        ensures viewer { IfOk result (λ w. w.viewer ≡ viewer) }
+        ensures room { IfOk result (λ w. w.scratch.stops ≡ stops) }
+    {
+        Ok(Worker {
+            viewer,
+            scratch: Scratch::build(alloc, stops, trains)?,
+            answers: Vec::new(alloc),
+            is_whole: false,
+        })
+    }
 }
 
 /// The query of a line, if it is one of a client of this worker.
@@ -118,7 +141,7 @@ pub(crate) fn push_entry(
 }
 
 /// Learns the note, and answers the queries of this worker's clients, in line order. `first` is the
-/// number of lines before the window.
+/// number of lines before the window. A worker without a viewer does nothing.
 pub(crate) fn work<H: Opening<Timetable>, R: Wait, G: Gate>(
     rt: &R,
     alloc: Global,
@@ -137,9 +160,20 @@ pub(crate) fn work<H: Opening<Timetable>, R: Wait, G: Gate>(
         workers lines.now result.answers.items }
     ensures room { result.scratch.stops ≡ worker.scratch.stops }
 {
-    let mut viewer = worker.viewer;
-    let mut scratch = worker.scratch;
-    let mut answers = worker.answers;
+    let Worker {
+        viewer,
+        mut scratch,
+        mut answers,
+        is_whole: _,
+    } = worker;
+    let Some(mut viewer) = viewer else {
+        return Worker {
+            viewer: None,
+            scratch,
+            answers,
+            is_whole: true,
+        };
+    };
     let mut is_whole = true;
     viewer.learn(note.copy());
     answers.clear();
@@ -154,7 +188,7 @@ pub(crate) fn work<H: Opening<Timetable>, R: Wait, G: Gate>(
         }
     }
     Worker {
-        viewer,
+        viewer: Some(viewer),
         scratch,
         answers,
         is_whole,

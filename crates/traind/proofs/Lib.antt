@@ -1,3 +1,5 @@
 pub mod Ends
 pub mod SameTables
 pub mod Tables
+pub mod Commands
+pub mod Statuses

@@ -7,7 +7,7 @@ use Rattle.command_words.specs.Words.{Asked, asked_of}
 use Rattle.gtfs_tables.specs.declared.refusals.FeedRefusal.{FeedRefusal}
 use Rattle.information_service.specs.Causes.{TookAll}
 use Rattle.mt_io.specs.Causes.{Rose}
-use Rattle.traind.specs.Feeds.{Told}
+use Rattle.gtfs_tables.specs.Feeds.{Files}
 use Rattle.traind.specs.Runs.{CanEnd, IsRefused, Output, WritesAll, WritesFront, WritesReplies}
 use Rattle.traind.specs.Statuses.{error_line, refusal_line}
 use Rattle.traind.specs.declared.status.Status.{Status}
@@ -20,13 +20,13 @@ byte_budget = 2 ^ 40
 -- a feed, as a run finds it and leaves it
 pub record FeedSeen : Type 0 where
   -- its files, where the feed tells them
-  pub tables : Option Told
+  pub tables : Option Files
   -- how many of its reads had failed when the run began, and when it had ended
   pub faults : ℕ
   pub faults_after : ℕ
 
 -- a feed that was the first before the run and the second after it, by what it tells
-abbrev pub feed_seen : {F : Type 0} → (F → Option Told) → (F → ℕ) → F → F → FeedSeen
+abbrev pub feed_seen : {F : Type 0} → (F → Option Files) → (F → ℕ) → F → F → FeedSeen
 feed_seen tables faults old new =
     record { tables = tables old; faults = faults old; faults_after = faults new }
 
@@ -75,7 +75,7 @@ pub record MeetsContract {F S K : Type 0} (output : Asked → Output) (budget : 
   -- a feed is refused for a reason, which is the one by the definition where the feed tells its
   -- tables, and which the error stream tells
   pub refused : status ≡ FeedRefused → (why : FeedRefusal)
-      × ((told : Told) → feed.tables ≡ Some told → IsRefused words feed.tables why)
+      × ((told : Files) → feed.tables ≡ Some told → IsRefused words feed.tables why)
       × Tells err (refusal_line why)
   -- a feed that is to be refused is refused, unless a read of it fails or there is no memory
   pub refused_exactly : (why : FeedRefusal) → IsRefused words feed.tables why
@@ -93,7 +93,7 @@ pub record MeetsContract {F S K : Type 0} (output : Asked → Output) (budget : 
   -- and the input is at its end
   pub ended : status ≡ Ok → IsAtEnd input.bytes_after
   -- where a read failed or the input is too long, what is written is for the lines that are whole
-  -- among the bytes taken
+  -- among the bytes taken; in `serve`, for the windows that are
   pub stopped : (status ≡ ReadFault) ⊎ (status ≡ TooLong) → WritesReplies output words feed.tables
       input.bytes input.bytes_after out.bytes out.bytes_after
   -- however the run ended, what is written is a front of replies to the first lines of the input,

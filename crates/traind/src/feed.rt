@@ -2,28 +2,44 @@
 
 ghost use Rattle.std.specs.Prelude.{◌≡◌, ◌<◌, ◌≤◌, Ok, Some, IfOk, IsErrOf};
 ghost use Rattle.command_words.specs.Held.{asked_view};
+ghost use Rattle.gtfs_tables.specs.Feeds.{Files};
 ghost use Rattle.gtfs_tables.specs.Refusals.{Gives};
 ghost use Rattle.mt_base.specs.Civil.{IsCivil};
 ghost use Rattle.mt_base.specs.Options.{IsInRange};
 ghost use Rattle.information_service.specs.Networks.{IsSame};
 ghost use Rattle.mt_io.specs.Causes.{Rose};
 ghost use Rattle.mt_base.specs.declared.tables.Tables.{Tables as ATables};
-ghost use Rattle.traind.specs.Feeds.{network, Told, tables_in, asked_in};
+ghost use Rattle.schedule_build.specs.InStep.{AreInStep};
+ghost use Rattle.traind.specs.Feeds.{network, tables_in, asked_in};
 
 use command_words::Asked;
 use feed_load::load_feed;
 use gtfs_tables::FeedError;
 use information_service::InformationService;
 use mt_io::Feed;
+use schedule_build::Directory;
 use std::alloc::Global;
 use timetable::Timetable;
 
+/// A timetable that was loaded, with its names.
+#[derive(Drop)]
+pub(crate) struct LoadedTimetable {
+    /// The timetable.
+    pub(crate) timetable: Timetable,
+
+    /// The names of its trains, stops, routes and service days.
+    pub(crate) directory: Directory,
+
+    /// How many trains it can have, extra trains among them.
+    pub(crate) trains: u32,
+}
+
 /// The timetable that the words ask for, with its names.
-pub(crate) fn load<F: Feed>(
+pub(crate) fn load_timetable<F: Feed>(
     alloc: Global,
     asked: &Asked<'_>,
     feed: &mut F,
-) -> Result<InformationService, FeedError>
+) -> Result<LoadedTimetable, FeedError>
     // what words that were read ask for
     requires civil { IsCivil asked.now.first }
     requires year { asked.now.first < 21010000 }
@@ -31,12 +47,15 @@ pub(crate) fn load<F: Feed>(
     requires options { IsInRange asked.now.opts }
 
     // the timetable that the feed holds, or why it is refused
-    ensures exact { (told : Told) → F.tables feed.old ≡ Some told
-        → Gives (λ s. (s.state, s.names)) result (asked_in told (asked_view asked.now)) }
-    ensures network { IfOk result (λ s. (told : Told) (rows : ATables) → F.tables feed.old
+    ensures exact { (told : Files) → F.tables feed.old ≡ Some told
+        → Gives (λ l. (l.timetable.state, l.directory)) result (asked_in told (asked_view asked.now)) }
+    ensures network { IfOk result (λ l. (told : Files) (rows : ATables) → F.tables feed.old
         ≡ Some told → tables_in told (asked_view asked.now) ≡ Ok rows
-        → IsSame (network rows asked.now.opts) s.network) }
-    ensures new { IfOk result (λ s. s.count ≡ 0) }
+        → IsSame (network rows asked.now.opts) l.timetable.network) }
+
+    // no message was accepted, and names and trains are in step
+    ensures new { IfOk result (λ l. l.timetable.count ≡ 0) }
+    ensures in_step { IfOk result (λ l. AreInStep l.directory l.timetable.state) }
 
     // a read fault comes where a read failed
     ensures failed { IsErrOf result FeedError.ReadFault
@@ -51,5 +70,38 @@ pub(crate) fn load<F: Feed>(
         .trains()
         .count()
         .saturating_add(opts.spare_trains);
-    Ok(InformationService::build(alloc, timetable, loaded.directory, trains)?)
+    Ok(LoadedTimetable {
+        timetable,
+        directory: loaded.directory,
+        trains,
+    })
+}
+
+/// The same as a service.
+pub(crate) fn load_service<F: Feed>(
+    alloc: Global,
+    asked: &Asked<'_>,
+    feed: &mut F,
+) -> Result<InformationService, FeedError>
+    // what words that were read ask for
+    requires civil { IsCivil asked.now.first }
+    requires year { asked.now.first < 21010000 }
+    requires days { (1 ≤ asked.now.days) × (asked.now.days ≤ 31) }
+    requires options { IsInRange asked.now.opts }
+
+    // the timetable that the feed holds, or why it is refused
+    ensures exact { (told : Files) → F.tables feed.old ≡ Some told
+        → Gives (λ s. (s.state, s.names)) result (asked_in told (asked_view asked.now)) }
+    ensures network { IfOk result (λ s. (told : Files) (rows : ATables) → F.tables feed.old
+        ≡ Some told → tables_in told (asked_view asked.now) ≡ Ok rows
+        → IsSame (network rows asked.now.opts) s.network) }
+    ensures new { IfOk result (λ s. s.count ≡ 0) }
+
+    // a read fault comes where a read failed
+    ensures failed { IsErrOf result FeedError.ReadFault
+        → Rose (F.faults feed.old) (F.faults feed.new) }
+    ensures later { F.faults feed.old ≤ F.faults feed.new }
+{
+    let loaded = load_timetable(alloc, asked, feed)?;
+    Ok(InformationService::build(alloc, loaded.timetable, loaded.directory, loaded.trains)?)
 }

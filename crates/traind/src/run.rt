@@ -1,31 +1,34 @@
-//! The program as a call: `times` over any feed, input and outputs.
+//! The program as a call: its commands over any feed, input and outputs.
 
-ghost use Rattle.std.specs.Prelude.{◌≡◌, ◌≢◌, ◌≤◌, ◌⊎◌, map, None, Some, Err, OnOk, IfErr, string_bytes};
+ghost use Rattle.std.specs.Prelude.{◌≡◌, ◌≢◌, ◌≤◌, ◌⊎◌, map, None, Some, Err, true, false, OnOk, IfErr, string_bytes};
 ghost use Rattle.std.specs.Io.KnownBytes.{Appends, IsAtEnd};
 ghost use Rattle.command_words.specs.Words.{asked_of};
 ghost use Rattle.gtfs_tables.specs.declared.refusals.FeedRefusal.{FeedRefusal};
 ghost use Rattle.information_service.specs.Causes.{TookAll};
 ghost use Rattle.mt_io.specs.Causes.{Rose};
 ghost use Rattle.traind.specs.Causes.{HasFaultCause};
-ghost use Rattle.traind.specs.Feeds.{Told};
+ghost use Rattle.gtfs_tables.specs.Feeds.{Files};
 ghost use Rattle.traind.specs.Contract.{MeetsContract, byte_budget, feed_seen, stream_seen};
-ghost use Rattle.traind.specs.Runs.{IsRefused, WritesAll, WritesReplies, WritesFront, times_output};
+ghost use Rattle.traind.specs.Runs.{AskFor, IsRefused, WritesAll, WritesReplies, WritesFront, output_of};
 ghost use Rattle.traind.specs.Statuses.{error_line, refusal_line, status_of};
 ghost use Rattle.traind.specs.declared.status.Fault.TheVariants as faults;
 
-use crate::feed::load;
+use crate::feed::{load_service, load_timetable};
 use crate::refusal::refusal_line;
 use crate::status::{Fault, Status, status_of};
-use command_words::read_words;
+use command_words::{Command, read_words};
 use gtfs_tables::FeedRefusal;
 use information_service::write_output;
 use mt_io::{Feed, Gate, Sink, Source, put};
+use snapshot_board::NewHistory;
 use std::alloc::Global;
+use std::marker::Brand;
 use std::sync::Wait;
 use std::thread::Threads;
+use window_service::write_windows;
 
-/// Reads the words, loads the feed that they ask for, and answers the input.
-fn run_words<F: Feed, S: Source, K: Sink>(
+/// Reads the words of `times`, loads the feed that they ask for, and answers the input.
+fn times_words<F: Feed, S: Source, K: Sink>(
     alloc: Global,
     words: &[String],
     feed: &mut F,
@@ -33,8 +36,10 @@ fn run_words<F: Feed, S: Source, K: Sink>(
     out: &mut K,
     budget: u64,
 ) -> Result<(), Fault>
+    requires command { AskFor Command.Times (map string_bytes words.now) }
+
     // all went well
-    ensures ok { OnOk result (WritesAll times_output (map string_bytes words.now)
+    ensures ok { OnOk result (WritesAll output_of (map string_bytes words.now)
         (F.tables feed.old) (S.left input.old) (K.written out.old) (K.written out.new)) }
     ensures ended { OnOk result (IsAtEnd (S.left input.new)) }
 
@@ -56,7 +61,7 @@ fn run_words<F: Feed, S: Source, K: Sink>(
     ensures fault { IfErr result (HasFaultCause
         ((asked_of (map string_bytes words.now) ≡ None) × (feed.new ≡ feed.old)
         × (input.new ≡ input.old) × (out.new ≡ out.old))
-        (λ why. ((told : Told) → F.tables feed.old ≡ Some told
+        (λ why. ((told : Files) → F.tables feed.old ≡ Some told
         → IsRefused (map string_bytes words.now) (F.tables feed.old) why)
         × (input.new ≡ input.old) × (out.new ≡ out.old))
         (((input.new ≡ input.old) × (out.new ≡ out.old)
@@ -65,14 +70,82 @@ fn run_words<F: Feed, S: Source, K: Sink>(
         (Rose (K.faults out.old) (K.faults out.new))
         (TookAll budget (S.left input.old) (S.left input.new))) }
     ensures stopped { (result ≡ Err faults.ReadFault) ⊎ (result ≡ Err faults.TooLong)
-        → WritesReplies times_output (map string_bytes words.now) (F.tables feed.old)
+        → WritesReplies output_of (map string_bytes words.now) (F.tables feed.old)
         (S.left input.old) (S.left input.new) (K.written out.old) (K.written out.new) }
-    ensures front { WritesFront times_output (map string_bytes words.now) (F.tables feed.old)
+    ensures front { WritesFront output_of (map string_bytes words.now) (F.tables feed.old)
         (S.left input.old) (K.written out.old) (K.written out.new) }
 {
     let asked = read_words(alloc, words)?;
-    let mut service = load(alloc, &asked, feed)?;
+    let mut service = load_service(alloc, &asked, feed)?;
     write_output(alloc, &mut service, input, out, budget)?;
+    Ok(())
+}
+
+/// The same for `serve`.
+fn serve_words<R: Threads + Wait + Sync, F: Feed, S: Source, K: Sink, G: Gate + Sync>(
+    rt: &R,
+    alloc: Global,
+    words: &[String],
+    feed: &mut F,
+    input: &mut S,
+    out: &mut K,
+    gate: &G,
+    budget: u64,
+) -> Result<(), Fault>
+    requires command { AskFor Command.Serve (map string_bytes words.now) }
+
+    // all went well
+    ensures ok { OnOk result (WritesAll output_of (map string_bytes words.now)
+        (F.tables feed.old) (S.left input.old) (K.written out.old) (K.written out.new)) }
+    ensures ended { OnOk result (IsAtEnd (S.left input.new)) }
+
+    // words that ask for nothing
+    ensures no_words { asked_of (map string_bytes words.now) ≡ None
+        → (result ≡ Err faults.Usage) ⊎ (result ≡ Err faults.OutOfMemory) }
+    ensures usage_untouched { asked_of (map string_bytes words.now) ≡ None → (feed.new ≡ feed.old)
+        × (input.new ≡ input.old) × (out.new ≡ out.old) }
+
+    // a feed that is to be refused
+    ensures refused { (why : FeedRefusal) → IsRefused (map string_bytes words.now)
+        (F.tables feed.old) why
+        → (result ≡ Err (faults.FeedRefused why)) ⊎ (result ≡ Err faults.OutOfMemory) ⊎
+        ((result ≡ Err faults.ReadFault) × Rose (F.faults feed.old) (F.faults feed.new)) }
+    ensures refused_untouched { (why : FeedRefusal) → IsRefused (map string_bytes words.now)
+        (F.tables feed.old) why → (input.new ≡ input.old) × (out.new ≡ out.old) }
+
+    // why the run stops, and what is written then
+    ensures fault { IfErr result (HasFaultCause
+        ((asked_of (map string_bytes words.now) ≡ None) × (feed.new ≡ feed.old)
+        × (input.new ≡ input.old) × (out.new ≡ out.old))
+        (λ why. ((told : Files) → F.tables feed.old ≡ Some told
+        → IsRefused (map string_bytes words.now) (F.tables feed.old) why)
+        × (input.new ≡ input.old) × (out.new ≡ out.old))
+        (((input.new ≡ input.old) × (out.new ≡ out.old)
+        × Rose (F.faults feed.old) (F.faults feed.new)) ⊎ Rose (S.faults input.old)
+        (S.faults input.new))
+        (Rose (K.faults out.old) (K.faults out.new))
+        (TookAll budget (S.left input.old) (S.left input.new))) }
+    ensures stopped { (result ≡ Err faults.ReadFault) ⊎ (result ≡ Err faults.TooLong)
+        → WritesReplies output_of (map string_bytes words.now) (F.tables feed.old)
+        (S.left input.old) (S.left input.new) (K.written out.old) (K.written out.new) }
+    ensures front { WritesFront output_of (map string_bytes words.now) (F.tables feed.old)
+        (S.left input.old) (K.written out.old) (K.written out.new) }
+{
+    let asked = read_words(alloc, words)?;
+    let loaded = load_timetable(alloc, &asked, feed)?;
+    write_windows::<Brand, R, S, K, G>(
+        rt,
+        alloc,
+        NewHistory::new(),
+        loaded.timetable,
+        loaded.directory,
+        loaded.trains,
+        asked.workers,
+        input,
+        out,
+        gate,
+        budget,
+    )?;
     Ok(())
 }
 
@@ -117,10 +190,10 @@ fn tell<E: Sink>(alloc: Global, run: Result<(), Fault>, err: &mut E) -> Status
     status
 }
 
-/// All that the program does for `times`. It reads the tables of the feed, answers each line of the
-/// input at once, and at the end of the input writes the table of all times. A query is answered by
-/// the times after the messages of the lines before it. It stops where `budget` bytes of the input
-/// were taken and no end was read. It waits for nobody and returns.
+/// All that the program does for `times`. It reads the tables of the feed, answers each line of the input at once, and at the end of the input writes the table of
+/// all times. A query is answered by the times after the messages of the lines before it. It stops
+/// where `budget` bytes of the input were taken and no end was read. It waits for nobody and
+/// returns.
 pub fn run_times<F: Feed, S: Source, K: Sink, E: Sink>(
     alloc: Global,
     words: &[String],
@@ -130,20 +203,59 @@ pub fn run_times<F: Feed, S: Source, K: Sink, E: Sink>(
     err: &mut E,
     budget: u64,
 ) -> Status
+    requires command { AskFor Command.Times (map string_bytes words.now) }
     requires budget { 1 ≤ budget }
-    ensures contract { MeetsContract times_output budget (map string_bytes words.now)
+    ensures contract { MeetsContract output_of budget (map string_bytes words.now)
         (feed_seen F.tables F.faults feed.old feed.new)
         (stream_seen S.left S.faults input.old input.new)
         (stream_seen K.written K.faults out.old out.new)
         (stream_seen E.written E.faults err.old err.new)
         feed.old feed.new input.old input.new out.old out.new result }
 {
-    let run = run_words(alloc, words, feed, input, out, budget);
+    let run = times_words(alloc, words, feed, input, out, budget);
     tell(alloc, run, err)
 }
 
-/// The program. It stops where `budget` bytes of the input were taken and no end was read. Its only
-/// command is `times`.
+/// All that the program does for `serve`.
+fn run_serve<R: Threads + Wait + Sync, F: Feed, S: Source, K: Sink, E: Sink, G: Gate + Sync>(
+    rt: &R,
+    alloc: Global,
+    words: &[String],
+    feed: &mut F,
+    input: &mut S,
+    out: &mut K,
+    err: &mut E,
+    gate: &G,
+    budget: u64,
+) -> Status
+    requires command { AskFor Command.Serve (map string_bytes words.now) }
+    requires budget { 1 ≤ budget }
+    ensures contract { MeetsContract output_of budget (map string_bytes words.now)
+        (feed_seen F.tables F.faults feed.old feed.new)
+        (stream_seen S.left S.faults input.old input.new)
+        (stream_seen K.written K.faults out.old out.new)
+        (stream_seen E.written E.faults err.old err.new)
+        feed.old feed.new input.old input.new out.old out.new result }
+{
+    let run = serve_words(rt, alloc, words, feed, input, out, gate, budget);
+    tell(alloc, run, err)
+}
+
+/// Whether the first word is `times`.
+fn is_times(words: &[String]) -> bool
+    ensures times { result ≡ true → AskFor Command.Times (map string_bytes words.now) }
+    ensures serve { result ≡ false → AskFor Command.Serve (map string_bytes words.now) }
+{
+    match words {
+        [command, ..] => command.as_str() == "times",
+        [] => false,
+    }
+}
+
+/// The program. For `times` it does what `run_times` does. For `serve` it reads the tables of the feed
+/// and answers the input window after window, and queries beside the messages; the gate is called
+/// after each message and before each query. It stops where `budget` bytes of the input were taken
+/// and no end was read.
 pub fn traind_within<
     R: Threads + Wait + Sync,
     F: Feed,
@@ -152,25 +264,28 @@ pub fn traind_within<
     E: Sink,
     G: Gate + Sync,
 >(
-    _rt: &R,
+    rt: &R,
     alloc: Global,
     words: &[String],
     feed: &mut F,
     input: &mut S,
     out: &mut K,
     err: &mut E,
-    _gate: &G,
+    gate: &G,
     budget: u64,
 ) -> Status
     requires budget { 1 ≤ budget }
-    ensures contract { MeetsContract times_output budget (map string_bytes words.now)
+    ensures contract { MeetsContract output_of budget (map string_bytes words.now)
         (feed_seen F.tables F.faults feed.old feed.new)
         (stream_seen S.left S.faults input.old input.new)
         (stream_seen K.written K.faults out.old out.new)
         (stream_seen E.written E.faults err.old err.new)
         feed.old feed.new input.old input.new out.old out.new result }
 {
-    run_times(alloc, words, feed, input, out, err, budget)
+    if is_times(words) {
+        return run_times(alloc, words, feed, input, out, err, budget);
+    }
+    run_serve(rt, alloc, words, feed, input, out, err, gate, budget)
 }
 
 /// How many bytes of the input the program takes at most.
@@ -187,7 +302,7 @@ pub fn traind<R: Threads + Wait + Sync, F: Feed, S: Source, K: Sink, E: Sink, G:
     err: &mut E,
     gate: &G,
 ) -> Status
-    ensures contract { MeetsContract times_output byte_budget (map string_bytes words.now)
+    ensures contract { MeetsContract output_of byte_budget (map string_bytes words.now)
         (feed_seen F.tables F.faults feed.old feed.new)
         (stream_seen S.left S.faults input.old input.new)
         (stream_seen K.written K.faults out.old out.new)

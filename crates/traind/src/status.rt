@@ -50,7 +50,8 @@ impl Status {
     {
         match self {
             Status::Ok | Status::FeedRefused => b"",
-            Status::Usage => b"traind: usage: traind times FEED --from DATE\n",
+            Status::Usage =>
+                b"traind: usage: traind times FEED --from DATE or traind serve FEED --from DATE\n",
             Status::ReadFault => b"traind: read fault\n",
             Status::WriteFault => b"traind: write fault\n",
             Status::OutOfMemory => b"traind: out of memory\n",

@@ -1,10 +1,18 @@
-use crate::run::{run_times, traind, traind_within};
+mod exhaustion;
+mod limited;
+mod refused_memory;
+mod serve;
+mod threads;
+
+use crate::run::{traind, traind_within};
 use crate::status::Status;
 use mt_io::{
     LineReader, MemFeed, MemSink, MemSource, Next, NoGate, SureFeed, SureSink, SureSource,
 };
 use std::alloc::Global;
+use std::sync::Wait;
 use std::test::Fail;
+use std::thread::Threads;
 
 /// B1 and B2 are platforms of the station B.
 const STOPS: &str = "stop_id,stop_name,location_type,parent_station
@@ -209,7 +217,8 @@ fn output(alloc: Global) -> Result<MemSink, Fail> {
 }
 
 /// A run of these words over this feed, on this input and output, with ample memory.
-fn run_over(
+fn run_over<R: Threads + Wait + Sync>(
+    rt: &R,
     alloc: Global,
     words: &[String],
     feed: &mut MemFeed,
@@ -217,20 +226,32 @@ fn run_over(
     mut out: MemSink,
 ) -> Result<Ended, Fail> {
     let mut err = output(alloc)?;
-    let status = run_times(alloc, words, feed, input, &mut out, &mut err, 1_000_000);
+    let status = traind_within(
+        rt, alloc, words, feed, input, &mut out, &mut err, &NoGate, 1_000_000,
+    );
     Ok(Ended { status, out, err })
 }
 
 /// A run on this input and output with ample memory.
-fn run(alloc: Global, mut input: MemSource, out: MemSink) -> Result<Ended, Fail> {
+fn run<R: Threads + Wait + Sync>(
+    rt: &R,
+    alloc: Global,
+    mut input: MemSource,
+    out: MemSink,
+) -> Result<Ended, Fail> {
     let words = words(alloc)?;
     let mut feed = feed(alloc, STOP_TIMES.as_bytes())?;
-    run_over(alloc, &words, &mut feed, &mut input, out)
+    run_over(rt, alloc, &words, &mut feed, &mut input, out)
 }
 
 /// Whether a run on this text goes well, with this output.
-fn has_output(alloc: Global, text: &str, want: &str) -> Result<bool, Fail> {
-    let ended = run(alloc, input(alloc, text)?, output(alloc)?)?;
+fn has_output<R: Threads + Wait + Sync>(
+    rt: &R,
+    alloc: Global,
+    text: &str,
+    want: &str,
+) -> Result<bool, Fail> {
+    let ended = run(rt, alloc, input(alloc, text)?, output(alloc)?)?;
     Ok(is_end(&ended, Status::Ok, want, ""))
 }
 
@@ -238,7 +259,7 @@ fn has_output(alloc: Global, text: &str, want: &str) -> Result<bool, Fail> {
 fn scheduled_times_without_input(rt: HostRuntime) -> Result<(), Fail> {
     let alloc = rt.alloc();
     let want = format!(in alloc; "{HEADER}{T1}{T2}")?;
-    let is_right = has_output(alloc, "", want.as_str())?;
+    let is_right = has_output(&rt, alloc, "", want.as_str())?;
     assert!(rt; is_right);
     let words = words(alloc)?;
     let mut feed = feed(alloc, STOP_TIMES.as_bytes())?;
@@ -266,7 +287,7 @@ fn lines_are_answered(rt: HostRuntime) -> Result<(), Fail> {
     ] {
         let text = format!(in alloc; "{line}\n")?;
         let want = format!(in alloc; "{reply}{HEADER}{first}{T2}{last}")?;
-        let is_right = has_output(alloc, text.as_str(), want.as_str())?;
+        let is_right = has_output(&rt, alloc, text.as_str(), want.as_str())?;
         assert!(rt; is_right, "{line}");
     }
     Ok(())
@@ -278,7 +299,7 @@ fn reports_and_kept_connections(rt: HostRuntime) -> Result<(), Fail> {
     let flush = r#"{"v":1,"type":"flush"}"#;
     let text = format!(in alloc; "{REPORT}\n{EARLIER}\n{KEEP}\n{flush}")?;
     let want = format!(in alloc; "{REPLIES}{HEADER}{T1_LATE}{T2_HELD}")?;
-    let is_right = has_output(alloc, text.as_str(), want.as_str())?;
+    let is_right = has_output(&rt, alloc, text.as_str(), want.as_str())?;
     assert!(rt; is_right);
     Ok(())
 }
@@ -294,7 +315,7 @@ fn query_before_and_after_a_missed_connection(rt: HostRuntime) -> Result<(), Fai
     let want = format!(in alloc; "{QUERY_REPLIES}{HEADER}{T1_MISSED}{T2}")?;
     let mut feed = feed(alloc, STOP_TIMES.as_bytes())?;
     let mut input = input(alloc, text.as_str())?;
-    let ended = run_over(alloc, &words, &mut feed, &mut input, output(alloc)?)?;
+    let ended = run_over(&rt, alloc, &words, &mut feed, &mut input, output(alloc)?)?;
     assert!(rt; is_end(&ended, Status::Ok, want.as_str(), ""));
     Ok(())
 }
@@ -303,7 +324,7 @@ fn query_before_and_after_a_missed_connection(rt: HostRuntime) -> Result<(), Fai
 fn queries_that_take_no_train(rt: HostRuntime) -> Result<(), Fail> {
     let alloc = rt.alloc();
     let want = format!(in alloc; "{SHORT_REPLIES}{HEADER}{T1}{T2}")?;
-    let is_right = has_output(alloc, SHORT_QUERIES, want.as_str())?;
+    let is_right = has_output(&rt, alloc, SHORT_QUERIES, want.as_str())?;
     assert!(rt; is_right);
     Ok(())
 }
@@ -314,7 +335,7 @@ fn no_table(rt: HostRuntime) -> Result<(), Fail> {
     let words = words(alloc)?;
     let mut feed = MemFeed::build(alloc, Vec::new(alloc));
     let mut input = input(alloc, FORECAST)?;
-    let ended = run_over(alloc, &words, &mut feed, &mut input, output(alloc)?)?;
+    let ended = run_over(&rt, alloc, &words, &mut feed, &mut input, output(alloc)?)?;
     let told = "traind: feed refused: missing stops.txt\n";
     assert!(rt; is_end(&ended, Status::FeedRefused, "", told));
     let mut reader = LineReader::build(alloc, 1_000)?;
@@ -332,7 +353,7 @@ fn read_that_fails_in_mid_line(rt: HostRuntime) -> Result<(), Fail> {
     let bytes = Vec::from_slice(alloc, text.as_bytes())?;
     let number = FORECAST.len() as u64 + 10;
     let source = MemSource::build(bytes, 1, vec![in alloc; number]?);
-    let ended = run(alloc, source, output(alloc)?)?;
+    let ended = run(&rt, alloc, source, output(alloc)?)?;
     assert!(rt; is_end(&ended, Status::ReadFault, ACCEPTED, "traind: read fault\n"));
     Ok(())
 }
@@ -343,7 +364,7 @@ fn each_write_that_fails(rt: HostRuntime) -> Result<(), Fail> {
     let want = format!(in alloc; "{ACCEPTED}{HEADER}{T1_LATE}{T2}")?;
     for number in 0..1_000 {
         let sink = MemSink::build(alloc, 4_096, vec![in alloc; number]?)?;
-        let ended = run(alloc, input(alloc, FORECAST)?, sink)?;
+        let ended = run(&rt, alloc, input(alloc, FORECAST)?, sink)?;
         if ended.status == Status::Ok {
             assert!(rt; number > 0, "no write failed");
             assert!(rt; is_end(&ended, Status::Ok, want.as_str(), ""));
@@ -368,7 +389,7 @@ fn table_cut_at_every_byte(rt: HostRuntime) -> Result<(), Fail> {
     for length in 0..table.len() {
         let mut feed = feed(alloc, &table[..length])?;
         let mut input = input(alloc, "")?;
-        let ended = run_over(alloc, &words, &mut feed, &mut input, output(alloc)?)?;
+        let ended = run_over(&rt, alloc, &words, &mut feed, &mut input, output(alloc)?)?;
         if ended.status == Status::Ok {
             assert!(rt; ended.err.bytes().is_empty(), "{length} bytes");
         } else {
@@ -390,7 +411,7 @@ fn longest_line(rt: HostRuntime) -> Result<(), Fail> {
         bytes.extend_from_slice(FORECAST.as_bytes())?;
         bytes.extend_from_slice(b"\n")?;
         let source = MemSource::build(bytes, 1_000, Vec::new(alloc));
-        let ended = run(alloc, source, output(alloc)?)?;
+        let ended = run(&rt, alloc, source, output(alloc)?)?;
         let bad = format!(in alloc; "{{\"bad\":\"{word}\",\"line\":1}}\n")?;
         let want = format!(in alloc; "{bad}{accepted}{HEADER}{T1_LATE}{T2}")?;
         assert!(rt;

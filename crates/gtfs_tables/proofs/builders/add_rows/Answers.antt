@@ -1,5 +1,4 @@
-use Rattle.std.proofs.Common.{◌∙◌, Ok, refl, arith}
-use Rattle.gtfs_tables.specs.Checks.{rows_from}
+use Rattle.gtfs_tables.proofs.Words.{◌∙◌, Ok, refl, arith, rows_from}
 use Rattle.gtfs_tables.proofs.RowLemmas.{under_kept, rows-one}
 use Rattle.gtfs_tables.proofs.builders.add_rows.Goals as goal
 

@@ -1,7 +1,5 @@
-use Rattle.std.proofs.Common.{◌≡◌, ℕ, List}
-use Rattle.gtfs_tables.specs.Checks.{rows_from}
-use Rattle.gtfs_tables.specs.Sheets.{IsUnder}
-use Rattle.gtfs_tables.specs.Texts.{Rests, Remains}
+use Rattle.gtfs_tables.proofs.Words.{◌≡◌, ℕ, List, rows_from, IsUnder, Remains}
+use Rattle.gtfs_tables.specs.Texts.{Rests}
 use Rattle.gtfs_tables.proofs.builders.add_rows.Given as goal
 
 abbrev pub invariant-loop-row : goal.invariant-loop-row

@@ -1,5 +1,4 @@
-use Rattle.std.proofs.Common.{arith}
-use Rattle.gtfs_tables.specs.Checks.{table_from}
+use Rattle.gtfs_tables.proofs.Words.{arith, table_from}
 use Rattle.gtfs_tables.proofs.builders.build_table.Goals as goal
 
 pub returns-in_err-sheet-clause-made : goal.returns-in_err-sheet-clause-made

@@ -1,4 +1,4 @@
-use Rattle.std.proofs.Common.{arith}
+use Rattle.gtfs_tables.proofs.Words.{arith}
 use Rattle.gtfs_tables.proofs.calendar.read_calendar.Goals as goal
 
 pub returns-in_err-build_table-clause-rows : goal.returns-in_err-build_table-clause-rows

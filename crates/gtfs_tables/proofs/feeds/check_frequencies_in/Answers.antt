@@ -1,6 +1,5 @@
-use Rattle.std.proofs.Common.{arith}
-use Rattle.gtfs_tables.specs.Feeds.{absent, frequencies_in, holds}
-use Rattle.gtfs_tables.specs.Records.{records_of}
+use Rattle.gtfs_tables.proofs.Words.{arith, absent, holds, records_of}
+use Rattle.gtfs_tables.specs.Feeds.{frequencies_in}
 use Rattle.gtfs_tables.proofs.FeedLemmas.{all_records}
 use Rattle.gtfs_tables.proofs.feeds.check_frequencies_in.Goals as goal
 

@@ -1,6 +1,4 @@
-use Rattle.std.proofs.Common.{arith, refl}
-use Rattle.gtfs_tables.specs.Feeds.{absent, calendar_in, holds}
-use Rattle.gtfs_tables.specs.Records.{records_of}
+use Rattle.gtfs_tables.proofs.Words.{arith, refl, absent, calendar_in, holds, records_of}
 use Rattle.gtfs_tables.proofs.FeedLemmas.{all_records}
 use Rattle.gtfs_tables.proofs.feeds.read_calendar_in.Goals as goal
 

@@ -1,8 +1,6 @@
-use Rattle.std.proofs.Common.{Bool, cond, ◌≡◌, [], arith}
-use Rattle.std.proofs.lemmas.Result.{IfOk-weaker}
+use Rattle.gtfs_tables.proofs.Words.{Bool, cond, ◌≡◌, [], arith, IfOk-weaker, Contents, absent, dates_in, holds, records_of}
 use Rattle.gtfs_tables.specs.declared.faults.Table.TheVariants as table
-use Rattle.gtfs_tables.specs.Feeds.{Content, Contents, absent, dates_in, holds, is_absent}
-use Rattle.gtfs_tables.specs.Records.{records_of}
+use Rattle.gtfs_tables.specs.Feeds.{Content, is_absent}
 use Rattle.gtfs_tables.proofs.FeedLemmas.{all_records}
 use Rattle.gtfs_tables.proofs.feeds.read_dates_in.Goals as goal
 

@@ -1,6 +1,4 @@
-use Rattle.std.proofs.Common.{arith}
-use Rattle.gtfs_tables.specs.Feeds.{absent, holds, rules_in}
-use Rattle.gtfs_tables.specs.Records.{records_of}
+use Rattle.gtfs_tables.proofs.Words.{arith, absent, holds, rules_in, records_of}
 use Rattle.gtfs_tables.proofs.FeedLemmas.{all_records}
 use Rattle.gtfs_tables.proofs.feeds.read_rules_in.Goals as goal
 

@@ -1,6 +1,4 @@
-use Rattle.std.proofs.Common.{arith}
-use Rattle.gtfs_tables.specs.Feeds.{holds, stops_in}
-use Rattle.gtfs_tables.specs.Records.{records_of}
+use Rattle.gtfs_tables.proofs.Words.{arith, holds, stops_in, records_of}
 use Rattle.gtfs_tables.proofs.FeedLemmas.{all_records}
 use Rattle.gtfs_tables.proofs.feeds.read_stops_in.Goals as goal
 

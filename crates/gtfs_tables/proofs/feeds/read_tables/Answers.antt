@@ -1,4 +1,4 @@
-use Rattle.std.proofs.Common.{refl}
+use Rattle.gtfs_tables.proofs.Words.{refl}
 use Rattle.gtfs_tables.proofs.LawTables.{tables-lawful}
 use Rattle.gtfs_tables.proofs.feeds.read_tables.Goals as goal
 

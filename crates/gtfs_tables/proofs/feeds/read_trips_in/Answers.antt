@@ -1,7 +1,4 @@
-use Rattle.std.proofs.Common.{arith}
-use Rattle.std.proofs.lemmas.Result.{IfOk-weaker}
-use Rattle.gtfs_tables.specs.Feeds.{holds, trips_in}
-use Rattle.gtfs_tables.specs.Records.{records_of}
+use Rattle.gtfs_tables.proofs.Words.{arith, IfOk-weaker, holds, trips_in, records_of}
 use Rattle.gtfs_tables.proofs.FeedLemmas.{all_records}
 use Rattle.gtfs_tables.proofs.feeds.read_trips_in.Goals as goal
 

@@ -1,6 +1,4 @@
-use Rattle.std.proofs.Common.{arith}
-use Rattle.std.proofs.lemmas.Grind.{common_steps}
-use Rattle.gtfs_tables.specs.Fields.{digits_after}
+use Rattle.gtfs_tables.proofs.Words.{arith, common_steps, digits_after}
 use Rattle.gtfs_tables.proofs.FieldLemmas.{tens_small, one_more}
 use Rattle.gtfs_tables.proofs.fields.number.Goals as goal
 

@@ -1,5 +1,4 @@
-use Rattle.std.proofs.Common.{◌≡◌, ◌<◌, ◌^◌, drop}
-use Rattle.gtfs_tables.specs.Fields.{digits_after}
+use Rattle.gtfs_tables.proofs.Words.{◌≡◌, ◌<◌, ◌^◌, drop, digits_after}
 use Rattle.gtfs_tables.proofs.fields.number.Given as goal
 
 abbrev pub invariant-loop-byte : goal.invariant-loop-byte

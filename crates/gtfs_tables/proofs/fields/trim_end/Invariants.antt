@@ -1,5 +1,4 @@
-use Rattle.std.proofs.Common.{◌≡◌, length, reverse}
-use Rattle.gtfs_tables.specs.Fields.{trim_start}
+use Rattle.gtfs_tables.proofs.Words.{◌≡◌, length, reverse, trim_start}
 use Rattle.gtfs_tables.proofs.fields.trim_end.Given as goal
 
 abbrev pub invariant-loop-bytes : goal.invariant-loop-bytes

@@ -1,5 +1,4 @@
-use Rattle.std.proofs.Common.{arith}
-use Rattle.csv.specs.Records.{fields_of}
+use Rattle.gtfs_tables.proofs.Words.{arith, fields_of}
 use Rattle.gtfs_tables.proofs.FrequencyLemmas.{second_record}
 use Rattle.gtfs_tables.proofs.frequencies.has_frequencies.Goals as goal
 

@@ -1,4 +1,4 @@
-use Rattle.std.proofs.Common.{◌++◌, sym, subst, arith}
+use Rattle.gtfs_tables.proofs.Words.{◌++◌, sym, subst, arith}
 use Rattle.gtfs_tables.proofs.KeyedLemmas.{Rise, below-last, moved, not-ge}
 use Rattle.gtfs_tables.proofs.keyed_calls.move_from.Goals as goal
 

@@ -1,4 +1,4 @@
-use Rattle.std.proofs.Common.{◌≡◌, ◌++◌}
+use Rattle.gtfs_tables.proofs.Words.{◌≡◌, ◌++◌}
 use Rattle.gtfs_tables.proofs.keyed_calls.move_from.Given as goal
 
 abbrev pub invariant-loop-last : goal.invariant-loop-last

@@ -1,4 +1,4 @@
-use Rattle.std.proofs.Common.{arith}
+use Rattle.gtfs_tables.proofs.Words.{arith}
 use Rattle.gtfs_tables.proofs.TextLemmas.{ascii-cut}
 use Rattle.gtfs_tables.proofs.sheets.all_utf8.Goals as goal
 

@@ -1,6 +1,4 @@
-use Rattle.std.proofs.Common.{◌≡◌, drop}
-use Rattle.csv.specs.Records.{fields_of}
-use Rattle.gtfs_tables.specs.Checks.{all_utf8}
+use Rattle.gtfs_tables.proofs.Words.{◌≡◌, drop, fields_of, all_utf8}
 use Rattle.gtfs_tables.proofs.sheets.each_utf8.Given as goal
 
 abbrev pub invariant-loop-at : goal.invariant-loop-at

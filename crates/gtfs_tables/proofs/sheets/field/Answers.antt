@@ -1,5 +1,4 @@
-use Rattle.std.proofs.Common.{sym}
-use Rattle.csv.specs.Records.{fields_of}
+use Rattle.gtfs_tables.proofs.Words.{sym, fields_of}
 use Rattle.csv.proofs.RecordFacts.{field-get}
 use Rattle.gtfs_tables.proofs.Records.{field_missing}
 use Rattle.gtfs_tables.proofs.sheets.field.Goals as goal

@@ -1,5 +1,4 @@
-use Rattle.std.proofs.Common.{sym, arith}
-use Rattle.std.proofs.lemmas.Str.{is_utf8-from_IsUtf8, IsUtf8-from_is_utf8}
+use Rattle.gtfs_tables.proofs.Words.{sym, arith, is_utf8-from_IsUtf8, IsUtf8-from_is_utf8}
 use Rattle.gtfs_tables.proofs.sheets.is_text.Goals as goal
 
 pub returns-in-Ok : goal.returns-in-Ok

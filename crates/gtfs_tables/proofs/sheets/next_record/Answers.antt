@@ -1,4 +1,4 @@
-use Rattle.csv.specs.Records.{fields_of}
+use Rattle.gtfs_tables.proofs.Words.{fields_of}
 use Rattle.gtfs_tables.proofs.Records.{stepped}
 use Rattle.gtfs_tables.proofs.sheets.next_record.Goals as goal
 

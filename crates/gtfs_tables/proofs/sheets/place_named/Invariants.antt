@@ -1,5 +1,4 @@
-use Rattle.std.proofs.Common.{◌≡◌, drop}
-use Rattle.csv.specs.Records.{fields_of}
+use Rattle.gtfs_tables.proofs.Words.{◌≡◌, drop, fields_of}
 use Rattle.gtfs_tables.specs.Columns.{place_from}
 use Rattle.gtfs_tables.proofs.sheets.place_named.Given as goal
 

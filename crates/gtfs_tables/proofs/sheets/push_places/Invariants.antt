@@ -1,6 +1,4 @@
-use Rattle.std.proofs.Common.{◌≡◌, ◌++◌, take, map}
-use Rattle.csv.specs.Records.{fields_of}
-use Rattle.gtfs_tables.specs.Columns.{place_of}
+use Rattle.gtfs_tables.proofs.Words.{◌≡◌, ◌++◌, take, map, fields_of, place_of}
 use Rattle.gtfs_tables.proofs.sheets.push_places.Given as goal
 
 abbrev pub invariant-loop-column : goal.invariant-loop-column

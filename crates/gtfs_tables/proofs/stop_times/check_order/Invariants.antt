@@ -1,5 +1,4 @@
-use Rattle.std.proofs.Common.{◌≡◌, drop}
-use Rattle.gtfs_tables.specs.StopTimes.{check_order}
+use Rattle.gtfs_tables.proofs.Words.{◌≡◌, drop, check_order}
 use Rattle.gtfs_tables.proofs.stop_times.check_order.Given as goal
 
 abbrev pub invariant-loop-call : goal.invariant-loop-call

@@ -1,5 +1,4 @@
-use Rattle.std.proofs.Common.{◌-◌, None, length, arith}
-use Rattle.gtfs_tables.specs.declared.keyed_calls.CallTimes.{CallTimes}
+use Rattle.gtfs_tables.proofs.Words.{◌-◌, None, length, arith, CallTimes}
 use Rattle.gtfs_tables.proofs.CallLemmas.{check_trip-ends}
 use Rattle.gtfs_tables.proofs.stop_times.check_trip.Goals as goal
 

@@ -1,5 +1,4 @@
-use Rattle.std.proofs.Common.{◌≡◌, [], drop}
-use Rattle.gtfs_tables.specs.StopTimes.{check_trips}
+use Rattle.gtfs_tables.proofs.Words.{◌≡◌, [], drop, check_trips}
 use Rattle.gtfs_tables.proofs.stop_times.check_trips.Given as goal
 
 abbrev pub invariant-loop-key : goal.invariant-loop-key

@@ -1,5 +1,4 @@
-use Rattle.std.proofs.Common.{◌≡◌, ◌+◌, [], drop, take, length}
-use Rattle.gtfs_tables.specs.Stops.{line_ids, with_stations, stop_ids}
+use Rattle.gtfs_tables.proofs.Words.{◌≡◌, ◌+◌, [], drop, take, length, line_ids, with_stations, stop_ids}
 use Rattle.gtfs_tables.proofs.stops.with_stations.Given as goal
 
 abbrev pub invariant-loop-line : goal.invariant-loop-line

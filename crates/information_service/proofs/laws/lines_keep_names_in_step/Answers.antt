@@ -1,5 +1,5 @@
+use Rattle.information_service.proofs.Words.{messages_of}
 use Rattle.information_service.proofs.InStep.{messages-in_step}
-use Rattle.information_service.specs.Lines.{messages_of}
 use Rattle.information_service.proofs.laws.lines_keep_names_in_step.Goals as goal
 
 pub returns : goal.returns

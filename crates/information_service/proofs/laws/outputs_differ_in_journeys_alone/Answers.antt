@@ -1,19 +1,10 @@
-use Rattle.std.proofs.Common.{◌≡◌, ◌∙◌, ◌⊎◌, ℕ, ◌++◌, List, [], ◌∷◌, Result, Ok, Err, inl, sym, ap, refl, arith}
-use Rattle.delay_model.specs.declared.network.Network.{Network}
-use Rattle.delay_model.specs.declared.state.State.{State}
-use Rattle.delay_report.specs.declared.replies.Reply.{Reply}
-use Rattle.delay_report.specs.Replies.{text_of_reply}
-use Rattle.message_reader.specs.declared.bad_line.BadLine.{BadLine}
-use Rattle.message_reader.specs.declared.resolve_queries.AskedQuery.{AskedQuery}
+use Rattle.information_service.proofs.Words.{◌≡◌, ◌∙◌, ℕ, ◌++◌, List, [], ◌∷◌, Result, Ok, Err, inl, sym, ap, refl, arith, Network, State, Reply, text_of_reply, BadLine, AskedQuery, query_resolved, Line, Names, said_by, IsReply, IsReplyToResolved, AreReplies}
+use Rattle.std.proofs.Common.{◌⊎◌}
 use Rattle.message_reader.specs.declared.wire.WireQuery.{WireQuery}
 use Rattle.message_reader.specs.declared.wire.Line.{Line as Spoken}
 use Rattle.message_reader.specs.declared.wire.Line.TheVariants.{Query as Asks}
-use Rattle.message_reader.specs.ResolvedQueries.{query_resolved}
-use Rattle.mt_io.specs.Lines.{Line}
-use Rattle.schedule_build.specs.Directory.{Names}
 use Rattle.information_service.specs.Alike.{ShowTwoJourneys, AreAlike}
-use Rattle.information_service.specs.Lines.{said_by, names_after}
-use Rattle.information_service.specs.Output.{IsReply, IsReplyToResolved, AreReplies}
+use Rattle.information_service.specs.Lines.{names_after}
 use Rattle.information_service.proofs.laws.outputs_differ_in_journeys_alone.Goals as goal
 
 -- each of two earliest journeys arrives no later than the other

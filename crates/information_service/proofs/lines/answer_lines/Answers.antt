@@ -1,15 +1,8 @@
-use Rattle.std.proofs.Common.{◌≡◌, ◌<◌, ◌+◌, List, ℕ, [], ◌∷◌, ◌++◌, length, refl, sym, ap, subst, ◌∙◌, arith}
+use Rattle.information_service.proofs.Words.{◌≡◌, ◌<◌, ◌+◌, List, ℕ, [], ◌∷◌, ◌++◌, length, refl, sym, ap, subst, ◌∙◌, arith, Appends, text_of_reply, Line, Reader, GivesNext, next_lines, AreAnswered, AppendsFront, Begun, IsReplyTo, ServiceState, after_line}
 use Rattle.std.proofs.lemmas.List.{length-append}
-use Rattle.std.specs.Io.KnownBytes.{Appends}
-use Rattle.delay_report.specs.Replies.{text_of_reply}
-use Rattle.mt_io.specs.Lines.{Line, short, long}
-use Rattle.mt_io.specs.Reader.{Reader, GivesNext}
-use Rattle.mt_io.specs.Answers.{next_lines}
+use Rattle.mt_io.specs.Lines.{short, long}
 use Rattle.mt_io.specs.declared.lines.Next.TheVariants as next
 use Rattle.mt_io.proofs.Runs.{stops}
-use Rattle.information_service.specs.Fronts.{AreAnswered, AppendsFront, Begun}
-use Rattle.information_service.specs.Output.{IsReplyTo}
-use Rattle.information_service.specs.ServiceState.{ServiceState, after_line}
 use Rattle.information_service.proofs.Ends.{each_fault}
 use Rattle.information_service.proofs.Fronts.{begun_by, first_replies}
 use Rattle.information_service.proofs.OneMore.{nothing_answered, none_more, one_line_more, one_line_begun, front_more, counts-one}

@@ -1,6 +1,4 @@
-use Rattle.std.proofs.Common.{◌≡◌, ◌≤◌, ◌<◌, ◌+◌, List, ℕ, length}
-use Rattle.mt_io.specs.Lines.{Line}
-use Rattle.information_service.specs.Fronts.{AreAnswered}
+use Rattle.information_service.proofs.Words.{◌≡◌, ◌≤◌, ◌<◌, ◌+◌, List, ℕ, length, Line, AreAnswered}
 use Rattle.information_service.proofs.lines.answer_lines.Given as goal
 
 abbrev pub invariant-loop-number : goal.invariant-loop-number

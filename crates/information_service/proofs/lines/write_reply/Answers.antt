@@ -1,6 +1,4 @@
-use Rattle.std.proofs.Common.{◌∙◌, subst}
-use Rattle.delay_report.specs.Replies.{text_of_reply}
-use Rattle.information_service.specs.Fronts.{AppendsFront}
+use Rattle.information_service.proofs.Words.{◌∙◌, subst, text_of_reply, AppendsFront}
 use Rattle.information_service.proofs.Ends.{each_fault}
 use Rattle.information_service.proofs.Fronts.{front_part}
 use Rattle.information_service.proofs.lines.write_reply.Goals as goal

@@ -1,11 +1,4 @@
-use Rattle.std.proofs.Common.{◌≡◌, ◌≤◌, ◌+◌, ◌++◌, ℕ, List, length, sym, ap, subst, ◌∙◌, append_assoc, arith}
-use Rattle.std.proofs.KnownBytes.{Appends-trans}
-use Rattle.std.proofs.lemmas.List.{append-nil}
-use Rattle.std.specs.Io.KnownBytes.{Appends}
-use Rattle.delay_model.specs.declared.state.State.{State}
-use Rattle.delay_report.specs.Table.{header, rows_of_train, rows_from, table}
-use Rattle.information_service.specs.Fronts.{AppendsFront}
-use Rattle.information_service.specs.ServiceState.{ServiceState}
+use Rattle.information_service.proofs.Words.{◌≡◌, ◌≤◌, ◌+◌, ◌++◌, ℕ, List, length, sym, ap, subst, ◌∙◌, append_assoc, arith, Appends-trans, append-nil, Appends, State, header, rows_of_train, rows_from, table, AppendsFront, ServiceState}
 use Rattle.information_service.proofs.Ends.{each_fault}
 use Rattle.information_service.proofs.Fronts.{front_all, front_part, front_longer, front_after, rows-more, table_front}
 use Rattle.information_service.proofs.table.write_table.Goals as goal

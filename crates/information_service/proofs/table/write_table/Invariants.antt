@@ -1,6 +1,4 @@
-use Rattle.std.proofs.Common.{◌≤◌, ◌++◌}
-use Rattle.std.specs.Io.KnownBytes.{Appends}
-use Rattle.delay_report.specs.Table.{header, rows_from}
+use Rattle.information_service.proofs.Words.{◌≤◌, ◌++◌, Appends, header, rows_from}
 use Rattle.information_service.proofs.table.write_table.Given as goal
 
 abbrev pub invariant-loop-train : goal.invariant-loop-train

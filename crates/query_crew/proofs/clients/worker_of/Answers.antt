@@ -1,7 +1,7 @@
-use Rattle.std.proofs.Common.{◌∙◌, ℕ, ◌+◌, ◌<◌, ◌%◌, get_or, take, sym, ap, arith}
+use Rattle.query_crew.proofs.Words.{◌∙◌, ℕ, ◌+◌, ◌<◌, ◌%◌, take, sym, ap, arith, sum}
+use Rattle.std.proofs.Common.{get_or}
 use Rattle.std.proofs.Math.Nat.{mod-add-mod}
 use Rattle.std.proofs.lemmas.List.Sums.{sum_by_more}
-use Rattle.std.specs.List.{sum}
 use Rattle.query_crew.proofs.clients.worker_of.Goals as goal
 
 pub loop-byte-preserved : goal.loop-byte-preserved

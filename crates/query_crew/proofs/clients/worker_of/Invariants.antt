@@ -1,5 +1,4 @@
-use Rattle.std.proofs.Common.{◌≡◌, ◌<◌, ◌%◌, take}
-use Rattle.std.specs.List.{sum}
+use Rattle.query_crew.proofs.Words.{◌≡◌, ◌<◌, ◌%◌, take, sum}
 use Rattle.query_crew.proofs.clients.worker_of.Given as goal
 
 abbrev pub invariant-loop-byte : goal.invariant-loop-byte

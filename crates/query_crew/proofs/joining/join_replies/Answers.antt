@@ -1,4 +1,5 @@
-use Rattle.std.proofs.Common.{◌∙◌, ◌<◌, ◌∷◌, [], refl, sym, ap, arith, length, length-append, get_or}
+use Rattle.query_crew.proofs.Words.{◌∙◌, ◌<◌, ◌∷◌, [], refl, sym, ap, arith, length, length-append}
+use Rattle.std.proofs.Common.{get_or}
 use Rattle.std.proofs.lemmas.Option.{slice_get_read}
 use Rattle.query_crew.proofs.Joins.{taken-is, not-missing, some-in, emptied-next, same-from-next, joined-more}
 use Rattle.query_crew.proofs.joining.join_replies.Goals as goal

@@ -1,5 +1,5 @@
-use Rattle.std.proofs.Common.{◌≡◌, ◌<◌, ℕ, length, slice_index_or}
-use Rattle.query_crew.specs.Joining.{AreJoined}
+use Rattle.query_crew.proofs.Words.{◌≡◌, ◌<◌, ℕ, length, AreJoined}
+use Rattle.std.proofs.Common.{slice_index_or}
 use Rattle.query_crew.proofs.Joins.{IsSameFrom}
 use Rattle.query_crew.proofs.joining.join_replies.Given as goal
 

@@ -1,7 +1,5 @@
-use Rattle.std.proofs.Common.{◌++◌, ◌∙◌, ap}
+use Rattle.query_crew.proofs.Words.{◌++◌, ◌∙◌, ap, lines_of, windows_of}
 use Rattle.mt_io.proofs.Runs.{ends, stops}
-use Rattle.delay_model.specs.Windows.{lines_of}
-use Rattle.query_crew.specs.Windows.{windows_of}
 use Rattle.query_crew.proofs.Ends.{read-windows}
 use Rattle.query_crew.proofs.laws.windows_are_those_of_the_input.Goals as goal
 

@@ -1,7 +1,5 @@
-use Rattle.std.proofs.Common.{[], ◌∷◌, ◌∙◌, ◌+◌, sym, ap, arith, drop}
-use Rattle.std.proofs.lemmas.List.{append-nil, drop_more, drop_all}
-use Rattle.query_crew.specs.declared.window_line.WindowLine.{WindowLine}
-use Rattle.query_crew.specs.Posting.{after_shown}
+use Rattle.query_crew.proofs.Words.{[], ◌∷◌, ◌∙◌, ◌+◌, sym, ap, arith, drop, append-nil, WindowLine, after_shown}
+use Rattle.std.proofs.lemmas.List.{drop_more, drop_all}
 use Rattle.query_crew.proofs.PostingLemmas.{takes-none, takes-more, takes-all, few-more, prefix-trans}
 use Rattle.query_crew.proofs.posting.post_all.Goals as goal
 
@@ -14,7 +12,7 @@ loop-i-init g c = record {
 
 pub post_line-requires-clause-board : goal.post_line-requires-clause-board
 post_line-requires-clause-board g c =
-    let b = c.loop-i.invariant.begun c.requires.board.0 c.requires.board.1 in
+    let b = c.loop-i.invariant.begun c.requires.ready.board.0 c.requires.ready.board.1 in
     (b.0, b.1.stands)
 
 pub loop-i-preserved : goal.loop-i-preserved
@@ -22,7 +20,7 @@ loop-i-preserved g c =
     let inv = c.loop-i.invariant in
     let line = c.index-lines-i.result in
     let rest = drop_more c.args.lines.now c.loop-i.i line (omega (arith, c.loop-i-test.true)) ∙ ap (λ (x : WindowLine). x ∷ drop (c.loop-i.i + 1) c.args.lines.now) (sym c.index-lines-i.is) in
-    let first = inv.begun c.requires.board.0 c.requires.board.1 in
+    let first = inv.begun c.requires.ready.board.0 c.requires.ready.board.1 in
     record {
       begun = λ s h.
           let b = inv.begun s h in

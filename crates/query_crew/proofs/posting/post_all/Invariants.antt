@@ -1,7 +1,4 @@
-use Rattle.std.proofs.Common.{◌+◌, ◌≤◌, length}
-use mathlib.Core.List.{IsPrefix}
-use Rattle.information_service.specs.ServiceState.{ServiceState}
-use Rattle.query_crew.specs.Posting.{StandsAt}
+use Rattle.query_crew.proofs.Words.{◌+◌, ◌≤◌, length, IsPrefix, ServiceState, StandsAt}
 use Rattle.query_crew.proofs.PostingLemmas.{HasTaken}
 use Rattle.query_crew.proofs.posting.post_all.Given as goal
 

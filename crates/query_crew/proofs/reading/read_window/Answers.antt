@@ -1,4 +1,4 @@
-use Rattle.std.proofs.Common.{◌<◌, ◌∙◌, ◌∷◌, ◌++◌, [], length, ap, sym, refl, arith}
+use Rattle.query_crew.proofs.Words.{◌<◌, ◌∙◌, ◌∷◌, ◌++◌, [], length, ap, sym, refl, arith}
 use Rattle.std.proofs.lemmas.Result.{IfOk-from_err}
 use Rattle.query_crew.proofs.Filling.{begun-none, begun-more, taken-more, filled, none-came, fewer}
 use Rattle.query_crew.proofs.reading.read_window.Goals as goal

@@ -1,5 +1,4 @@
-use Rattle.std.proofs.Common.{◌≡◌, ◌≤◌, ◌-◌, List, true, length}
-use Rattle.mt_io.specs.Lines.{Line}
+use Rattle.query_crew.proofs.Words.{◌≡◌, ◌≤◌, ◌-◌, List, true, length, Line}
 use Rattle.query_crew.proofs.Filling.{IsBegun}
 use Rattle.query_crew.proofs.reading.read_window.Given as goal
 

@@ -1,4 +1,4 @@
-use Rattle.std.proofs.Common.{[]}
+use Rattle.query_crew.proofs.Words.{[]}
 use Rattle.query_crew.proofs.ServedLemmas.{counts-along}
 use Rattle.query_crew.proofs.served_laws.counts_do_not_fall_along_all_lines.Goals as goal
 

@@ -1,7 +1,4 @@
-use Rattle.std.proofs.Common.{◌≡◌, true, ◌<◌, ℕ, length, sym, subst, ◌∙◌, arith}
-use Rattle.std.proofs.lemmas.List.{length-set}
-use Rattle.query_crew.specs.Posted.{HasFewStops}
-use Rattle.query_crew.specs.Working.{HasAnsweredAll, HasWorked}
+use Rattle.query_crew.proofs.Words.{◌≡◌, true, ◌<◌, ℕ, length, sym, subst, ◌∙◌, arith, length-set, HasFewStops, HasAnsweredAll, HasWorked}
 use Rattle.query_crew.proofs.Putting.{at-put}
 use Rattle.query_crew.proofs.window_run.settle_all.Goals as goal
 

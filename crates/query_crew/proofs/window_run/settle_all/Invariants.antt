@@ -1,6 +1,5 @@
-use Rattle.std.proofs.Common.{◌≡◌, ℕ, ◌<◌, ◌≤◌, length, true, slice_index_or}
-use Rattle.query_crew.specs.Posted.{HasFewStops}
-use Rattle.query_crew.specs.Working.{HasAnsweredAll, HasWorked}
+use Rattle.query_crew.proofs.Words.{◌≡◌, ℕ, ◌<◌, ◌≤◌, length, true, HasFewStops, HasAnsweredAll, HasWorked}
+use Rattle.std.proofs.Common.{slice_index_or}
 use Rattle.query_crew.proofs.window_run.settle_all.Given as goal
 
 abbrev pub invariant-loop-i : goal.invariant-loop-i

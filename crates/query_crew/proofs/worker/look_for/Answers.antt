@@ -1,5 +1,4 @@
-use Rattle.std.proofs.Common.{rules, IfOk, length}
-use Rattle.information_service.specs.Output.{IsReplyToQuery}
+use Rattle.query_crew.proofs.Words.{rules, IfOk, length, IsReplyToQuery}
 use Rattle.query_crew.proofs.WorkLemmas.{few-stops, answered-whole}
 use Rattle.query_crew.proofs.worker.look_for.Goals as goal
 

@@ -1,7 +1,4 @@
-use Rattle.std.proofs.Common.{◌≡◌, rules, ap, sym, subst, length, List, slice_get, Some, ◌∙◌, refl}
-use Rattle.std.proofs.lemmas.Option.{slice_get-get_or}
-use mathlib.Core.List.{IsPrefix}
-use Rattle.query_crew.specs.Working.{HasAnswered}
+use Rattle.query_crew.proofs.Words.{◌≡◌, rules, ap, sym, subst, length, List, slice_get, Some, ◌∙◌, refl, slice_get-get_or, IsPrefix, HasAnswered}
 use Rattle.query_crew.proofs.WorkLemmas.{answered-none, pushed-more}
 use Rattle.query_crew.proofs.worker.work.Goals as goal
 

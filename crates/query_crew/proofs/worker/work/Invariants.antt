@@ -1,6 +1,4 @@
-use Rattle.std.proofs.Common.{◌≡◌, length}
-use mathlib.Core.List.{IsPrefix}
-use Rattle.query_crew.specs.Working.{HasAnswered}
+use Rattle.query_crew.proofs.Words.{◌≡◌, length, IsPrefix, HasAnswered}
 use Rattle.query_crew.proofs.worker.work.Given as goal
 
 abbrev pub invariant-loop-i : goal.invariant-loop-i

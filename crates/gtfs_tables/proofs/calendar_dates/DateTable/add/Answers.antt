@@ -1,4 +1,4 @@
-use Rattle.std.proofs.Common.{◌==◌, ◌&&◌, rules}
+use Rattle.gtfs_tables.proofs.Words.{◌==◌, ◌&&◌, rules}
 use Rattle.mt_base.specs.declared.tables.DateRow.{DateRow}
 use Rattle.gtfs_tables.proofs.KeyLemmas.{is_eq-pair, key-more}
 use Rattle.gtfs_tables.proofs.calendar_dates.DateTable.add.Goals as goal

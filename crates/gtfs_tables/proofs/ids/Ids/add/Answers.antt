@@ -1,7 +1,4 @@
-use Rattle.std.proofs.Common.{◌∙◌, Some, ap}
-use Rattle.std.proofs.lemmas.Map.Text.{btree_map_updates_text}
-use Rattle.std.specs.Prelude.{string_bytes}
-use Rattle.gtfs_tables.specs.Ids.{number_of_id}
+use Rattle.gtfs_tables.proofs.Words.{◌∙◌, Some, ap, btree_map_updates_text, string_bytes, number_of_id}
 use Rattle.gtfs_tables.proofs.IdLemmas.{adds_id}
 use Rattle.gtfs_tables.proofs.ids.Ids.add.Goals as goal
 

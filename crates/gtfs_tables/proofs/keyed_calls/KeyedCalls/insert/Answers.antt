@@ -1,4 +1,4 @@
-use Rattle.std.proofs.Common.{◌≡◌, length, refl, arith}
+use Rattle.gtfs_tables.proofs.Words.{◌≡◌, length, refl, arith}
 use Rattle.gtfs_tables.proofs.KeyedLemmas.{none-there, put, put-last}
 use Rattle.gtfs_tables.proofs.keyed_calls.KeyedCalls.insert.Goals as goal
 

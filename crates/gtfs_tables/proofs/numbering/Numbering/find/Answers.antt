@@ -1,4 +1,4 @@
-use Rattle.std.proofs.Common.{arith}
+use Rattle.gtfs_tables.proofs.Words.{arith}
 use Rattle.gtfs_tables.proofs.NumberLemmas.{name-place}
 use Rattle.gtfs_tables.proofs.numbering.Numbering.find.Goals as goal
 

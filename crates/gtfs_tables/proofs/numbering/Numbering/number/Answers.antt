@@ -1,6 +1,4 @@
-use Rattle.std.proofs.Common.{Some, sym, arith, rules}
-use Rattle.std.proofs.lemmas.Map.Text.{btree_map_updates_text}
-use Rattle.std.specs.Prelude.{string_bytes}
+use Rattle.gtfs_tables.proofs.Words.{Some, sym, arith, rules, btree_map_updates_text, string_bytes}
 use Rattle.gtfs_tables.proofs.LawNames.{distinct-more}
 use Rattle.gtfs_tables.proofs.NumberLemmas.{number_from-more}
 use Rattle.gtfs_tables.proofs.numbering.Numbering.number.Goals as goal

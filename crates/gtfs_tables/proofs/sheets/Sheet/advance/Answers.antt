@@ -1,4 +1,4 @@
-use Rattle.std.proofs.Common.{arith}
+use Rattle.gtfs_tables.proofs.Words.{arith}
 use Rattle.gtfs_tables.proofs.sheets.Sheet.advance.Goals as goal
 
 pub returns-then-not-branch-clause-advances : goal.returns-then-not-branch-clause-advances

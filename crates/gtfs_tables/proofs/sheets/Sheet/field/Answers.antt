@@ -1,4 +1,4 @@
-use Rattle.std.proofs.Common.{None, arith}
+use Rattle.gtfs_tables.proofs.Words.{None, arith}
 use Rattle.std.proofs.lemmas.List.{get_or_default}
 use Rattle.gtfs_tables.proofs.sheets.Sheet.field.Goals as goal
 

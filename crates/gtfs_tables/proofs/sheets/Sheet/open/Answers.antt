@@ -1,6 +1,4 @@
-use Rattle.std.proofs.Common.{ℕ, List, arith}
-use Rattle.csv.specs.Records.{fields_of}
-use Rattle.gtfs_tables.specs.Columns.{place_of}
+use Rattle.gtfs_tables.proofs.Words.{ℕ, List, arith, fields_of, place_of}
 use Rattle.gtfs_tables.proofs.Records.{header_good, map_joined}
 use Rattle.gtfs_tables.proofs.sheets.Sheet.open.Goals as goal
 

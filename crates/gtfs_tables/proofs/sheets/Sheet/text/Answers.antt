@@ -1,6 +1,4 @@
-use Rattle.std.proofs.Common.{sym, subst, get_or, None}
-use Rattle.std.specs.Prelude.{IsUtf8}
-use Rattle.csv.specs.Records.{fields_of}
+use Rattle.gtfs_tables.proofs.Words.{sym, subst, get_or, None, IsUtf8, fields_of}
 use Rattle.gtfs_tables.proofs.TextLemmas.{cell_text}
 use Rattle.gtfs_tables.proofs.sheets.Sheet.text.Goals as goal
 

@@ -1,5 +1,4 @@
-use Rattle.std.proofs.Common.{arith}
-use Rattle.mt_base.specs.declared.tables.StopRow.{StopRow}
+use Rattle.gtfs_tables.proofs.Words.{arith, StopRow}
 use Rattle.gtfs_tables.proofs.NumberLemmas.{place}
 use Rattle.gtfs_tables.proofs.stops.Stops.has_id.Goals as goal
 

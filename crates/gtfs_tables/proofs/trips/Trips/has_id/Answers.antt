@@ -1,5 +1,4 @@
-use Rattle.std.proofs.Common.{arith}
-use Rattle.mt_base.specs.declared.tables.TripRow.{TripRow}
+use Rattle.gtfs_tables.proofs.Words.{arith, TripRow}
 use Rattle.gtfs_tables.proofs.NumberLemmas.{place}
 use Rattle.gtfs_tables.proofs.trips.Trips.has_id.Goals as goal
 

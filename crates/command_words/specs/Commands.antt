@@ -1,0 +1,37 @@
+-- The commands as clap reads them.
+use Rattle.std.specs.Prelude.{[], ◌∷◌, true, Some, codes, fold}
+use Rattle.clap.specs.Words.{App, Rule, Text, new_app, new_rule, with_rule}
+use Rattle.clap.specs.Simple.{on_top}
+
+-- the word `FEED`: the folder of the feed
+abbrev pub feed_rule : Rule
+feed_rule = record (new_rule (codes "feed")) { required = true }
+
+-- `--from DATE`, which must be given
+abbrev pub from_rule : Rule
+from_rule = record (new_rule (codes "from")) { required = true; long = Some (codes "from") }
+
+-- an option with a value, which has a default
+abbrev pub option_rule : Text → Text → Rule
+option_rule name default = record (new_rule name) { long = Some name; defaults = default ∷ [] }
+
+-- a command without flags for help and version
+abbrev pub bare_app : Text → App
+bare_app name = on_top (λ s. record s { disable_help_flag = true; disable_version_flag = true })
+    (new_app name)
+
+-- `NAME FEED --from DATE` with its options: the commands differ in their name alone
+unfoldable pub command_app : Text → App
+command_app name = fold with_rule (bare_app name) (
+    feed_rule
+    ∷ from_rule
+    ∷ option_rule (codes "days") (codes "1")
+    ∷ option_rule (codes "slack") (codes "7")
+    ∷ option_rule (codes "stop") (codes "60")
+    ∷ option_rule (codes "change") (codes "180")
+    ∷ option_rule (codes "window") (codes "1800")
+    ∷ option_rule (codes "spare-trains") (codes "200")
+    ∷ option_rule (codes "spare-calls") (codes "4000")
+    ∷ option_rule (codes "overrides") (codes "10000")
+    ∷ option_rule (codes "workers") (codes "4")
+    ∷ [])

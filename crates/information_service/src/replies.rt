@@ -1,0 +1,148 @@
+//! Replies by the names and the timetable that they speak of.
+
+ghost use Rattle.std.specs.Prelude.{◌≡◌, ◌≤◌, ◌<◌, length, IfOk, IfSome};
+ghost use Rattle.information_service.specs.Lines.{added_name, with_added, CanBeAdded};
+ghost use Rattle.information_service.specs.Output.{reply_to_refused, IsReplyToQuery};
+
+use conn_scan::{Found, Scratch, earliest};
+use delay_model::messages::Refusal;
+use delay_report::Reply;
+use message_reader::{AskedQuery, Wire};
+use mt_base::journeys::PlanRide;
+use mt_base::memory::OutOfMemory;
+use mt_base::rows::Rows;
+use schedule_build::{Directory, ExtraName};
+use std::alloc::Global;
+use std::marker::Brand;
+use std::sync::ledger::{Blank, Ledger};
+use timetable::Timetable;
+use train_nodes::Steps;
+
+/// The name of the train that a message adds, if it adds one. `OutOfMemory` where there is no
+/// memory.
+pub fn added_name(
+    alloc: Global,
+    directory: &Directory,
+    wire: &Wire,
+) -> Result<Option<ExtraName>, OutOfMemory>
+    ensures { IfOk result (λ name. name ≡ added_name directory.now wire.now) }
+{
+    if let Wire::Extra { trip, date, .. } = wire
+        && let Some(day) = directory.day(*date)
+    {
+        return Ok(Some(directory.extra_name(alloc, trip.text(), day)?));
+    }
+    Ok(None)
+}
+
+/// Adds the name of an extra train, if there is one.
+pub fn add_name(directory: &mut Directory, name: Option<ExtraName>)
+    requires ready { IfSome name (λ n. CanBeAdded directory.old n) }
+    ensures { directory.new ≡ with_added name directory.old }
+{
+    if let Some(name) = name {
+        let _ = directory.add_extra(name);
+    }
+}
+
+/// The reply to a refused message. `OutOfMemory` where there is no memory.
+pub fn reply_to_refused(
+    alloc: Global,
+    directory: &Directory,
+    number: u64,
+    wire: &Wire,
+    refusal: &Refusal,
+) -> Result<Reply, OutOfMemory>
+    ensures { IfOk result (λ r. r ≡ reply_to_refused directory.now number wire.now refusal.now) }
+{
+    if let Wire::Extra { trip, date, .. } = wire
+        && let Refusal::AgainstRank { from, to } = refusal
+        && let Some(day) = directory.day(*date)
+    {
+        return Ok(Reply::RefusedExtra {
+            line: number,
+            trip: trip.copy(alloc)?,
+            day,
+            from: *from,
+            to: *to,
+        });
+    }
+    Ok(Reply::Refused {
+        line: number,
+        refusal: *refusal,
+    })
+}
+
+/// The same rides once more.
+fn copy_rides(alloc: Global, rides: &[PlanRide]) -> Result<Rows<PlanRide>, OutOfMemory>
+    ensures { IfOk result (λ copy. copy ≡ rides.now) }
+{
+    let mut copy = Vec::with_capacity(alloc, rides.len())?;
+    copy.extend_from_slice(rides)?;
+    Ok(Rows::build(copy))
+}
+
+/// The reply to a query by number, after so many accepted messages. The steps that it counts are
+/// not used.
+fn reply_to_query<L: Ledger>(
+    alloc: Global,
+    timetable: &Timetable,
+    scratch: &mut Scratch,
+    number: u64,
+    after: u64,
+    asked: &AskedQuery,
+    blank: Blank,
+) -> Result<Reply, OutOfMemory>
+    requires stops { length timetable.now.network.stops ≤ scratch.old.stops }
+
+    // the blank has the name and the parts of the ledger
+    requires name { blank.name ≡ L.name }
+    requires parts { blank.parts ≡ L.parts }
+    requires some { 0 < blank.parts }
+
+    // the reply, and the room that stays
+    ensures reply { IfOk result (IsReplyToQuery timetable.now.network timetable.now.state
+        after number asked.now.day asked.now.query) }
+    ensures room { scratch.new.stops ≡ scratch.old.stops }
+{
+    let mut steps = Steps::<L>::open(blank);
+    match earliest(timetable, &asked.query, scratch, &mut steps) {
+        Found::Arrives { at } => Ok(Reply::Journey {
+            line: number,
+            after,
+            day: asked.day,
+            arrives: at,
+            rides: copy_rides(alloc, scratch.rides())?,
+        }),
+        Found::NoWay => Ok(Reply::NoJourney {
+            line: number,
+            after,
+        }),
+    }
+}
+
+/// The reply to a query by number, which stands in the line of this number and is answered after so
+/// many accepted messages. `OutOfMemory` where there is no memory.
+pub fn reply_to_asked(
+    alloc: Global,
+    timetable: &Timetable,
+    scratch: &mut Scratch,
+    number: u64,
+    after: u64,
+    asked: &AskedQuery,
+) -> Result<Reply, OutOfMemory>
+    requires stops { length timetable.now.network.stops ≤ scratch.old.stops }
+    ensures reply { IfOk result (IsReplyToQuery timetable.now.network timetable.now.state
+        after number asked.now.day asked.now.query) }
+    ensures room { scratch.new.stops ≡ scratch.old.stops }
+{
+    reply_to_query::<Brand>(
+        alloc,
+        timetable,
+        scratch,
+        number,
+        after,
+        asked,
+        Blank::new(1),
+    )
+}

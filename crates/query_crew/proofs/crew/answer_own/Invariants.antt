@@ -1,8 +1,0 @@
-use Rattle.std.proofs.Common.{◌≡◌, length}
-use Rattle.query_crew.specs.Working.{HasAnswered}
-use Rattle.query_crew.proofs.crew.answer_own.Given as goal
-
-abbrev pub invariant-loop-i : goal.invariant-loop-i
-invariant-loop-i g l =
-    HasAnswered g.H.Opening.opening l.fn.publisher (length l.fn.publisher) l.fn.first l.fn.me l.fn.workers l.fn.lines l.answers.items
-    × (length l.answers.items ≡ l.i) × (l.scratch.stops ≡ l.fn.scratch.stops)

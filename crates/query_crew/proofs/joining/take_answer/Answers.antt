@@ -1,0 +1,28 @@
+use Rattle.std.proofs.Common.{◌≡◌, ◌∙◌, ◌<◌, ap, subst, sym, refl, get_or, length, arith}
+use Rattle.query_crew.specs.Joining.{IsSameBehind}
+use Rattle.query_crew.proofs.Joins.{same-behind}
+use Rattle.std.proofs.lemmas.List.{get_or_default}
+use Rattle.query_crew.proofs.Putting.{at-put}
+use Rattle.query_crew.proofs.joining.take_answer.Goals as goal
+
+pub returns-in-Query-clause-others : goal.returns-in-Query-clause-others
+returns-in-Query-clause-others g c = λ k d l.
+    let all = c.args.all.now in
+    let me = c.worker_of-me.result in
+    let x = c.index-all-me.result in
+    let y = c.take_entry.new.worker in
+    let less : me < length all = c.worker_of-me.ensures.below in
+    at-put (λ z. IsSameBehind c.args.place (get_or all k d).answers.items z.answers.items) all me k y d less
+    (λ e. subst (λ z. IsSameBehind c.args.place z.answers.items y.answers.items) (get_or_default all me x d less ∙ ap (λ i. get_or all i d) (sym e)) c.take_entry.ensures.others)
+    (λ ne. same-behind c.args.place (get_or all k d).answers.items)
+
+pub returns-in-Query-clause-scratch : goal.returns-in-Query-clause-scratch
+returns-in-Query-clause-scratch g c = λ k d l.
+    let all = c.args.all.now in
+    let me = c.worker_of-me.result in
+    let x = c.index-all-me.result in
+    let y = c.take_entry.new.worker in
+    let less : me < length all = c.worker_of-me.ensures.below in
+    at-put (λ z. z.scratch ≡ (get_or all k d).scratch) all me k y d less
+    (λ e. c.take_entry.ensures.scratch ∙ ap (λ z. z.scratch) (get_or_default all me x d less ∙ ap (λ i. get_or all i d) (sym e)))
+    (λ ne. refl)

@@ -1,0 +1,51 @@
+-- The status of a run, by how it ended.
+use Rattle.std.proofs.Common.{◌≡◌, ◌∙◌, ◌≤◌, ℕ, List, length, Option, Some, None, Result, Ok, Err, ap, inl, inr, ◌⊎◌, arith}
+use Rattle.std.proofs.lemmas.List.{length-append}
+use Rattle.std.proofs.lemmas.Option.{none-some, same_Some}
+use Rattle.std.specs.Io.KnownBytes.{Consumes}
+use Rattle.mt_io.specs.Causes.{Rose}
+use Rattle.gtfs_tables.specs.declared.refusals.FeedRefusal.{FeedRefusal}
+use Rattle.std.specs.Prelude.{IfErr, OnOk}
+use Rattle.traind.specs.Causes.{HasFaultCause}
+use Rattle.traind.specs.Statuses.{status_of}
+use Rattle.traind.specs.declared.status.Fault.{Fault}
+use Rattle.traind.specs.declared.status.Fault.TheVariants as faults
+use Rattle.traind.specs.declared.status.Status.{Status}
+use Rattle.traind.specs.declared.status.Status.TheVariants as statuses
+
+-- a run that is refused has this status, unless the feed failed or memory was wanted
+pub refused-status : (run : Result (Unit {0}) Fault) (s : Status) (why : FeedRefusal) (rose : Type 0) → (s ≡ status_of run) ⊎ (s ≡ statuses.OutOfMemory)
+    → (run ≡ Err (faults.FeedRefused why)) ⊎ (run ≡ Err faults.OutOfMemory) ⊎ ((run ≡ Err faults.ReadFault) × rose)
+    → (s ≡ statuses.FeedRefused) ⊎ (s ≡ statuses.OutOfMemory) ⊎ ((s ≡ statuses.ReadFault) × rose)
+refused-status run s why rose (inr is) h = inr (inl is)
+refused-status run s why rose (inl is) (inl h) = inl (is ∙ ap status_of h)
+refused-status run s why rose (inl is) (inr (inl h)) = inr (inl (is ∙ ap status_of h))
+refused-status run s why rose (inl is) (inr (inr h)) = inr (inr (is ∙ ap status_of h.0, h.1))
+
+-- a run that stops for no fault but want of memory has one of these two
+pub ended-well : (run : Result (Unit {0}) Fault) (s : Status) (usage : Type 0) (refused : FeedRefusal → Type 0) (read write long : Type 0) → (s ≡ status_of run) ⊎ (s ≡ statuses.OutOfMemory)
+    → IfErr run (HasFaultCause usage refused read write long) → ¬ usage → ((why : FeedRefusal) → ¬ (refused why)) → ¬ read → ¬ write → ¬ long
+    → (s ≡ statuses.Ok) ⊎ (s ≡ statuses.OutOfMemory)
+ended-well run s usage refused read write long (inr is) cause nu nf nr nw nl = inr is
+ended-well (Ok u) s usage refused read write long (inl is) cause nu nf nr nw nl = inl is
+ended-well (Err faults.Usage) s usage refused read write long (inl is) cause nu nf nr nw nl = absurd (nu cause)
+ended-well (Err (faults.FeedRefused why)) s usage refused read write long (inl is) cause nu nf nr nw nl = absurd (nf why cause)
+ended-well (Err faults.ReadFault) s usage refused read write long (inl is) cause nu nf nr nw nl = absurd (nr cause)
+ended-well (Err faults.WriteFault) s usage refused read write long (inl is) cause nu nf nr nw nl = absurd (nw cause)
+ended-well (Err faults.OutOfMemory) s usage refused read write long (inl is) cause nu nf nr nw nl = inr is
+ended-well (Err faults.TooLong) s usage refused read write long (inl is) cause nu nf nr nw nl = absurd (nl cause)
+
+-- no more bytes are taken than were left
+pub few-taken : (left now : Option (List ℕ)) (bytes all : List ℕ) → Consumes left now bytes → left ≡ Some all → length bytes ≤ length all
+few-taken None now bytes all source is = absurd (none-some all is)
+few-taken (Some xs) None bytes all source is = absurd source
+few-taken (Some xs) (Some ys) bytes all source is = omega (arith, ap length (same_Some xs all is), ap length source, length-append bytes ys)
+
+-- what holds of a run that went well
+pub went-well : (run : Result (Unit {0}) Fault) (s : Status) (P : Type 0) → (s ≡ status_of run) ⊎ (s ≡ statuses.OutOfMemory) → s ≡ statuses.Ok → OnOk run P → P
+went-well run s P h is p = grind arith
+
+-- and of one that stopped where a read failed or the input is too long
+pub was-stopped : (run : Result (Unit {0}) Fault) (s : Status) (P : Type 0) → (s ≡ status_of run) ⊎ (s ≡ statuses.OutOfMemory) → (s ≡ statuses.ReadFault) ⊎ (s ≡ statuses.TooLong)
+    → ((run ≡ Err faults.ReadFault) ⊎ (run ≡ Err faults.TooLong) → P) → P
+was-stopped run s P h is p = grind arith

@@ -1,0 +1,5 @@
+pub mod Words
+pub mod Answered
+pub mod Inputs
+pub mod Networks
+pub mod Nothing

@@ -1,0 +1,138 @@
+use Rattle.window_service.proofs.Words.{◌≡◌, ◌∙◌, ◌+◌, ◌∷◌, ◌++◌, length, ap, sym, refl, arith, [], List, ℕ, Option, true, each_fault, handed_on, on_ok_weaker, IfErr-weaker}
+use Rattle.std.proofs.Common.{Bool}
+use Rattle.std.proofs.lemmas.List.{length-map}
+use Rattle.information_service.specs.Lines.{said_by}
+use Rattle.query_crew.specs.WindowLines.{window_line}
+use Rattle.window_service.proofs.Answered.{none-read, none-answered, read-more, answered-more, all-taken, ended-all, stopped, begun-before, begun-more, begun-last, begun-so-far}
+use Rattle.window_service.proofs.Inputs.{never-stops, rose-since}
+use Rattle.window_service.proofs.windows.answer_windows.Goals as goal
+
+-- once the end was read, the same is left
+ended-same : {A : Type 0} {b : Bool} {x y : A} (left : A → Option (List ℕ)) → (b ≡ true → x ≡ y) → b ≡ true → left x ≡ left y
+ended-same left same e = ap left (same e)
+
+pub windows-init : goal.windows-init
+windows-init g c = record {
+  run = (
+    [],
+    [],
+    none-read c.args.reader.now c.args.reader.now.budget (g.S.Source.left c.args.input.now) c.requires.reader,
+    λ t is. none-answered t (g.K.Sink.written c.args.out.now) is c.requires.new c.requires.ready.board,
+  );
+  ready = c.requires.ready;
+  budget = refl;
+  read = omega arith;
+  write = omega arith;
+}
+
+pub windows-preserved : goal.windows-preserved
+windows-preserved g c =
+    let inv = c.windows.invariant in
+    let read = inv.run.2 in
+    let got = c.in_ok-end.ensures.taken in
+    let w = rw c.in-More.is at got.2 in
+    let same = ended-same g.S.Source.left c.in_ok-end.ensures.ended in
+    let lines_are = c.lines.ensures.lines ∙ w.shown in
+    record {
+      run = (
+        (all-taken read got.1 same).0,
+        inv.run.1 ++ got.0 ∷ [],
+        read-more read got.1 same _ (omega (arith, ap length (c.lines-in-More.ensures.lines ∙ w.shown), length-map got.0 (λ x. window_line c.windows.crew.directory (said_by x)))) w.ended.0,
+        λ t is.
+            let a = inv.run.3 t is in
+            answered-more a (c.in_ok-answer_window-in-More.ensures.answered t.network c.args.crew.now.directory t.state _ got.0 a.stands read.counted lines_are),
+      );
+      ready = c.in_ok-answer_window-in-More.ensures.ready;
+      budget = got.1.1.budget ∙ inv.budget;
+      read = omega (arith, inv.read, c.in_ok-end.ensures.later);
+      write = omega (arith, inv.write, c.answer_window.ensures.later);
+    }
+
+pub returns-in_err-window-clause-begun : goal.returns-in_err-window-clause-begun
+returns-in_err-window-clause-begun g c =
+    let read = none-read c.args.reader.now c.args.reader.now.budget (g.S.Source.left c.args.input.now) c.requires.reader in
+    each_fault c.from_residual.result _ (λ f t is. begun-so-far read (none-answered t (g.K.Sink.written c.args.out.now) is c.requires.new c.requires.ready.board))
+
+pub returns-in_err-end-clause-begun : goal.returns-in_err-end-clause-begun
+returns-in_err-end-clause-begun g c =
+    let run = c.windows.invariant.run in
+    let got = c.in_err-end.ensures.taken in
+    each_fault c.from_residual-in_err-end.result _ (λ f t is. begun-before run.2 got.1 (ended-same g.S.Source.left c.in_err-end.ensures.ended) (run.3 t is))
+
+pub returns-in-ReadFault : goal.returns-in-ReadFault
+returns-in-ReadFault g c =
+    let inv = c.windows.invariant in
+    let run = inv.run in
+    let got = c.in_ok-end.ensures.taken in
+    let w = rw c.in-ReadFault.is at got.2 in
+    let same = ended-same g.S.Source.left c.in_ok-end.ensures.ended in
+    let told = rw c.in-ReadFault.is at c.in_ok-end.ensures.read_fault in
+    record {
+      all = tt;
+      stopped = λ t is. stopped run.2 got.1 same (run.3 t is) w.ended.0 w.ended.1.ended w.ended.1.none;
+      begun = λ t is. begun-before run.2 got.1 same (run.3 t is);
+      fault = omega (arith, inv.read, told refl);
+      later = (omega (arith, inv.read, c.in_ok-end.ensures.later), inv.write);
+    }
+
+pub returns-in-Budget : goal.returns-in-Budget
+returns-in-Budget g c =
+    let inv = c.windows.invariant in
+    let run = inv.run in
+    let got = c.in_ok-end.ensures.taken in
+    let w = rw c.in-Budget.is at got.2 in
+    let same = ended-same g.S.Source.left c.in_ok-end.ensures.ended in
+    let all = all-taken run.2 got.1 same in
+    record {
+      all = tt;
+      stopped = λ t is. stopped run.2 got.1 same (run.3 t is) w.ended.0 w.ended.1.ended w.ended.1.none;
+      begun = λ t is. begun-before run.2 got.1 same (run.3 t is);
+      fault = (all.0, all.1.source, sym all.1.lines_so_far.taken ∙ w.ended.1.taken ∙ got.1.1.budget ∙ inv.budget);
+      later = (omega (arith, inv.read, c.in_ok-end.ensures.later), inv.write);
+    }
+
+pub returns-in_err-answer_window-in-More-clause-stopped : goal.returns-in_err-answer_window-in-More-clause-stopped
+returns-in_err-answer_window-in-More-clause-stopped g c =
+    let f = c.in_err-answer_window-in-More.field-0.0 in
+    handed_on c.from_residual-in_err-answer_window-in-More.result f _ c.from_residual-in_err-answer_window-in-More.ensures.1 (never-stops _ _ f c.in_err-answer_window-in-More.ensures.fault)
+
+pub returns-in_err-answer_window-in-More-clause-begun : goal.returns-in_err-answer_window-in-More-clause-begun
+returns-in_err-answer_window-in-More-clause-begun g c =
+    let run = c.windows.invariant.run in
+    let got = c.in_ok-end.ensures.taken in
+    let w = rw c.in-More.is at got.2 in
+    each_fault c.from_residual-in_err-answer_window-in-More.result _ (λ f t is.
+    let a = run.3 t is in
+    begun-more run.2 got.1 (ended-same g.S.Source.left c.in_ok-end.ensures.ended) a w.ended.0
+    (c.in_err-answer_window-in-More.ensures.begun t.network c.args.crew.now.directory t.state _ got.0 a.stands run.2.counted (c.lines.ensures.lines ∙ w.shown)))
+
+pub returns-in_err-answer_window-in-More-clause-fault : goal.returns-in_err-answer_window-in-More-clause-fault
+returns-in_err-answer_window-in-More-clause-fault g c =
+    let f = c.in_err-answer_window-in-More.field-0.0 in
+    handed_on c.from_residual-in_err-answer_window-in-More.result f _ c.from_residual-in_err-answer_window-in-More.ensures.1
+    (rose-since _ _ _ _ _ f c.windows.invariant.write c.in_err-answer_window-in-More.ensures.fault)
+
+pub returns-in-End : goal.returns-in-End
+returns-in-End g c =
+    let inv = c.windows.invariant in
+    let run = inv.run in
+    let got = c.in_ok-end.ensures.taken in
+    let w = rw c.in-End.is at got.2 in
+    let same = ended-same g.S.Source.left c.in_ok-end.ensures.ended in
+    let lines_are = c.lines-in-End.ensures.lines ∙ w.shown in
+    let run_is = c.answer_window-in-End in
+    let names = c.args.crew.now.directory in
+    record {
+      all = on_ok_weaker run_is.result (λ one t is.
+          let a = run.3 t is in
+          ended-all run.2 got.1 same a w.ended.0 w.ended.1 (one t.network names t.state _ got.0 a.stands run.2.counted lines_are)) run_is.ensures.answered;
+      stopped = IfErr-weaker run_is.result _ _ (λ f cause. never-stops _ _ f cause) run_is.ensures.fault;
+      begun = IfErr-weaker run_is.result _ _ (λ f b t is.
+          let a = run.3 t is in
+          begun-last run.2 got.1 same a w.ended.0 w.ended.1 (b t.network names t.state _ got.0 a.stands run.2.counted lines_are)) run_is.ensures.begun;
+      fault = IfErr-weaker run_is.result _ _ (λ f cause. rose-since _ _ _ _ _ f inv.write cause) run_is.ensures.fault;
+      later = (omega (arith, inv.read, c.in_ok-end.ensures.later), omega (arith, inv.write, run_is.ensures.later));
+    }
+
+pub returns-clause-begun : goal.returns-clause-begun
+returns-clause-begun g c = λ t is. begun-so-far c.windows.invariant.run.2 (c.windows.invariant.run.3 t is)

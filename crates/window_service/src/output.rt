@@ -1,0 +1,89 @@
+//! The whole output: the replies to all windows of the input.
+
+ghost use Rattle.std.specs.Prelude.{◌≡◌, ◌≤◌, List, ℕ, Some, true, false, OnOk, IfErr};
+ghost use Rattle.std.specs.Io.KnownBytes.{Consumes, IsAtEnd};
+ghost use Rattle.mt_io.specs.Causes.{Rose};
+ghost use Rattle.mt_io.specs.Lines.{lines_of};
+ghost use Rattle.information_service.specs.Causes.{HasLinesFaultCause, WhereLinesStop, TookAll};
+ghost use Rattle.schedule_build.specs.InStep.{AreInStep};
+ghost use Rattle.window_service.specs.Whole.{AppendsServed, AppendsWholeWindows, AppendsServedFront};
+
+use crate::windows::answer_windows;
+use information_service::LinesFault;
+use mt_io::{Gate, LineReader, Sink, Source};
+use query_crew::Crew;
+use schedule_build::Directory;
+use snapshot_board::{NewHistory, Opening, Publisher, Viewer};
+use std::alloc::Global;
+use std::sync::Wait;
+use std::thread::Threads;
+use timetable::Timetable;
+use train_nodes::Msg;
+
+/// Answers the windows of the input one after another, with so many workers beside the publisher of
+/// the messages, and writes the replies to a window when all of it is answered. The search for
+/// journeys remembers where it has been of trains below the number `trains`; for others it only
+/// takes longer. It fails with `ReadFault` where a read of the input failed, and with `TooLong`
+/// where `budget` bytes of it were taken and no end was read; then the windows that are whole among
+/// the bytes taken are answered, and no other line is. It fails with `WriteFault` where a write of
+/// the output failed, and with `OutOfMemory` where there was none, or where the number of lines
+/// comes near 2^64; then a front of an output is written.
+pub fn write_windows<
+    H: Opening<Timetable> + Send + Sync,
+    R: Threads + Wait + Sync,
+    S: Source,
+    K: Sink,
+    G: Gate + Sync,
+>(
+    rt: &R,
+    alloc: Global,
+    history: NewHistory<Msg>,
+    timetable: Timetable,
+    directory: Directory,
+    trains: u32,
+    workers: u32,
+    input: &mut S,
+    out: &mut K,
+    gate: &G,
+    budget: u64,
+) -> Result<(), LinesFault>
+    // the history of the board that is opened, and how it opens
+    requires book { history ≡ H.book }
+    requires opening { H.opening ≡ Some timetable }
+
+    // names and trains are in step, and one to sixteen workers
+    requires in_step { AreInStep directory timetable.state }
+    requires some { 1 ≤ workers }
+    requires few { workers ≤ 16 }
+
+    // all went well
+    ensures ok { OnOk result ((bytes : List ℕ) → S.left input.old ≡ Some bytes
+        → AppendsServed timetable.network directory timetable.state
+        (lines_of true bytes) (K.written out.old) (K.written out.new)) }
+    ensures ended { OnOk result (IsAtEnd (S.left input.new)) }
+
+    // what is written where the run stops
+    ensures stopped { IfErr result (WhereLinesStop ((bytes : List ℕ)
+        × Consumes (S.left input.old) (S.left input.new) bytes
+        × AppendsWholeWindows timetable.network directory timetable.state
+        (lines_of false bytes) (K.written out.old) (K.written out.new))) }
+    ensures front { IfErr result (λ f. (bytes : List ℕ) → S.left input.old ≡ Some bytes
+        → AppendsServedFront timetable.network directory timetable.state
+        (lines_of true bytes) (K.written out.old) (K.written out.new)) }
+
+    // faults have causes, and their counts do not fall
+    ensures fault { IfErr result (HasLinesFaultCause
+        (Rose (S.faults input.old) (S.faults input.new))
+        (Rose (K.faults out.old) (K.faults out.new))
+        (TookAll budget (S.left input.old) (S.left input.new))) }
+    ensures later { (S.faults input.old ≤ S.faults input.new)
+        × (K.faults out.old ≤ K.faults out.new) }
+{
+    let mut reader = LineReader::build(alloc, budget)?;
+    let mut crew: Crew<Publisher<Timetable, H>, Viewer<Timetable, H>> = Crew::build(
+        rt, alloc, history, timetable, directory, workers, trains,
+    )?;
+    let run = answer_windows(rt, alloc, &mut crew, &mut reader, input, out, gate);
+    crew.close(rt, alloc);
+    run
+}

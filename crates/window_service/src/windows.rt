@@ -1,0 +1,141 @@
+//! The windows of the input, each answered as a whole.
+
+ghost use Rattle.std.specs.Prelude.{◌≡◌, ◌≤◌, ◌+◌, ◌<◌, ◌^◌, [], List, Some, true, OnOk, IfErr, length};
+ghost use Rattle.delay_model.specs.declared.network.Network.{Network};
+ghost use Rattle.delay_model.specs.declared.state.State.{State};
+ghost use Rattle.information_service.specs.Causes.{HasLinesFaultCause, WhereLinesStop, TookAll};
+ghost use Rattle.information_service.specs.ServiceState.{service_after};
+ghost use Rattle.mt_io.specs.Causes.{Rose};
+ghost use Rattle.mt_io.specs.Lines.{Line};
+ghost use Rattle.mt_io.specs.Runs.{fresh};
+ghost use Rattle.schedule_build.specs.Directory.{Names};
+ghost use Rattle.timetable.specs.TimetableState.{TimetableState};
+ghost use Rattle.query_crew.specs.Crews.{IsReady};
+ghost use Rattle.query_crew.specs.Posting.{CanBeRun, StandsAt};
+ghost use Rattle.query_crew.specs.WindowLines.{window_lines};
+ghost use Rattle.window_service.specs.Runs.{IsAnswered, IsBegun, HasEnded, HasStopped, HasBegun};
+
+use crate::writing::write_replies;
+use information_service::LinesFault;
+use mt_io::{Gate, LineReader, Sink, Source};
+use query_crew::{Crew, Window, WindowEnd, WindowLine, read_window};
+use snapshot_board::{Opening, Publisher, Viewer};
+use std::alloc::Global;
+use std::sync::Wait;
+use std::thread::Threads;
+use timetable::Timetable;
+
+/// Runs a window and writes the replies to its lines. `first` is the number of lines before it. It
+/// fails with `WriteFault` where a write of the output failed, and with `OutOfMemory` where there
+/// was none; then the crew can only be closed.
+fn answer_window<
+    H: Opening<Timetable> + Send + Sync,
+    R: Threads + Wait + Sync,
+    K: Sink,
+    G: Gate + Sync,
+>(
+    rt: &R,
+    alloc: Global,
+    crew: &mut Crew<Publisher<Timetable, H>, Viewer<Timetable, H>>,
+    lines: &[WindowLine],
+    first: u64,
+    out: &mut K,
+    gate: &G,
+) -> Result<(), LinesFault>
+    requires ready { IsReady H.opening crew.old }
+    requires lines { CanBeRun H.opening crew.old.publisher crew.old.directory first lines.now }
+
+    // the replies to the window that these lines are, where the board stood as the lines before
+    // leave it
+    ensures answered { OnOk result ((nw : Network) (names : Names) (st : State)
+        (before window : List Line) → StandsAt H.opening crew.old.publisher crew.old.directory
+        (service_after nw names st before)
+        → first ≡ length before → lines.now ≡ window_lines crew.old.directory window
+        → IsAnswered H.opening nw names st before window crew.new.publisher crew.new.directory
+        (K.written out.old) (K.written out.new)) }
+    ensures begun { IfErr result (λ f. (nw : Network) (names : Names) (st : State)
+        (before window : List Line) → StandsAt H.opening crew.old.publisher crew.old.directory
+        (service_after nw names st before)
+        → first ≡ length before → lines.now ≡ window_lines crew.old.directory window
+        → IsBegun nw names st before window (K.written out.old) (K.written out.new)) }
+    ensures ready { OnOk result (IsReady H.opening crew.new) }
+
+    // faults have causes, and their count does not fall
+    ensures fault { IfErr result (HasLinesFaultCause ⊥
+        (Rose (K.faults out.old) (K.faults out.new)) ⊥) }
+    ensures later { K.faults out.old ≤ K.faults out.new }
+{
+    let replies = crew.run_window(rt, alloc, lines, first, gate)?;
+    write_replies(alloc, &crew.directory, replies.as_slice(), out)
+}
+
+/// Whether numbers of lines and of messages still fit after one more window.
+fn has_room(first: u64, posted: u64) -> bool
+    ensures { result ≡ true → (first + 256 < 2 ^ 64) × (posted + 256 < 2 ^ 64) }
+{
+    first.max(posted) < u64::MAX - 256
+}
+
+/// Answers each window of the input, until the input is at its end: for a new reader, and a crew to
+/// which no message was posted. It fails with `ReadFault` or `TooLong` where the reader does, when
+/// all whole windows before are answered; the window in which that came is not run. It fails with
+/// `WriteFault` where a write of the output failed, and with `OutOfMemory` where there was none, or
+/// where the number of lines comes near 2^64; then the last window may have no replies, or a part
+/// of them.
+pub(crate) fn answer_windows<
+    H: Opening<Timetable> + Send + Sync,
+    R: Threads + Wait + Sync,
+    S: Source,
+    K: Sink,
+    G: Gate + Sync,
+>(
+    rt: &R,
+    alloc: Global,
+    crew: &mut Crew<Publisher<Timetable, H>, Viewer<Timetable, H>>,
+    reader: &mut LineReader,
+    input: &mut S,
+    out: &mut K,
+    gate: &G,
+) -> Result<(), LinesFault>
+    // a new reader, and a crew to which nothing was posted
+    requires reader { reader.old ≡ fresh reader.old.budget }
+    requires ready { IsReady H.opening crew.old }
+    requires new { crew.old.publisher ≡ [] }
+
+    // what is written at the end, or where it stops, over the timetable at which the board opened
+    ensures all { OnOk result ((t : TimetableState) → H.opening ≡ Some t
+        → HasEnded t.network crew.old.directory t.state reader.new (S.left input.old)
+        (S.left input.new) (K.written out.old) (K.written out.new)) }
+    ensures stopped { IfErr result (WhereLinesStop ((t : TimetableState) → H.opening ≡ Some t
+        → HasStopped t.network crew.old.directory t.state reader.new (S.left input.old)
+        (S.left input.new) (K.written out.old) (K.written out.new))) }
+    ensures begun { IfErr result (λ f. (t : TimetableState) → H.opening ≡ Some t
+        → HasBegun t.network crew.old.directory t.state reader.new (S.left input.old)
+        (S.left input.new) (K.written out.old) (K.written out.new)) }
+
+    // faults have causes, and their counts do not fall
+    ensures fault { IfErr result (HasLinesFaultCause
+        (Rose (S.faults input.old) (S.faults input.new))
+        (Rose (K.faults out.old) (K.faults out.new))
+        (TookAll reader.old.budget (S.left input.old) (S.left input.new))) }
+    ensures later { (S.faults input.old ≤ S.faults input.new)
+        × (K.faults out.old ≤ K.faults out.new) }
+{
+    let mut window = Window::build(alloc)?;
+    let mut first = 0;
+    'windows: while has_room(first, crew.publisher.count()) {
+        let end = read_window(alloc, reader, input, &crew.directory, &mut window)?;
+        match end {
+            WindowEnd::More => {
+                answer_window(rt, alloc, crew, window.lines(), first, out, gate)?;
+                first += window.lines().len() as u64;
+            }
+            WindowEnd::End => {
+                return answer_window(rt, alloc, crew, window.lines(), first, out, gate);
+            }
+            WindowEnd::ReadFault => return Err(LinesFault::ReadFault),
+            WindowEnd::Budget => return Err(LinesFault::TooLong),
+        }
+    }
+    Err(LinesFault::OutOfMemory)
+}
