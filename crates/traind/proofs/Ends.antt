@@ -1,5 +1,5 @@
 -- How a run ends where answering the lines stops.
-use Rattle.std.proofs.Common.{◌≡◌, ◌⊎◌, Result, Ok, Err, arith}
+use Rattle.std.proofs.Common.{◌≡◌, ◌⊎◌, Result, Err, arith}
 use Rattle.std.specs.Result.{IsErrAnd}
 use Rattle.gtfs_tables.specs.declared.refusals.FeedRefusal.{FeedRefusal}
 use Rattle.information_service.specs.declared.fault.LinesFault.{LinesFault}

@@ -1,13 +1,16 @@
 -- The status of a run, by how it ended.
-use Rattle.std.proofs.Common.{◌≡◌, ◌∙◌, ◌≤◌, ℕ, List, length, Option, Some, None, Result, Ok, Err, ap, inl, inr, ◌⊎◌, arith}
+use Rattle.std.proofs.Common.{◌≡◌, ◌≢◌, ◌∙◌, ◌≤◌, ℕ, List, length, Option, Some, None, Result, Ok, Err, ap, inl, inr, ◌⊎◌, arith}
 use Rattle.std.proofs.lemmas.List.{length-append}
 use Rattle.std.proofs.lemmas.Option.{none-some, same_Some}
 use Rattle.std.specs.Io.KnownBytes.{Consumes}
 use Rattle.mt_io.specs.Causes.{Rose}
 use Rattle.gtfs_tables.specs.declared.refusals.FeedRefusal.{FeedRefusal}
 use Rattle.std.specs.Prelude.{IfErr, OnOk}
+use Rattle.command_words.specs.Words.{Asked}
 use Rattle.traind.specs.Causes.{HasFaultCause}
-use Rattle.traind.specs.Statuses.{status_of}
+use Rattle.traind.specs.Contract.{EndsAs, FeedSeen, MeetsContract, StreamSeen, Tells}
+use Rattle.traind.specs.Runs.{Output}
+use Rattle.traind.specs.Statuses.{error_line, refusal_line, status_of}
 use Rattle.traind.specs.declared.status.Fault.{Fault}
 use Rattle.traind.specs.declared.status.Fault.TheVariants as faults
 use Rattle.traind.specs.declared.status.Status.{Status}
@@ -49,3 +52,30 @@ went-well run s P h is p = grind arith
 pub was-stopped : (run : Result (Unit {0}) Fault) (s : Status) (P : Type 0) → (s ≡ status_of run) ⊎ (s ≡ statuses.OutOfMemory) → (s ≡ statuses.ReadFault) ⊎ (s ≡ statuses.TooLong)
     → ((run ≡ Err faults.ReadFault) ⊎ (run ≡ Err faults.TooLong) → P) → P
 was-stopped run s P h is p = grind arith
+
+-- a run whose end is told meets the contract of its command
+pub contract-met : {F S K : Type 0} {output : Asked → Output} {budget : ℕ} {words : List (List ℕ)} {feed : FeedSeen} {input out err : StreamSeen} {feed_old feed_new : F} {input_old input_new : S} {out_old out_new : K} (run : Result (Unit {0}) Fault) (s : Status)
+    → EndsAs output budget words feed input out feed_old feed_new input_old input_new out_old out_new run → (s ≡ status_of run) ⊎ (s ≡ statuses.OutOfMemory)
+    → (s ≡ statuses.FeedRefused → (why : FeedRefusal) × (run ≡ Err (faults.FeedRefused why)) × Tells err (refusal_line why)) → (s ≢ statuses.FeedRefused → Tells err (error_line s))
+    → MeetsContract output budget words feed input out err feed_old feed_new input_old input_new out_old out_new s
+contract-met {feed = feed} {input = input} run s e status refused_line told = record {
+  usage = grind (arith, status, e.fault);
+  usage_exactly = grind (arith, status, e.no_words);
+  usage_untouched = e.usage_untouched;
+  refused = λ is.
+      let p = refused_line is in
+      let cause = rw p.1 at e.fault in
+      (p.0, cause.0, p.2);
+  refused_exactly = λ why to_be. refused-status run s why (Rose feed.faults feed.faults_after) status (e.refused why to_be);
+  untouched = grind (arith, status, e.fault);
+  refused_untouched = e.refused_untouched;
+  ok = λ is. went-well run s _ status is e.ok;
+  ended = λ is. went-well run s _ status is e.ended;
+  stopped = λ is. was-stopped run s _ status is e.stopped;
+  front = e.front;
+  read_fault = grind (arith, status, e.fault);
+  write_fault = grind (arith, status, e.fault);
+  too_long = grind (arith, status, e.fault);
+  complete = λ can feed_well input_well out_well. ended-well run s _ _ _ _ _ status e.fault (λ u. grind arith) (λ why r. grind arith) (λ r. grind arith) out_well (λ l. omega (arith, few-taken input.bytes input.bytes_after l.0 can.bytes l.1 can.told, l.2, can.short));
+  error_line = told;
+}

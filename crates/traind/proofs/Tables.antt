@@ -1,7 +1,6 @@
 -- What the words and the feed give is one thing.
 use Rattle.std.proofs.Common.{◌≡◌, ◌∙◌, ℕ, List, [], Option, Some, Ok, arith, refl, sym, ap, subst, false, inl, inr}
 use Rattle.std.proofs.KnownBytes.{Appends-nil}
-use Rattle.std.proofs.lemmas.Option.{same_Some}
 use Rattle.delay_model.specs.declared.network.Network.{Network}
 use Rattle.delay_model.specs.declared.state.State.{State}
 use Rattle.command_words.specs.declared.words.Command.{Command}
@@ -12,7 +11,7 @@ use Rattle.gtfs_tables.specs.Feeds.{Files}
 use Rattle.schedule_build.specs.Directory.{Names}
 use Rattle.mt_base.specs.declared.tables.Tables.{Tables}
 use Rattle.mt_io.specs.Lines.{Line, lines_of}
-use Rattle.information_service.specs.Fronts.{AppendsAll, AppendsFirst, AppendsWholeFront}
+use Rattle.information_service.specs.Fronts.{AppendsAll, AppendsWholeFront}
 use Rattle.information_service.specs.Networks.{IsSame}
 use Rattle.information_service.proofs.Networks.{output-same, replies-same}
 use Rattle.information_service.proofs.Fronts.{front_all, front_none}

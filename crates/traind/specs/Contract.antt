@@ -1,6 +1,6 @@
 -- What a command of the program promises of each run, whatever its feed, its input and its outputs
 -- do.
-use Rattle.std.specs.Prelude.{ℕ, ◌≡◌, ◌≢◌, ◌⊎◌, ◌^◌, List, None, Some}
+use Rattle.std.specs.Prelude.{ℕ, ◌≡◌, ◌≢◌, ◌⊎◌, ◌^◌, List, None, Some, Result, Err, OnOk, IfErr}
 use Rattle.std.specs.declared.option.Option.{Option}
 use Rattle.std.specs.Io.KnownBytes.{Appends, IsAtEnd}
 use Rattle.command_words.specs.Words.{Asked, asked_of}
@@ -8,8 +8,11 @@ use Rattle.gtfs_tables.specs.declared.refusals.FeedRefusal.{FeedRefusal}
 use Rattle.information_service.specs.Causes.{TookAll}
 use Rattle.mt_io.specs.Causes.{Rose}
 use Rattle.gtfs_tables.specs.Feeds.{Files}
+use Rattle.traind.specs.Causes.{HasFaultCause}
 use Rattle.traind.specs.Runs.{CanEnd, IsRefused, Output, WritesAll, WritesFront, WritesReplies}
 use Rattle.traind.specs.Statuses.{error_line, refusal_line}
+use Rattle.traind.specs.declared.status.Fault.{Fault}
+use Rattle.traind.specs.declared.status.Fault.TheVariants as faults
 use Rattle.traind.specs.declared.status.Status.{Status}
 use Rattle.traind.specs.declared.status.Status.TheVariants.{Ok, Usage, FeedRefused, ReadFault, WriteFault, OutOfMemory, TooLong}
 
@@ -53,6 +56,42 @@ stream_seen bytes faults old new = record {
 abbrev pub Tells : StreamSeen → List ℕ → Type 0
 Tells err line =
     ¬ (Rose err.faults err.faults_after) → Appends err.bytes err.bytes_after line
+
+-- How a run of a command ends, before its status is told. It had these words; it found the feed,
+-- the input and the output as the first of each pair and left them as the second
+pub record EndsAs {F S K : Type 0} (output : Asked → Output) (budget : ℕ)
+    (words : List (List ℕ)) (feed : FeedSeen) (input out : StreamSeen)
+    (feed_old feed_new : F) (input_old input_new : S) (out_old out_new : K)
+    (run : Result (Unit {0}) Fault) : Type 0 where
+  -- all went well: the whole output of all lines of the input is written
+  pub ok : OnOk run (WritesAll output words feed.tables input.bytes out.bytes out.bytes_after)
+  -- and the input is at its end
+  pub ended : OnOk run (IsAtEnd input.bytes_after)
+  -- words that ask for nothing, which touch nothing
+  pub no_words : asked_of words ≡ None → (run ≡ Err faults.Usage) ⊎ (run ≡ Err faults.OutOfMemory)
+  pub usage_untouched : asked_of words ≡ None → (feed_new ≡ feed_old)
+      × (input_new ≡ input_old) × (out_new ≡ out_old)
+  -- a feed that is to be refused, for which nothing is read from the input or written
+  pub refused : (why : FeedRefusal) → IsRefused words feed.tables why
+      → (run ≡ Err (faults.FeedRefused why)) ⊎ (run ≡ Err faults.OutOfMemory)
+      ⊎ ((run ≡ Err faults.ReadFault) × Rose feed.faults feed.faults_after)
+  pub refused_untouched : (why : FeedRefusal) → IsRefused words feed.tables why
+      → (input_new ≡ input_old) × (out_new ≡ out_old)
+  -- why the run stops
+  pub fault : IfErr run (HasFaultCause
+      ((asked_of words ≡ None) × (feed_new ≡ feed_old) × (input_new ≡ input_old)
+      × (out_new ≡ out_old))
+      (λ why. ((told : Files) → feed.tables ≡ Some told → IsRefused words feed.tables why)
+      × (input_new ≡ input_old) × (out_new ≡ out_old))
+      (((input_new ≡ input_old) × (out_new ≡ out_old) × Rose feed.faults feed.faults_after)
+      ⊎ Rose input.faults input.faults_after)
+      (Rose out.faults out.faults_after)
+      (TookAll budget input.bytes input.bytes_after))
+  -- and what is written then
+  pub stopped : (run ≡ Err faults.ReadFault) ⊎ (run ≡ Err faults.TooLong)
+      → WritesReplies output words feed.tables input.bytes input.bytes_after out.bytes
+      out.bytes_after
+  pub front : WritesFront output words feed.tables input.bytes out.bytes out.bytes_after
 
 -- The contract of a command, whose output may be another for other words. The run had these words;
 -- it found the feed, the input and the output as the first of each pair and left them as the

@@ -1,15 +1,11 @@
 //! The program as a call: its commands over any feed, input and outputs.
 
-ghost use Rattle.std.specs.Prelude.{◌≡◌, ◌≢◌, ◌≤◌, ◌⊎◌, map, None, Some, Err, true, false, OnOk, IfErr, string_bytes};
-ghost use Rattle.std.specs.Io.KnownBytes.{Appends, IsAtEnd};
-ghost use Rattle.command_words.specs.Words.{asked_of};
+ghost use Rattle.std.specs.Prelude.{◌≡◌, ◌≢◌, ◌≤◌, ◌⊎◌, map, Err, true, false, string_bytes};
+ghost use Rattle.std.specs.Io.KnownBytes.{Appends};
 ghost use Rattle.gtfs_tables.specs.declared.refusals.FeedRefusal.{FeedRefusal};
-ghost use Rattle.information_service.specs.Causes.{TookAll};
 ghost use Rattle.mt_io.specs.Causes.{Rose};
-ghost use Rattle.traind.specs.Causes.{HasFaultCause};
-ghost use Rattle.gtfs_tables.specs.Feeds.{Files};
-ghost use Rattle.traind.specs.Contract.{MeetsContract, byte_budget, feed_seen, stream_seen};
-ghost use Rattle.traind.specs.Runs.{AskFor, IsRefused, WritesAll, WritesReplies, WritesFront, output_of};
+ghost use Rattle.traind.specs.Contract.{EndsAs, MeetsContract, byte_budget, feed_seen, stream_seen};
+ghost use Rattle.traind.specs.Runs.{AskFor, output_of};
 ghost use Rattle.traind.specs.Statuses.{error_line, refusal_line, status_of};
 ghost use Rattle.traind.specs.declared.status.Fault.TheVariants as faults;
 
@@ -38,42 +34,11 @@ fn times_words<F: Feed, S: Source, K: Sink>(
 ) -> Result<(), Fault>
     requires command { AskFor Command.Times (map string_bytes words.now) }
 
-    // all went well
-    ensures ok { OnOk result (WritesAll output_of (map string_bytes words.now)
-        (F.tables feed.old) (S.left input.old) (K.written out.old) (K.written out.new)) }
-    ensures ended { OnOk result (IsAtEnd (S.left input.new)) }
-
-    // words that ask for nothing
-    ensures no_words { asked_of (map string_bytes words.now) ≡ None
-        → (result ≡ Err faults.Usage) ⊎ (result ≡ Err faults.OutOfMemory) }
-    ensures usage_untouched { asked_of (map string_bytes words.now) ≡ None → (feed.new ≡ feed.old)
-        × (input.new ≡ input.old) × (out.new ≡ out.old) }
-
-    // a feed that is to be refused
-    ensures refused { (why : FeedRefusal) → IsRefused (map string_bytes words.now)
-        (F.tables feed.old) why
-        → (result ≡ Err (faults.FeedRefused why)) ⊎ (result ≡ Err faults.OutOfMemory) ⊎
-        ((result ≡ Err faults.ReadFault) × Rose (F.faults feed.old) (F.faults feed.new)) }
-    ensures refused_untouched { (why : FeedRefusal) → IsRefused (map string_bytes words.now)
-        (F.tables feed.old) why → (input.new ≡ input.old) × (out.new ≡ out.old) }
-
-    // why the run stops, and what is written then
-    ensures fault { IfErr result (HasFaultCause
-        ((asked_of (map string_bytes words.now) ≡ None) × (feed.new ≡ feed.old)
-        × (input.new ≡ input.old) × (out.new ≡ out.old))
-        (λ why. ((told : Files) → F.tables feed.old ≡ Some told
-        → IsRefused (map string_bytes words.now) (F.tables feed.old) why)
-        × (input.new ≡ input.old) × (out.new ≡ out.old))
-        (((input.new ≡ input.old) × (out.new ≡ out.old)
-        × Rose (F.faults feed.old) (F.faults feed.new)) ⊎ Rose (S.faults input.old)
-        (S.faults input.new))
-        (Rose (K.faults out.old) (K.faults out.new))
-        (TookAll budget (S.left input.old) (S.left input.new))) }
-    ensures stopped { (result ≡ Err faults.ReadFault) ⊎ (result ≡ Err faults.TooLong)
-        → WritesReplies output_of (map string_bytes words.now) (F.tables feed.old)
-        (S.left input.old) (S.left input.new) (K.written out.old) (K.written out.new) }
-    ensures front { WritesFront output_of (map string_bytes words.now) (F.tables feed.old)
-        (S.left input.old) (K.written out.old) (K.written out.new) }
+    ensures run { EndsAs output_of budget (map string_bytes words.now)
+        (feed_seen F.tables F.faults feed.old feed.new)
+        (stream_seen S.left S.faults input.old input.new)
+        (stream_seen K.written K.faults out.old out.new)
+        feed.old feed.new input.old input.new out.old out.new result }
 {
     let asked = read_words(alloc, words)?;
     let mut service = load_service(alloc, &asked, feed)?;
@@ -94,42 +59,11 @@ fn serve_words<R: Threads + Wait + Sync, F: Feed, S: Source, K: Sink, G: Gate + 
 ) -> Result<(), Fault>
     requires command { AskFor Command.Serve (map string_bytes words.now) }
 
-    // all went well
-    ensures ok { OnOk result (WritesAll output_of (map string_bytes words.now)
-        (F.tables feed.old) (S.left input.old) (K.written out.old) (K.written out.new)) }
-    ensures ended { OnOk result (IsAtEnd (S.left input.new)) }
-
-    // words that ask for nothing
-    ensures no_words { asked_of (map string_bytes words.now) ≡ None
-        → (result ≡ Err faults.Usage) ⊎ (result ≡ Err faults.OutOfMemory) }
-    ensures usage_untouched { asked_of (map string_bytes words.now) ≡ None → (feed.new ≡ feed.old)
-        × (input.new ≡ input.old) × (out.new ≡ out.old) }
-
-    // a feed that is to be refused
-    ensures refused { (why : FeedRefusal) → IsRefused (map string_bytes words.now)
-        (F.tables feed.old) why
-        → (result ≡ Err (faults.FeedRefused why)) ⊎ (result ≡ Err faults.OutOfMemory) ⊎
-        ((result ≡ Err faults.ReadFault) × Rose (F.faults feed.old) (F.faults feed.new)) }
-    ensures refused_untouched { (why : FeedRefusal) → IsRefused (map string_bytes words.now)
-        (F.tables feed.old) why → (input.new ≡ input.old) × (out.new ≡ out.old) }
-
-    // why the run stops, and what is written then
-    ensures fault { IfErr result (HasFaultCause
-        ((asked_of (map string_bytes words.now) ≡ None) × (feed.new ≡ feed.old)
-        × (input.new ≡ input.old) × (out.new ≡ out.old))
-        (λ why. ((told : Files) → F.tables feed.old ≡ Some told
-        → IsRefused (map string_bytes words.now) (F.tables feed.old) why)
-        × (input.new ≡ input.old) × (out.new ≡ out.old))
-        (((input.new ≡ input.old) × (out.new ≡ out.old)
-        × Rose (F.faults feed.old) (F.faults feed.new)) ⊎ Rose (S.faults input.old)
-        (S.faults input.new))
-        (Rose (K.faults out.old) (K.faults out.new))
-        (TookAll budget (S.left input.old) (S.left input.new))) }
-    ensures stopped { (result ≡ Err faults.ReadFault) ⊎ (result ≡ Err faults.TooLong)
-        → WritesReplies output_of (map string_bytes words.now) (F.tables feed.old)
-        (S.left input.old) (S.left input.new) (K.written out.old) (K.written out.new) }
-    ensures front { WritesFront output_of (map string_bytes words.now) (F.tables feed.old)
-        (S.left input.old) (K.written out.old) (K.written out.new) }
+    ensures run { EndsAs output_of budget (map string_bytes words.now)
+        (feed_seen F.tables F.faults feed.old feed.new)
+        (stream_seen S.left S.faults input.old input.new)
+        (stream_seen K.written K.faults out.old out.new)
+        feed.old feed.new input.old input.new out.old out.new result }
 {
     let asked = read_words(alloc, words)?;
     let loaded = load_timetable(alloc, &asked, feed)?;

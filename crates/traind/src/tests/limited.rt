@@ -26,12 +26,12 @@ fn window_text<H: Opening<Timetable> + Send + Sync, R: Threads + Wait + Sync>(
     rt: &R,
     alloc: Global,
     crew: &mut Crew<Publisher<Timetable, H>, Viewer<Timetable, H>>,
-    text: &str,
+    text: &[u8],
 ) -> Result<Vec<u8>, OutOfMemory>
     requires ready { IsReady H.opening crew.old }
     requires new { crew.old.publisher ≡ [] }
 {
-    let mut input = SureSource::build(Vec::from_slice(alloc, text.as_bytes())?, 100);
+    let mut input = SureSource::build(Vec::from_slice(alloc, text)?, 100);
     let mut reader = LineReader::build(alloc, 10_000)?;
     let mut window = Window::build(alloc)?;
     let _ = read_window(alloc, &mut reader, &mut input, &crew.directory, &mut window)?;
@@ -51,7 +51,7 @@ fn limited_text<H: Opening<Timetable> + Send + Sync, R: Threads + Wait + Sync>(
     timetable: Timetable,
     directory: Directory,
     viewers: u32,
-    text: &str,
+    text: &[u8],
 ) -> Result<Vec<u8>, OutOfMemory>
     requires book { history ≡ H.book }
     requires opening { H.opening ≡ Some timetable }
@@ -70,7 +70,7 @@ fn shown_by<R: Threads + Wait + Sync>(
     rt: &R,
     alloc: Global,
     viewers: u32,
-    text: &str,
+    text: &[u8],
 ) -> Result<Vec<u8>, Fail> {
     let words = words_of_serve(alloc, "4")?;
     let asked = read_words(alloc, &words)?;
@@ -100,9 +100,9 @@ fn the_publisher_answers_where_a_worker_has_no_viewer(rt: HostRuntime) -> Result
         scheduled(alloc, 1)?,
         scheduled(alloc, 3)?
     )?;
-    let shown = shown_by(&rt, alloc, 0, text.as_str())?;
+    let shown = shown_by(&rt, alloc, 0, text.as_bytes())?;
     assert_eq!(rt; shown.as_slice(), all.as_bytes());
-    let shown = shown_by(&rt, alloc, 1, text.as_str())?;
+    let shown = shown_by(&rt, alloc, 1, text.as_bytes())?;
     let is_one_of = [&all, &early, &none]
         .iter()
         .any(|it| shown.as_slice() == it.as_bytes());

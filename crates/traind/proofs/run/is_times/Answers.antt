@@ -1,4 +1,4 @@
-use Rattle.std.proofs.Common.{◌≡◌, ◌∙◌, sym, ap, true, false, bytes_eq, codes, string_bytes, rules}
+use Rattle.std.proofs.Common.{◌≡◌, true, false, bytes_eq, codes, string_bytes, rules}
 use Rattle.command_words.specs.declared.words.Command.TheVariants.{Times, Serve}
 use Rattle.traind.proofs.Commands.{asked-first, asked-none, times-asked, serve-asked}
 use Rattle.traind.proofs.run.is_times.Goals as goal

@@ -1,0 +1,163 @@
+-- How a run ends: words that are not read, a feed that is not loaded, lines that are answered.
+use Rattle.std.proofs.Common.{◌≡◌, ◌⊎◌, ◌∙◌, ℕ, List, [], Option, Some, None, Result, Ok, Err, arith, refl, sym, subst, true, false, inl, inr}
+use Rattle.std.proofs.lemmas.Option.{none-some}
+use Rattle.std.specs.Io.KnownBytes.{Consumes, IsAtEnd}
+use Rattle.std.specs.Result.{IsErrAnd}
+use Rattle.mt_base.specs.declared.tables.Tables.{Tables}
+use Rattle.delay_model.specs.declared.network.Network.{Network}
+use Rattle.delay_model.specs.declared.state.State.{State}
+use Rattle.command_words.specs.declared.words.Command.{Command}
+use Rattle.command_words.specs.declared.words.WordsFault.{WordsFault}
+use Rattle.command_words.specs.declared.words.WordsFault.TheVariants as words_faults
+use Rattle.command_words.specs.Words.{Asked, asked_of}
+use Rattle.gtfs_tables.specs.declared.refusals.FeedError.{FeedError}
+use Rattle.gtfs_tables.specs.declared.refusals.FeedError.TheVariants as feeds
+use Rattle.gtfs_tables.specs.declared.refusals.FeedRefusal.{FeedRefusal}
+use Rattle.gtfs_tables.specs.Feeds.{Files}
+use Rattle.gtfs_tables.specs.Refusals.{IsErrorOf}
+use Rattle.information_service.specs.Causes.{HasLinesFaultCause, TookAll, WhereLinesStop}
+use Rattle.information_service.specs.declared.fault.LinesFault.{LinesFault}
+use Rattle.information_service.specs.Fronts.{AppendsAll, AppendsWholeFront}
+use Rattle.information_service.specs.Networks.{IsSame}
+use Rattle.mt_io.specs.Causes.{Rose}
+use Rattle.mt_io.specs.Lines.{lines_of}
+use Rattle.mt_io.proofs.Gives.{consumes_none}
+use Rattle.schedule_build.specs.Directory.{Names}
+use Rattle.traind.specs.Causes.{HasFaultCause}
+use Rattle.traind.specs.Contract.{EndsAs, FeedSeen, StreamSeen}
+use Rattle.traind.specs.Feeds.{network, tables_in, asked_in}
+use Rattle.traind.specs.Runs.{IsRefused, output_for, output_of}
+use Rattle.traind.specs.Statuses.{feed_fault, lines_fault, words_fault}
+use Rattle.traind.specs.declared.status.Fault.{Fault}
+use Rattle.traind.specs.declared.status.Fault.TheVariants as faults
+use Rattle.traind.proofs.Ends.{cause_of_lines, stopped_lines}
+use Rattle.traind.proofs.Tables.{same-start, not-refused, output-is, replies-are, front-is, whole-is-front, none-written, none-front}
+
+-- a run that stops
+abbrev stops : Fault → Result (Unit {0}) Fault
+stops f = Err f
+
+is-err : (run : Result (Unit {0}) Fault) (f : Fault) → IsErrAnd run (λ e. e ≡ f) → stops f ≡ run
+is-err (Ok u) f is = absurd is
+is-err (Err e) f is = grind (arith, is)
+
+-- a run that read nothing from the input and wrote nothing to the output
+abbrev pub Untouched : {F S K : Type 0} → (budget : ℕ) (words : List (List ℕ)) (feed : FeedSeen) (left written : Option (List ℕ)) (reads reads_after writes writes_after : ℕ) (before after : F) (input : S) (out : K) → Result (Unit {0}) Fault → Type 0
+Untouched budget words feed left written reads reads_after writes writes_after before after input out run =
+    EndsAs output_of budget words feed (record { bytes = left; bytes_after = left; faults = reads; faults_after = reads_after }) (record { bytes = written; bytes_after = written; faults = writes; faults_after = writes_after }) before after input input out out run
+
+usage_or_memory : (f : WordsFault) → (stops (words_fault f) ≡ stops faults.Usage) ⊎ (stops (words_fault f) ≡ stops faults.OutOfMemory)
+usage_or_memory words_faults.Usage = inl refl
+usage_or_memory words_faults.OutOfMemory = inr refl
+
+is_memory : (f : WordsFault) → ¬ (f ≡ words_faults.Usage) → stops (words_fault f) ≡ stops faults.OutOfMemory
+is_memory words_faults.Usage not_usage = absurd (not_usage refl)
+is_memory words_faults.OutOfMemory not_usage = refl
+
+words_cause : (f : WordsFault) (none : Type 0) (refused : FeedRefusal → Type 0) (read write long : Type 0) → (f ≡ words_faults.Usage → none) → HasFaultCause none refused read write long (words_fault f)
+words_cause words_faults.Usage none refused read write long usage = usage refl
+words_cause words_faults.OutOfMemory none refused read write long usage = tt
+
+not_read : {F S K : Type 0} {budget : ℕ} {words : List (List ℕ)} {feed : FeedSeen} {left written : Option (List ℕ)} {reads reads_after writes writes_after : ℕ} {before : F} {input : S} {out : K} (f : WordsFault) → (f ≡ words_faults.Usage → asked_of words ≡ None)
+    → Untouched budget words feed left written reads reads_after writes writes_after before before input out (stops (words_fault f))
+not_read {left = left} {written = written} f usage = record {
+  ok = tt;
+  ended = tt;
+  no_words = λ none. usage_or_memory f;
+  usage_untouched = λ none. (refl, refl, refl);
+  refused = λ why r. inr (inl (is_memory f (λ is. none-some r.asked (sym (usage is) ∙ r.asked_is))));
+  refused_untouched = λ why r. (refl, refl);
+  fault = words_cause f _ _ _ _ _ (λ is. (usage is, refl, refl, refl));
+  stopped = λ is nw st names loads. ([], consumes_none left, none-written loads.asked nw names st written);
+  front = λ nw st names bytes loads is. none-front loads.asked nw names st (lines_of true bytes) written;
+}
+
+-- words that are not read touch nothing
+pub words-not-read : {F S K : Type 0} {budget : ℕ} {words : List (List ℕ)} {feed : FeedSeen} {left written : Option (List ℕ)} {reads reads_after writes writes_after : ℕ} {before : F} {input : S} {out : K} (run : Result (Unit {0}) Fault) (f : WordsFault) → IsErrAnd run (λ e. e ≡ words_fault f)
+    → (f ≡ words_faults.Usage → asked_of words ≡ None) → Untouched budget words feed left written reads reads_after writes writes_after before before input out run
+words-not-read {budget = budget} {words = words} {feed = feed} {left = left} {written = written} {reads = reads} {reads_after = reads_after} {writes = writes} {writes_after = writes_after} {before = before} {input = input} {out = out} run f is usage =
+    subst (Untouched budget words feed left written reads reads_after writes writes_after before before input out) (is-err run (words_fault f) is) (not_read f usage)
+
+module _ (words : List (List ℕ)) (feed : FeedSeen) (a : Asked) (asked : asked_of words ≡ Some a) where
+  feed_cause : (f : FeedError) (usage one two read write long : Type 0) → one → two → ((told : Files) → feed.tables ≡ Some told → IsErrorOf f (asked_in told a)) → (f ≡ feeds.ReadFault → Rose feed.faults feed.faults_after)
+      → HasFaultCause usage (λ why. ((told : Files) → feed.tables ≡ Some told → IsRefused words feed.tables why) × one × two) ((one × two × Rose feed.faults feed.faults_after) ⊎ read) write long (feed_fault f)
+  feed_cause (feeds.Refused why) usage one two read write long x y gives rose = (λ told is. record { asked = a; told = told; asked_is = asked; told_is = is; refused = gives told is }, x, y)
+  feed_cause feeds.ReadFault usage one two read write long x y gives rose = inl (x, y, rose refl)
+  feed_cause feeds.OutOfMemory usage one two read write long x y gives rose = tt
+
+  is_refused : (f : FeedError) (rose : Type 0) (why : FeedRefusal) → (f ≡ feeds.ReadFault → rose) → ((told : Files) → feed.tables ≡ Some told → IsErrorOf f (asked_in told a)) → IsRefused words feed.tables why
+      → (stops (feed_fault f) ≡ stops (faults.FeedRefused why)) ⊎ (stops (feed_fault f) ≡ stops faults.OutOfMemory) ⊎ ((stops (feed_fault f) ≡ stops faults.ReadFault) × rose)
+  is_refused (feeds.Refused first) rose why failed gives r = inl (grind (arith, asked, r.asked_is, gives r.told r.told_is, r.refused))
+  is_refused feeds.ReadFault rose why failed gives r = inr (inr (refl, failed refl))
+  is_refused feeds.OutOfMemory rose why failed gives r = inr (inl refl)
+
+  not_loaded : {F S K : Type 0} {budget : ℕ} {left written : Option (List ℕ)} {reads reads_after writes writes_after : ℕ} {before after : F} {input : S} {out : K} (f : FeedError) → ((told : Files) → feed.tables ≡ Some told → IsErrorOf f (asked_in told a))
+      → (f ≡ feeds.ReadFault → Rose feed.faults feed.faults_after) → Untouched budget words feed left written reads reads_after writes writes_after before after input out (stops (feed_fault f))
+  not_loaded {left = left} {written = written} f gives rose = record {
+    ok = tt;
+    ended = tt;
+    no_words = λ none. absurd (none-some a (sym none ∙ asked));
+    usage_untouched = λ none. absurd (none-some a (sym none ∙ asked));
+    refused = λ why r. is_refused f (Rose feed.faults feed.faults_after) why rose gives r;
+    refused_untouched = λ why r. (refl, refl);
+    fault = feed_cause f _ _ _ _ _ _ refl refl gives rose;
+    stopped = λ is nw st names loads. ([], consumes_none left, none-written loads.asked nw names st written);
+    front = λ nw st names bytes loads is. none-front loads.asked nw names st (lines_of true bytes) written;
+  }
+
+  -- where a feed is not loaded, nothing is read from the input or written to the output
+  pub feed-not-loaded : {F S K : Type 0} {budget : ℕ} {left written : Option (List ℕ)} {reads reads_after writes writes_after : ℕ} {before after : F} {input : S} {out : K} (run : Result (Unit {0}) Fault) (f : FeedError) → IsErrAnd run (λ e. e ≡ feed_fault f)
+      → ((told : Files) → feed.tables ≡ Some told → IsErrorOf f (asked_in told a)) → (f ≡ feeds.ReadFault → Rose feed.faults feed.faults_after)
+      → Untouched budget words feed left written reads reads_after writes writes_after before after input out run
+  feed-not-loaded {budget = budget} {left = left} {written = written} {reads = reads} {reads_after = reads_after} {writes = writes} {writes_after = writes_after} {before = before} {after = after} {input = input} {out = out} run f is gives rose =
+      subst (Untouched budget words feed left written reads reads_after writes writes_after before after input out) (is-err run (feed_fault f) is) (not_loaded f gives rose)
+
+not_stopped : {P : Type 0} → (Ok tt ≡ stops faults.ReadFault) ⊎ (Ok tt ≡ stops faults.TooLong) → P
+not_stopped (inl is) = absurd cc
+not_stopped (inr is) = absurd cc
+
+module _ {F S K : Type 0} {budget : ℕ} {words : List (List ℕ)} {feed : FeedSeen} {input out : StreamSeen} {feed_old feed_new : F} {input_old input_new : S} {out_old out_new : K} {c : Command} {a : Asked} {loaded : Network} {st : State} {names : Names}
+    (asked : asked_of words ≡ Some a) (held : (told : Files) → feed.tables ≡ Some told → asked_in told a ≡ Ok (st, names))
+    (same : (told : Files) (rows : Tables) → feed.tables ≡ Some told → tables_in told a ≡ Ok rows → IsSame (network rows a.opts) loaded) (command : a.command ≡ c) where
+  -- all lines are answered
+  pub all-answered : ((bytes : List ℕ) → input.bytes ≡ Some bytes → AppendsAll ((output_for c).IsWhole loaded names st (lines_of true bytes)) out.bytes out.bytes_after) → IsAtEnd input.bytes_after
+      → EndsAs output_of budget words feed input out feed_old feed_new input_old input_new out_old out_new (Ok tt)
+  all-answered whole end = record {
+    ok = λ nw first named bytes loads left. output-is (same-start words feed.tables a loaded st names asked held same nw first named loads) command (lines_of true bytes) out.bytes out.bytes_after (whole bytes left);
+    ended = end;
+    no_words = λ none. absurd (none-some a (sym none ∙ asked));
+    usage_untouched = λ none. absurd (none-some a (sym none ∙ asked));
+    refused = λ why r. absurd (not-refused words feed.tables a st names asked held why r);
+    refused_untouched = λ why r. absurd (not-refused words feed.tables a st names asked held why r);
+    fault = tt;
+    stopped = λ is. not_stopped is;
+    front = λ nw first named bytes loads left. whole-is-front ((output_of loads.asked).IsWhole nw named first) ((output_of loads.asked).AreReplies nw named first) (lines_of true bytes) out.bytes out.bytes_after
+        (output-is (same-start words feed.tables a loaded st names asked held same nw first named loads) command (lines_of true bytes) out.bytes out.bytes_after (whole bytes left));
+  }
+
+  stopped_early : (f : LinesFault)
+      → WhereLinesStop ((bytes : List ℕ) × Consumes input.bytes input.bytes_after bytes × AppendsAll ((output_for c).AreReplies loaded names st (lines_of false bytes)) out.bytes out.bytes_after) f
+      → ((bytes : List ℕ) → input.bytes ≡ Some bytes → AppendsWholeFront ((output_for c).IsWhole loaded names st) ((output_for c).AreReplies loaded names st) (lines_of true bytes) out.bytes out.bytes_after)
+      → HasLinesFaultCause (Rose input.faults input.faults_after) (Rose out.faults out.faults_after) (TookAll budget input.bytes input.bytes_after) f
+      → EndsAs output_of budget words feed input out feed_old feed_new input_old input_new out_old out_new (stops (lines_fault f))
+  stopped_early f stopped front cause = record {
+    ok = tt;
+    ended = tt;
+    no_words = λ none. absurd (none-some a (sym none ∙ asked));
+    usage_untouched = λ none. absurd (none-some a (sym none ∙ asked));
+    refused = λ why r. absurd (not-refused words feed.tables a st names asked held why r);
+    refused_untouched = λ why r. absurd (not-refused words feed.tables a st names asked held why r);
+    fault = cause_of_lines _ _ _ _ _ _ f inr cause;
+    stopped = λ is nw first named loads.
+        let had = stopped_lines (stops (lines_fault f)) _ f refl stopped is in
+        (had.0, had.1, replies-are (same-start words feed.tables a loaded st names asked held same nw first named loads) command (lines_of false had.0) out.bytes out.bytes_after had.2);
+    front = λ nw first named bytes loads left. front-is (same-start words feed.tables a loaded st names asked held same nw first named loads) command (lines_of true bytes) out.bytes out.bytes_after (front bytes left);
+  }
+
+  -- answering stops
+  pub lines-stopped : (run : Result (Unit {0}) Fault) (f : LinesFault) → IsErrAnd run (λ e. e ≡ lines_fault f)
+      → WhereLinesStop ((bytes : List ℕ) × Consumes input.bytes input.bytes_after bytes × AppendsAll ((output_for c).AreReplies loaded names st (lines_of false bytes)) out.bytes out.bytes_after) f
+      → ((bytes : List ℕ) → input.bytes ≡ Some bytes → AppendsWholeFront ((output_for c).IsWhole loaded names st) ((output_for c).AreReplies loaded names st) (lines_of true bytes) out.bytes out.bytes_after)
+      → HasLinesFaultCause (Rose input.faults input.faults_after) (Rose out.faults out.faults_after) (TookAll budget input.bytes input.bytes_after) f
+      → EndsAs output_of budget words feed input out feed_old feed_new input_old input_new out_old out_new run
+  lines-stopped run f is stopped front cause = subst (EndsAs output_of budget words feed input out feed_old feed_new input_old input_new out_old out_new) (is-err run (lines_fault f) is) (stopped_early f stopped front cause)
