@@ -1,6 +1,6 @@
-mod Bounds
-mod Flushes
-mod InputLines
+pub mod Bounds
+pub mod Flushes
+pub mod InputLines
 mod LineBytes
 mod LineTexts
 pub mod RowLemmas

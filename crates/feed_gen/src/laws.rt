@@ -13,8 +13,8 @@ pub fn input_is_short()
     ensures { InputIsShort }
 {}
 
-/// A flush stands just before and just behind each query, so no message and no other query is
-/// answered with it.
+/// A flush stands just before and just behind each query. So where the lines are answered in windows
+/// that end with a flush, a query shares its window with no message.
 pub fn queries_stand_between_flushes()
     ensures { (trains : ℕ) → HasQueriesBetweenFlushes (lines trains) }
 {}

@@ -1,8 +1,7 @@
 //! The lines of so many trains as a source that never fails.
-ghost use Rattle.std.specs.Prelude.{◌≡◌, ◌<◌, ◌≤◌, ◌+◌, ◌-◌, ◌++◌, [], length, drop, take, min, IfOk, IsOk, Some, vec_len, vec_capacity};
+ghost use Rattle.std.specs.Prelude.{◌≡◌, ◌≤◌, ◌+◌, ◌-◌, ◌++◌, length, drop, take, min, IfOk, IsOk, Some, vec_len, vec_capacity};
 ghost use Rattle.std.specs.Io.{ReadsAtMost};
 ghost use Rattle.std.specs.Io.KnownBytes.{ReadConsumes};
-ghost use Rattle.mt_io.specs.Causes.{HasCause};
 ghost use Rattle.feed_gen.specs.Lines.{bytes_left, input};
 
 use crate::lines::make_lines;
@@ -21,6 +20,7 @@ pub struct GenLines {
     trains: u32,
     // the train whose lines are made next
     next: u32,
+    // the lines that are being given
     held: Vec<u8>,
     // which byte of what is held is given next
     at: usize,
