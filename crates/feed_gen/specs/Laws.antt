@@ -13,7 +13,7 @@ abbrev pub InputIsItsLines : Type 0
 InputIsItsLines = (trains : ℕ) → trains ≤ 100000
     → lines_of true (input trains) ≡ map line_read (lines trains)
 
--- the input has fewer bytes than may be taken of one
+-- the input has fewer bytes than the program takes of an input
 abbrev pub InputIsShort : Type 0
 InputIsShort = (trains : ℕ) → trains ≤ 100000 → length (input trains) < 2 ^ 40
 

@@ -13,7 +13,7 @@ pub fn input_is_short()
     ensures { InputIsShort }
 {}
 
-/// A flush stands just before and just behind each query. So where the lines are answered in windows
+/// A flush stands just before and just behind each query. So where lines are answered in windows
 /// that end with a flush, a query shares its window with no message.
 pub fn queries_stand_between_flushes()
     ensures { (trains : ℕ) → HasQueriesBetweenFlushes (lines trains) }
