@@ -1,0 +1,5 @@
+pub mod Laws
+pub mod Lines
+pub mod Tables
+pub mod Texts
+pub mod Trains
