@@ -1,4 +1,5 @@
 //! The tables of so many trains as a feed that never fails.
+
 ghost use Rattle.std.specs.Prelude.{◌≡◌, ◌≤◌, length, IfOk, IfSome, IsErr, IsErrOf, Some, option_map};
 ghost use Rattle.feed_gen.specs.Tables.{files};
 

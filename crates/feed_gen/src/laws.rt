@@ -1,4 +1,5 @@
 //! What holds of the tables and the lines of so many trains.
+
 ghost use Rattle.std.specs.Prelude.{ℕ};
 ghost use Rattle.feed_gen.specs.Laws.{HasQueriesBetweenFlushes, InputIsItsLines, InputIsShort, TablesAreShort};
 ghost use Rattle.feed_gen.specs.Lines.{lines};

@@ -1,4 +1,5 @@
-// The lines, made in room that was taken before.
+//! The lines, made in room that was taken before.
+
 ghost use Rattle.std.specs.Prelude.{◌≡◌, ◌+◌, ◌<◌, ◌≤◌, ◌++◌, codes, decimal, length, vec_len, vec_capacity};
 ghost use Rattle.feed_gen.specs.Lines.{flush, forecast, joined, lines_with, query, text_of};
 

@@ -1,4 +1,5 @@
-// The tables, each made in one pass.
+//! The tables, each made in one pass.
+
 ghost use Rattle.std.specs.Prelude.{◌≡◌, ◌<◌, ◌≤◌, ◌++◌, IfOk, OnOk, decimal, option_map};
 ghost use Rattle.feed_gen.specs.Tables.{call_row, calendar_table, stop_row, stop_times_table, stops_table, table_named, train_rows, trip_row, trips_table, waiting_rules_table};
 ghost use Rattle.feed_gen.specs.Texts.{texts_below};

@@ -1,4 +1,5 @@
-// Texts of times of day.
+//! Texts of times of day.
+
 ghost use Rattle.std.specs.Prelude.{◌≡◌};
 ghost use Rattle.feed_gen.specs.Texts.{clock, two_digits};
 

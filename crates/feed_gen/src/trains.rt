@@ -1,4 +1,5 @@
-// The stops and times of the trains' calls. Times are seconds from the beginning of the day.
+//! The stops and times of the trains' calls. Times are seconds from the beginning of the day.
+
 ghost use Rattle.std.specs.Prelude.{◌≡◌, ◌<◌};
 ghost use Rattle.feed_gen.specs.Trains.{arrival, departure, forecast_time, stop_of};
 

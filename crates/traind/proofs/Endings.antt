@@ -17,6 +17,7 @@ use Rattle.gtfs_tables.specs.Feeds.{Files}
 use Rattle.gtfs_tables.specs.Refusals.{IsErrorOf}
 use Rattle.information_service.specs.Causes.{HasLinesFaultCause, TookAll, WhereLinesStop}
 use Rattle.information_service.specs.declared.fault.LinesFault.{LinesFault}
+use Rattle.information_service.specs.declared.fault.LinesFault.TheVariants as lines
 use Rattle.information_service.specs.Fronts.{AppendsAll, AppendsWholeFront}
 use Rattle.information_service.specs.Networks.{IsSame}
 use Rattle.mt_io.specs.Causes.{Rose}
@@ -30,7 +31,6 @@ use Rattle.traind.specs.Runs.{IsRefused, output_for, output_of}
 use Rattle.traind.specs.Statuses.{feed_fault, lines_fault, words_fault}
 use Rattle.traind.specs.declared.status.Fault.{Fault}
 use Rattle.traind.specs.declared.status.Fault.TheVariants as faults
-use Rattle.traind.proofs.Ends.{cause_of_lines, stopped_lines}
 use Rattle.traind.proofs.Tables.{same-start, not-refused, output-is, replies-are, front-is, whole-is-front, none-written, none-front}
 
 -- a run that stops
@@ -111,6 +111,23 @@ module _ (words : List (List ℕ)) (feed : FeedSeen) (a : Asked) (asked : asked_
       → Untouched budget words feed left written reads reads_after writes writes_after before after input out run
   feed-not-loaded {budget = budget} {left = left} {written = written} {reads = reads} {reads_after = reads_after} {writes = writes} {writes_after = writes_after} {before = before} {after = after} {input = input} {out = out} run f is gives rose =
       subst (Untouched budget words feed left written reads reads_after writes writes_after before after input out) (is-err run (feed_fault f) is) (not_loaded f gives rose)
+
+-- what holds where the lines stop for a failed read, or since the input is too long, holds of a run
+-- that hands their fault on
+stopped_lines : (run : Result (Unit {0}) Fault) (T : Type 0) (f : LinesFault) → IsErrAnd run (λ e. e ≡ lines_fault f) → WhereLinesStop T f
+    → (run ≡ Err faults.ReadFault) ⊎ (run ≡ Err faults.TooLong) → T
+stopped_lines run T lines.ReadFault is t stop = t
+stopped_lines run T lines.WriteFault is t stop = grind arith
+stopped_lines run T lines.OutOfMemory is t stop = grind arith
+stopped_lines run T lines.TooLong is t stop = t
+
+-- a fault of the lines has its cause in the run
+cause_of_lines : (usage : Type 0) (refused : FeedRefusal → Type 0) (read write long all_reads : Type 0) (f : LinesFault) → (read → all_reads) → HasLinesFaultCause read write long f
+    → HasFaultCause usage refused all_reads write long (lines_fault f)
+cause_of_lines usage refused read write long all_reads lines.ReadFault reads c = reads c
+cause_of_lines usage refused read write long all_reads lines.WriteFault reads c = c
+cause_of_lines usage refused read write long all_reads lines.OutOfMemory reads c = tt
+cause_of_lines usage refused read write long all_reads lines.TooLong reads c = c
 
 not_stopped : {P : Type 0} → (Ok tt ≡ stops faults.ReadFault) ⊎ (Ok tt ≡ stops faults.TooLong) → P
 not_stopped (inl is) = absurd cc

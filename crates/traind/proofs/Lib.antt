@@ -1,5 +1,4 @@
 pub mod Endings
-pub mod Ends
 pub mod SameTables
 pub mod Tables
 pub mod Commands

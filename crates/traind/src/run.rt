@@ -124,10 +124,10 @@ fn tell<E: Sink>(alloc: Global, run: Result<(), Fault>, err: &mut E) -> Status
     status
 }
 
-/// All that the program does for `times`. It reads the tables of the feed, answers each line of the input at once, and at the end of the input writes the table of
-/// all times. A query is answered by the times after the messages of the lines before it. It stops
-/// where `budget` bytes of the input were taken and no end was read. It waits for nobody and
-/// returns.
+/// All that the program does for `times`. It reads the tables of the feed, answers each line of the
+/// input at once, and at the end of the input writes the table of all times. A query is answered by
+/// the times after the messages of the lines before it. It stops where `budget` bytes of the input
+/// were taken and no end was read. It waits for nobody and returns.
 pub fn run_times<F: Feed, S: Source, K: Sink, E: Sink>(
     alloc: Global,
     words: &[String],
@@ -186,10 +186,10 @@ fn is_times(words: &[String]) -> bool
     }
 }
 
-/// The program. For `times` it does what `run_times` does. For `serve` it reads the tables of the feed
-/// and answers the input window after window, and queries beside the messages; the gate is called
-/// after each message and before each query. It stops where `budget` bytes of the input were taken
-/// and no end was read.
+/// The program. For `times` it does what `run_times` does. For `serve` it reads the tables of the
+/// feed and answers the input window after window, and queries beside the messages; the gate is
+/// called after each message and before each query. It stops where `budget` bytes of the input were
+/// taken and no end was read.
 pub fn traind_within<
     R: Threads + Wait + Sync,
     F: Feed,

@@ -69,6 +69,10 @@ whole-served : {nw : Network} {names : Names} {st : State} {ws : List (List Line
 whole-served {ws = ws} closed served =
     record { windows = ws; last = []; are_read = record { closed = closed; rest = none-open }; joined = sym (append-nil (lines_of ws)); served = served }
 
+-- before the first line nothing is written
+pub nothing-served : (nw : Network) (names : Names) (st : State) → AreWholeWindowsServed nw names st [] []
+nothing-served nw names st = whole-served (All-nil IsClosedWindow) (none-served nw names st)
+
 module _ {mid now : Reader} {left left_mid left_now : Option (List ℕ)} {count : ℕ} {bytes : List ℕ} {ws : List (List Line)} {w : List Line}
     (read : AreRead mid left left_mid count bytes ws) (next : GivesNext mid now left_mid left_now w) (same : mid.ended ≡ true → left_now ≡ left_mid) where
   pub all-taken : (all : List ℕ) × IsTaken now left left_now all (lines_of ws ++ w)

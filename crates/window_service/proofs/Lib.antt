@@ -2,4 +2,3 @@ pub mod Words
 pub mod Answered
 pub mod Inputs
 pub mod Networks
-pub mod Nothing

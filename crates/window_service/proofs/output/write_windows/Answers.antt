@@ -1,6 +1,6 @@
 use Rattle.window_service.proofs.Words.{[], refl, true, inl, each_fault, on_ok_weaker, IfErr-weaker, where_also, front_none}
 use Rattle.mt_io.specs.Lines.{lines_of}
-use Rattle.window_service.proofs.Nothing.{nothing-served}
+use Rattle.window_service.proofs.Answered.{nothing-served}
 use Rattle.window_service.proofs.Inputs.{all-served, whole-windows, front-served}
 use Rattle.window_service.proofs.output.write_windows.Goals as goal
 
