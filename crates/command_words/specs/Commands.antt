@@ -35,3 +35,14 @@ command_app name = fold with_rule (bare_app name) (
     ∷ option_rule (codes "overrides") (codes "10000")
     ∷ option_rule (codes "workers") (codes "4")
     ∷ [])
+
+-- the word `N`: how many trains are made
+abbrev pub trains_rule : Rule
+trains_rule = record (new_rule (codes "N")) { required = true }
+
+-- `gen N` with its option
+unfoldable pub gen_app : App
+gen_app = fold with_rule (bare_app (codes "gen")) (
+    trains_rule
+    ∷ option_rule (codes "workers") (codes "4")
+    ∷ [])

@@ -1,3 +1,5 @@
 pub mod Commands
 pub mod Words
 pub mod Held
+pub mod GenWords
+pub mod Defaults

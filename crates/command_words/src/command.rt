@@ -2,12 +2,12 @@
 
 ghost use Rattle.std.specs.Prelude.{◌≡◌, IfOk, false};
 ghost use Rattle.clap.specs.Words.{app_of, rule_of};
-ghost use Rattle.command_words.specs.Commands.{command_app, bare_app, feed_rule, from_rule, option_rule};
+ghost use Rattle.command_words.specs.Commands.{command_app, gen_app, bare_app, feed_rule, from_rule, option_rule, trains_rule};
 
 use clap::Arg;
 use std::alloc::{AllocError, Global};
 
-// A command without flags for help and version.
+/// A command without flags for help and version.
 fn bare_command<'a>(alloc: Global, name: &'a str) -> clap::Command<'a>
     ensures { app_of result ≡ bare_app name.now }
 {
@@ -16,6 +16,7 @@ fn bare_command<'a>(alloc: Global, name: &'a str) -> clap::Command<'a>
         .disable_version_flag(true)
 }
 
+/// The word `FEED`.
 fn feed_argument<'a>(alloc: Global) -> Arg<'a>
     ensures rule { rule_of result ≡ feed_rule }
     ensures local { result.global ≡ false }
@@ -23,6 +24,7 @@ fn feed_argument<'a>(alloc: Global) -> Arg<'a>
     Arg::new(alloc, "feed").required(true)
 }
 
+/// The option `--from DATE`.
 fn from_option<'a>(alloc: Global) -> Arg<'a>
     ensures rule { rule_of result ≡ from_rule }
     ensures local { result.global ≡ false }
@@ -30,7 +32,7 @@ fn from_option<'a>(alloc: Global) -> Arg<'a>
     Arg::new(alloc, "from").required(true).long("from")
 }
 
-// An option with a value, and the value that counts where it is not given.
+/// An option with a value, and the value that counts where it is not given.
 fn option<'a>(alloc: Global, name: &'a str, default: &'a str) -> Arg<'a>
     ensures rule { rule_of result ≡ option_rule name.now default.now }
     ensures local { result.global ≡ false }
@@ -56,5 +58,22 @@ pub(crate) fn named_command<'a>(
         .arg(option(alloc, "spare-trains", "200"))?
         .arg(option(alloc, "spare-calls", "4000"))?
         .arg(option(alloc, "overrides", "10000"))?
+        .arg(option(alloc, "workers", "4"))
+}
+
+/// The word `N`.
+fn trains_argument<'a>(alloc: Global) -> Arg<'a>
+    ensures rule { rule_of result ≡ trains_rule }
+    ensures local { result.global ≡ false }
+{
+    Arg::new(alloc, "N").required(true)
+}
+
+/// The command `gen N` with its option.
+pub(crate) fn gen_command<'a>(alloc: Global) -> Result<clap::Command<'a>, AllocError>
+    ensures { IfOk result (λ c. app_of c ≡ gen_app) }
+{
+    bare_command(alloc, "gen")
+        .arg(trains_argument(alloc))?
         .arg(option(alloc, "workers", "4"))
 }

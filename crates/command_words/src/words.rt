@@ -9,10 +9,10 @@ ghost use Rattle.command_words.specs.Held.{asked_view};
 ghost use Rattle.command_words.specs.Words.{asked_of, command_of, values_ask};
 ghost use Rattle.command_words.specs.declared.words.WordsFault.TheVariants.{OutOfMemory};
 
+use crate::arguments::given_arguments;
 use crate::command::named_command;
 use crate::values::{first_date, number_within, options, value};
 use clap::ArgMatches;
-use clap::error::ErrorKind;
 use mt_base::Opts;
 use std::alloc::{AllocError, Global};
 
@@ -66,7 +66,7 @@ impl From<AllocError> for WordsFault {
     }
 }
 
-// The command of this name.
+/// The command of this name.
 fn command_of(name: &str) -> Option<Command>
     ensures { result ≡ command_of name.now }
 {
@@ -77,6 +77,7 @@ fn command_of(name: &str) -> Option<Command>
     }
 }
 
+/// What the words give to the arguments of the command of this name.
 fn command_matches<'a>(
     alloc: Global,
     name: &'a str,
@@ -89,16 +90,10 @@ fn command_matches<'a>(
     ensures usage { IsErrOf result WordsFault.Usage
         → fault_of (command_app name.now) (map string_bytes words.now) ≡ [] → ⊥ }
 {
-    let command = named_command(alloc, name)?;
-    match command.try_get_matches_from(words) {
-        Ok(matches) => Ok(matches),
-        Err(error) => match error.kind() {
-            ErrorKind::OutOfMemory => Err(WordsFault::OutOfMemory),
-            _ => Err(WordsFault::Usage),
-        },
-    }
+    given_arguments(named_command(alloc, name)?, words)
 }
 
+/// What the values of the arguments ask for.
 fn values_ask<'a>(command: Command, given: &ArgMatches<'a>) -> Option<Asked<'a>>
     ensures value { option_map asked_view result
         ≡ values_ask command (rows_of (found_of given.now)) }

@@ -7,5 +7,5 @@ mod objects;
 mod replies;
 mod table;
 
-pub use replies::{Reply, reply_text};
+pub use replies::{Reply, object_text, reply_text};
 pub use table::{times_header, times_rows};

@@ -99,8 +99,8 @@ fn accepted_text(
     Ok(text)
 }
 
-/// The bytes of any other reply, from its object.
-fn object_text(alloc: Global, value: &Value) -> Result<Vec<u8>, OutOfMemory>
+/// The bytes of an object without blanks, and an LF. `OutOfMemory` where there is no memory.
+pub fn object_text(alloc: Global, value: &Value) -> Result<Vec<u8>, OutOfMemory>
     requires { has_float (view value.now) ≡ false }
     ensures { IfOk result (λ b. b.items ≡ line_of (view value.now)) }
 {

@@ -159,7 +159,7 @@ counts-along nw names st before (w ∷ ws) (r ∷ rs) h =
 
 -- ---- one window more
 
-replies-more : (nw : Network) (names : Names) (st : State) (before : List Line) (ws : List (List Line)) (rs : List (List Reply)) (w : List Line) (r : List Reply)
+pub replies-more : (nw : Network) (names : Names) (st : State) (before : List Line) (ws : List (List Line)) (rs : List (List Reply)) (w : List Line) (r : List Reply)
     → AreRepliesFrom nw names st before ws rs → AreWindowReplies nw names st (before ++ lines_of ws) w r → AreRepliesFrom nw names st before (ws ++ w ∷ []) (rs ++ r ∷ [])
 replies-more nw names st before [] [] w r h one = (subst (λ (b : List Line). AreWindowReplies nw names st b w r) (append-nil before) one, tt)
 replies-more nw names st before [] (s ∷ rs) w r h one = absurd h

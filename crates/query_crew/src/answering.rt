@@ -120,8 +120,8 @@ fn answer_here<H: Opening<Timetable>>(
     Ok(None)
 }
 
-/// Answers the queries of a worker's clients in the publisher's own timetable. It says whether there
-/// was memory for all of them.
+/// Answers the queries of a worker's clients in the publisher's own timetable. It says whether
+/// there was memory for all of them.
 fn answer_own<H: Opening<Timetable>>(
     alloc: Global,
     publisher: &Publisher<Timetable, H>,

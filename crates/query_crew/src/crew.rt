@@ -53,9 +53,9 @@ fn build_workers<V: Drop>(
 }
 
 impl<H: Opening<Timetable> + Send + Sync> Crew<Publisher<Timetable, H>, Viewer<Timetable, H>> {
-    /// A crew of so many workers, each with a viewer of its own. No message was posted yet. The search
-    /// for journeys remembers where it has been of trains below the number `trains`; for others it
-    /// only takes longer. `OutOfMemory` where there is no memory.
+    /// A crew of so many workers, each with a viewer of its own. No message was posted yet. The
+    /// search for journeys remembers where it has been of trains below the number `trains`; for
+    /// others it only takes longer. `OutOfMemory` where there is no memory.
     pub fn build<R: Wait>(
         rt: &R,
         alloc: Global,
@@ -133,12 +133,12 @@ impl<H: Opening<Timetable> + Send + Sync> Crew<Publisher<Timetable, H>, Viewer<T
         }
     }
 
-    /// Runs a window, and gives the reply to each of its lines, in their order. `first` is the number
-    /// of lines before the window. Each message that is accepted is posted, in line order; beside it
-    /// each worker with a viewer answers the queries of its clients, in line order, each by a look of
-    /// its own. The publisher answers the other queries when the messages are posted. The gate is
-    /// called after each post and before each look. `OutOfMemory` where there is no memory; then the
-    /// crew can only be closed.
+    /// Runs a window, and gives the reply to each of its lines, in their order. `first` is the
+    /// number of lines before the window. Each message that is accepted is posted, in line order;
+    /// beside it each worker with a viewer answers the queries of its clients, in line order, each
+    /// by a look of its own. The publisher answers the other queries when the messages are posted.
+    /// The gate is called after each post and before each look. `OutOfMemory` where there is no
+    /// memory; then the crew can only be closed.
     pub fn run_window<R: Threads + Wait + Sync, G: Gate + Sync>(
         &mut self,
         rt: &R,

@@ -127,8 +127,8 @@ fn settle_all<H: Opening<Timetable>>(
 }
 
 /// Posts the messages of a window in their order, while the workers answer its queries; `replies`
-/// gets the reply to each line but the queries. Then the publisher meets each worker's viewer; where
-/// there is none, or one saw more than was posted, the publisher answers in its place.
+/// gets the reply to each line but the queries. Then the publisher meets each worker's viewer;
+/// where there is none, or one saw more than was posted, the publisher answers in its place.
 fn post_and_answer<H: Opening<Timetable> + Send + Sync, R: Threads + Wait + Sync, G: Gate + Sync>(
     rt: &R,
     alloc: Global,

@@ -34,10 +34,10 @@ use Rattle.traind.specs.declared.status.Fault.TheVariants as faults
 use Rattle.traind.proofs.Tables.{same-start, not-refused, output-is, replies-are, front-is, whole-is-front, none-written, none-front}
 
 -- a run that stops
-abbrev stops : Fault → Result (Unit {0}) Fault
+abbrev pub stops : Fault → Result (Unit {0}) Fault
 stops f = Err f
 
-is-err : (run : Result (Unit {0}) Fault) (f : Fault) → IsErrAnd run (λ e. e ≡ f) → stops f ≡ run
+pub is-err : (run : Result (Unit {0}) Fault) (f : Fault) → IsErrAnd run (λ e. e ≡ f) → stops f ≡ run
 is-err (Ok u) f is = absurd is
 is-err (Err e) f is = grind (arith, is)
 
@@ -46,7 +46,7 @@ abbrev pub Untouched : {F S K : Type 0} → (budget : ℕ) (words : List (List �
 Untouched budget words feed left written reads reads_after writes writes_after before after input out run =
     EndsAs output_of budget words feed (record { bytes = left; bytes_after = left; faults = reads; faults_after = reads_after }) (record { bytes = written; bytes_after = written; faults = writes; faults_after = writes_after }) before after input input out out run
 
-usage_or_memory : (f : WordsFault) → (stops (words_fault f) ≡ stops faults.Usage) ⊎ (stops (words_fault f) ≡ stops faults.OutOfMemory)
+pub usage_or_memory : (f : WordsFault) → (stops (words_fault f) ≡ stops faults.Usage) ⊎ (stops (words_fault f) ≡ stops faults.OutOfMemory)
 usage_or_memory words_faults.Usage = inl refl
 usage_or_memory words_faults.OutOfMemory = inr refl
 
@@ -54,7 +54,7 @@ is_memory : (f : WordsFault) → ¬ (f ≡ words_faults.Usage) → stops (words_
 is_memory words_faults.Usage not_usage = absurd (not_usage refl)
 is_memory words_faults.OutOfMemory not_usage = refl
 
-words_cause : (f : WordsFault) (none : Type 0) (refused : FeedRefusal → Type 0) (read write long : Type 0) → (f ≡ words_faults.Usage → none) → HasFaultCause none refused read write long (words_fault f)
+pub words_cause : (f : WordsFault) (none : Type 0) (refused : FeedRefusal → Type 0) (read write long : Type 0) → (f ≡ words_faults.Usage → none) → HasFaultCause none refused read write long (words_fault f)
 words_cause words_faults.Usage none refused read write long usage = usage refl
 words_cause words_faults.OutOfMemory none refused read write long usage = tt
 

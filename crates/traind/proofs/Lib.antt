@@ -1,4 +1,7 @@
 pub mod Endings
+pub mod GenEndings
+pub mod Made
+pub mod MadeLines
 pub mod SameTables
 pub mod Tables
 pub mod Commands

@@ -16,7 +16,7 @@ use Rattle.information_service.specs.Networks.{IsSame}
 use Rattle.information_service.proofs.Networks.{output-same, replies-same}
 use Rattle.information_service.proofs.Fronts.{front_all, front_none}
 use Rattle.window_service.proofs.Networks.{served-same, whole-same}
-use Rattle.window_service.proofs.Answered.{nothing-served}
+use Rattle.window_service.proofs.Written.{nothing-served}
 use Rattle.traind.specs.Feeds.{network, tables_in, asked_in}
 use Rattle.traind.specs.Runs.{IsRefused, Loads, output_for, output_of}
 

@@ -2,7 +2,8 @@
 
 ghost use Rattle.std.specs.Prelude.{◌≡◌, ◌<◌, ◌≤◌, Ok, Some, IfOk, IsErrOf};
 ghost use Rattle.command_words.specs.Held.{asked_view};
-ghost use Rattle.gtfs_tables.specs.Feeds.{Files};
+ghost use Rattle.feed_load.specs.Loaded.{loaded};
+ghost use Rattle.gtfs_tables.specs.Feeds.{Files, contents_of, tables_of};
 ghost use Rattle.gtfs_tables.specs.Refusals.{Gives};
 ghost use Rattle.mt_base.specs.Civil.{IsCivil};
 ghost use Rattle.mt_base.specs.Options.{IsInRange};
@@ -16,6 +17,7 @@ use command_words::Asked;
 use feed_load::load_feed;
 use gtfs_tables::FeedError;
 use information_service::InformationService;
+use mt_base::Opts;
 use mt_io::Feed;
 use schedule_build::Directory;
 use std::alloc::Global;
@@ -30,28 +32,33 @@ pub(crate) struct LoadedTimetable {
     /// The names of its trains, stops, routes and service days.
     pub(crate) directory: Directory,
 
-    /// How many trains it can have, extra trains among them.
-    pub(crate) trains: u32,
+    /// How many trains it has room for, extra trains among them.
+    pub(crate) room: u32,
 }
 
-/// The timetable that the words ask for, with its names.
+/// The timetable of so many service days from the date `first` on that the feed in a folder holds,
+/// with its names.
 pub(crate) fn load_timetable<F: Feed>(
     alloc: Global,
-    asked: &Asked<'_>,
+    folder: &str,
+    first: u32,
+    days: u32,
+    opts: &Opts,
     feed: &mut F,
 ) -> Result<LoadedTimetable, FeedError>
-    // what words that were read ask for
-    requires civil { IsCivil asked.now.first }
-    requires year { asked.now.first < 21010000 }
-    requires days { (1 ≤ asked.now.days) × (asked.now.days ≤ 31) }
-    requires options { IsInRange asked.now.opts }
+    // a date, and numbers in their ranges
+    requires civil { IsCivil first }
+    requires year { first < 21010000 }
+    requires days { (1 ≤ days) × (days ≤ 31) }
+    requires options { IsInRange opts.now }
 
     // the timetable that the feed holds, or why it is refused
     ensures exact { (told : Files) → F.tables feed.old ≡ Some told
-        → Gives (λ l. (l.timetable.state, l.directory)) result (asked_in told (asked_view asked.now)) }
+        → Gives (λ l. (l.timetable.state, l.directory)) result
+        (loaded (contents_of told folder.now) first days opts.now) }
     ensures network { IfOk result (λ l. (told : Files) (rows : ATables) → F.tables feed.old
-        ≡ Some told → tables_in told (asked_view asked.now) ≡ Ok rows
-        → IsSame (network rows asked.now.opts) l.timetable.network) }
+        ≡ Some told → tables_of (contents_of told folder.now) ≡ Ok rows
+        → IsSame (network rows opts.now) l.timetable.network) }
 
     // no message was accepted, and names and trains are in step
     ensures new { IfOk result (λ l. l.timetable.count ≡ 0) }
@@ -62,10 +69,9 @@ pub(crate) fn load_timetable<F: Feed>(
         → Rose (F.faults feed.old) (F.faults feed.new) }
     ensures later { F.faults feed.old ≤ F.faults feed.new }
 {
-    let opts = asked.opts;
-    let loaded = load_feed(alloc, feed, asked.folder, asked.first, asked.days, &opts)?;
-    let timetable = Timetable::build(alloc, loaded.trains, loaded.changes, loaded.waits, opts)?;
-    let trains = timetable
+    let loaded = load_feed(alloc, feed, folder, first, days, opts)?;
+    let timetable = Timetable::build(alloc, loaded.trains, loaded.changes, loaded.waits, *opts)?;
+    let room = timetable
         .graph()
         .trains()
         .count()
@@ -73,11 +79,11 @@ pub(crate) fn load_timetable<F: Feed>(
     Ok(LoadedTimetable {
         timetable,
         directory: loaded.directory,
-        trains,
+        room,
     })
 }
 
-/// The same as a service.
+/// The timetable that the words ask for, as a service.
 pub(crate) fn load_service<F: Feed>(
     alloc: Global,
     asked: &Asked<'_>,
@@ -102,6 +108,13 @@ pub(crate) fn load_service<F: Feed>(
         → Rose (F.faults feed.old) (F.faults feed.new) }
     ensures later { F.faults feed.old ≤ F.faults feed.new }
 {
-    let loaded = load_timetable(alloc, asked, feed)?;
-    Ok(InformationService::build(alloc, loaded.timetable, loaded.directory, loaded.trains)?)
+    let loaded = load_timetable(
+        alloc,
+        asked.folder,
+        asked.first,
+        asked.days,
+        &asked.opts,
+        feed,
+    )?;
+    Ok(InformationService::build(alloc, loaded.timetable, loaded.directory, loaded.room)?)
 }

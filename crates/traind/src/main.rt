@@ -2,9 +2,11 @@
 #![tactic(auto)]
 
 mod feed;
+mod generated;
 mod refusal;
 pub mod run;
 pub mod status;
+mod telling;
 #[cfg(test)]
 mod tests;
 

@@ -1,21 +1,18 @@
 //! The program as a call: its commands over any feed, input and outputs.
 
-ghost use Rattle.std.specs.Prelude.{◌≡◌, ◌≢◌, ◌≤◌, ◌⊎◌, map, Err, true, false, string_bytes};
-ghost use Rattle.std.specs.Io.KnownBytes.{Appends};
-ghost use Rattle.gtfs_tables.specs.declared.refusals.FeedRefusal.{FeedRefusal};
-ghost use Rattle.mt_io.specs.Causes.{Rose};
+ghost use Rattle.std.specs.Prelude.{◌≡◌, ◌≤◌, map, true, false, string_bytes};
+ghost use Rattle.command_words.specs.GenWords.{is_gen};
 ghost use Rattle.traind.specs.Contract.{EndsAs, MeetsContract, byte_budget, feed_seen, stream_seen};
+ghost use Rattle.traind.specs.GenContract.{MeetsGenContract};
 ghost use Rattle.traind.specs.Runs.{AskFor, output_of};
-ghost use Rattle.traind.specs.Statuses.{error_line, refusal_line, status_of};
-ghost use Rattle.traind.specs.declared.status.Fault.TheVariants as faults;
 
 use crate::feed::{load_service, load_timetable};
-use crate::refusal::refusal_line;
-use crate::status::{Fault, Status, status_of};
-use command_words::{Command, read_words};
-use gtfs_tables::FeedRefusal;
+use crate::generated::run_gen;
+use crate::status::{Fault, Status};
+use crate::telling::tell;
+use command_words::{Command, is_gen, read_words};
 use information_service::write_output;
-use mt_io::{Feed, Gate, Sink, Source, put};
+use mt_io::{Feed, Gate, Sink, Source};
 use snapshot_board::NewHistory;
 use std::alloc::Global;
 use std::marker::Brand;
@@ -66,14 +63,21 @@ fn serve_words<R: Threads + Wait + Sync, F: Feed, S: Source, K: Sink, G: Gate + 
         feed.old feed.new input.old input.new out.old out.new result }
 {
     let asked = read_words(alloc, words)?;
-    let loaded = load_timetable(alloc, &asked, feed)?;
+    let loaded = load_timetable(
+        alloc,
+        asked.folder,
+        asked.first,
+        asked.days,
+        &asked.opts,
+        feed,
+    )?;
     write_windows::<Brand, R, S, K, G>(
         rt,
         alloc,
         NewHistory::new(),
         loaded.timetable,
         loaded.directory,
-        loaded.trains,
+        loaded.room,
         asked.workers,
         input,
         out,
@@ -81,47 +85,6 @@ fn serve_words<R: Threads + Wait + Sync, F: Feed, S: Source, K: Sink, G: Gate + 
         budget,
     )?;
     Ok(())
-}
-
-/// Writes why a feed is refused.
-fn tell_refusal<E: Sink>(alloc: Global, why: &FeedRefusal, err: &mut E) -> Status
-    ensures status { (result ≡ Status.FeedRefused) ⊎ (result ≡ Status.OutOfMemory) }
-    ensures refused_line { result ≡ Status.FeedRefused
-        → ¬ (Rose (E.faults err.old) (E.faults err.new))
-        → Appends (E.written err.old) (E.written err.new) (refusal_line why.now) }
-    ensures error_line { result ≢ Status.FeedRefused
-        → ¬ (Rose (E.faults err.old) (E.faults err.new))
-        → Appends (E.written err.old) (E.written err.new) (error_line result) }
-{
-    match refusal_line(alloc, why) {
-        Ok(line) => {
-            let _ = put(err, line.as_bytes());
-            Status::FeedRefused
-        }
-        Err(_) => {
-            let _ = put(err, Status::OutOfMemory.error_line());
-            Status::OutOfMemory
-        }
-    }
-}
-
-/// Writes how a run ended. A failed write changes nothing.
-fn tell<E: Sink>(alloc: Global, run: Result<(), Fault>, err: &mut E) -> Status
-    ensures status { (result ≡ status_of run) ⊎ (result ≡ Status.OutOfMemory) }
-    ensures refused_line { result ≡ Status.FeedRefused → (why : FeedRefusal)
-        × (run ≡ Err (faults.FeedRefused why))
-        × (¬ (Rose (E.faults err.old) (E.faults err.new))
-        → Appends (E.written err.old) (E.written err.new) (refusal_line why)) }
-    ensures error_line { result ≢ Status.FeedRefused
-        → ¬ (Rose (E.faults err.old) (E.faults err.new))
-        → Appends (E.written err.old) (E.written err.new) (error_line result) }
-{
-    if let Err(Fault::FeedRefused(why)) = run {
-        return tell_refusal(alloc, &why, err);
-    }
-    let status = status_of(run);
-    let _ = put(err, status.error_line());
-    status
 }
 
 /// All that the program does for `times`. It reads the tables of the feed, answers each line of the
@@ -189,7 +152,9 @@ fn is_times(words: &[String]) -> bool
 /// The program. For `times` it does what `run_times` does. For `serve` it reads the tables of the
 /// feed and answers the input window after window, and queries beside the messages; the gate is
 /// called after each message and before each query. It stops where `budget` bytes of the input were
-/// taken and no end was read.
+/// taken and no end was read. For `gen` it does what it does for `serve` over a feed and an input
+/// that it makes from a number of trains, and writes one line with the sums over the replies; it
+/// asks nothing of `feed` and `input`.
 pub fn traind_within<
     R: Threads + Wait + Sync,
     F: Feed,
@@ -209,13 +174,27 @@ pub fn traind_within<
     budget: u64,
 ) -> Status
     requires budget { 1 ≤ budget }
-    ensures contract { MeetsContract output_of budget (map string_bytes words.now)
+
+    // every command but `gen`
+    ensures contract { is_gen (map string_bytes words.now) ≡ false
+        → MeetsContract output_of budget (map string_bytes words.now)
         (feed_seen F.tables F.faults feed.old feed.new)
         (stream_seen S.left S.faults input.old input.new)
         (stream_seen K.written K.faults out.old out.new)
         (stream_seen E.written E.faults err.old err.new)
         feed.old feed.new input.old input.new out.old out.new result }
+
+    // `gen`, which has a feed and an input of its own
+    ensures generated { is_gen (map string_bytes words.now) ≡ true
+        → MeetsGenContract (map string_bytes words.now)
+        (stream_seen K.written K.faults out.old out.new)
+        (stream_seen E.written E.faults err.old err.new) out.old out.new result }
+    ensures untouched { is_gen (map string_bytes words.now) ≡ true
+        → (feed.new ≡ feed.old) × (input.new ≡ input.old) }
 {
+    if is_gen(words) {
+        return run_gen(rt, alloc, words, out, err, gate);
+    }
     if is_times(words) {
         return run_times(alloc, words, feed, input, out, err, budget);
     }
@@ -223,9 +202,10 @@ pub fn traind_within<
 }
 
 /// How many bytes of the input the program takes at most.
-const BYTE_BUDGET: u64 = 1 << 40;
+pub(crate) const BYTE_BUDGET: u64 = 1 << 40;
 
-/// The program. It stops where 2^40 bytes of the input were taken and no end was read.
+/// The program, as `traind_within` is it for 2^40 bytes: it stops where so many bytes of the input
+/// were taken and no end was read.
 pub fn traind<R: Threads + Wait + Sync, F: Feed, S: Source, K: Sink, E: Sink, G: Gate + Sync>(
     rt: &R,
     alloc: Global,
@@ -236,12 +216,22 @@ pub fn traind<R: Threads + Wait + Sync, F: Feed, S: Source, K: Sink, E: Sink, G:
     err: &mut E,
     gate: &G,
 ) -> Status
-    ensures contract { MeetsContract output_of byte_budget (map string_bytes words.now)
+    // every command but `gen`
+    ensures contract { is_gen (map string_bytes words.now) ≡ false
+        → MeetsContract output_of byte_budget (map string_bytes words.now)
         (feed_seen F.tables F.faults feed.old feed.new)
         (stream_seen S.left S.faults input.old input.new)
         (stream_seen K.written K.faults out.old out.new)
         (stream_seen E.written E.faults err.old err.new)
         feed.old feed.new input.old input.new out.old out.new result }
+
+    // `gen`, which has a feed and an input of its own
+    ensures generated { is_gen (map string_bytes words.now) ≡ true
+        → MeetsGenContract (map string_bytes words.now)
+        (stream_seen K.written K.faults out.old out.new)
+        (stream_seen E.written E.faults err.old err.new) out.old out.new result }
+    ensures untouched { is_gen (map string_bytes words.now) ≡ true
+        → (feed.new ≡ feed.old) × (input.new ≡ input.old) }
 {
     traind_within(rt, alloc, words, feed, input, out, err, gate, BYTE_BUDGET)
 }

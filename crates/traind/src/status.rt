@@ -6,12 +6,14 @@ ghost use Rattle.traind.specs.Statuses.{error_line, number_of, status_of};
 use command_words::WordsFault;
 use gtfs_tables::{FeedError, FeedRefusal};
 use information_service::LinesFault;
+use mt_io::Failed;
 use std::alloc::AllocError;
 
 /// How a run ends.
 #[derive(Clone, Copy, Debug, PartialEq, Eq)]
 pub enum Status {
-    /// The input was read to its end, and the whole output was written.
+    /// The input was read to its end, and the whole output was written; of `gen`, its own lines and
+    /// the summary.
     Ok,
     /// The words are none that the program knows.
     Usage,
@@ -26,6 +28,10 @@ pub enum Status {
     /// As many bytes of the input as may be were taken, and no end was read.
     TooLong,
 }
+
+/// How the program is called.
+const USAGE: &[u8] =
+    b"traind: usage: traind times FEED --from DATE or traind serve FEED --from DATE or traind gen N\n";
 
 impl Status {
     /// The exit status of the program.
@@ -50,8 +56,7 @@ impl Status {
     {
         match self {
             Status::Ok | Status::FeedRefused => b"",
-            Status::Usage =>
-                b"traind: usage: traind times FEED --from DATE or traind serve FEED --from DATE\n",
+            Status::Usage => USAGE,
             Status::ReadFault => b"traind: read fault\n",
             Status::WriteFault => b"traind: write fault\n",
             Status::OutOfMemory => b"traind: out of memory\n",
@@ -94,6 +99,17 @@ impl From<AllocError> for Fault {
 
     fn from(_want: AllocError) -> Fault {
         Fault::OutOfMemory
+    }
+}
+
+impl From<Failed> for Fault {
+    ghost use Rattle.std.specs.Prelude.{◌≡◌};
+    ghost use Rattle.traind.specs.declared.status.Fault.TheVariants.{WriteFault};
+
+    ghost from_gives = { λ _ e. e ≡ WriteFault };
+
+    fn from(_failed: Failed) -> Fault {
+        Fault::WriteFault
     }
 }
 

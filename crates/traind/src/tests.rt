@@ -1,4 +1,5 @@
 mod exhaustion;
+mod generated;
 mod limited;
 mod refused_memory;
 mod serve;

@@ -1,43 +1,56 @@
--- What is written for the whole input, by what running its windows leaves.
-use Rattle.window_service.proofs.Words.{◌≡◌, ◌∙◌, ◌≤◌, ◌++◌, ℕ, List, Option, Some, true, false, sym, ap, subst, arith, inl, inr, append_assoc, Consumes, Network, State, LinesFault}
-use Rattle.window_service.proofs.Words.{HasLinesFaultCause, WhereLinesStop, IsTaken, Line, Reader, IsDone, Names, IsServed, AppendsServed, AppendsWholeWindows, AppendsServedFront, HasEnded, HasStopped, HasBegun, AppendsFrontSoFar}
+-- What is received of the whole input, by what running its windows leaves.
+use Rattle.window_service.proofs.Words.{◌≡◌, ◌⊎◌, ◌∙◌, ◌≤◌, ◌++◌, ℕ, List, [], Option, Some, true, refl, sym, ap, subst, arith, inl, inr, append_assoc, Network, State, LinesFault}
+use Rattle.window_service.proofs.Words.{HasLinesFaultCause, WhereLinesStop, IsTaken, Line, Reader, IsDone, Names, Reply, IsClosedWindow, AreFirstReceived, AreAllReceived, IsReceivedWhole, IsReceivedInPart, IsReceivedAtFirst, HasEnded, HasStopped, HasBegun}
 use Rattle.information_service.specs.declared.fault.LinesFault.TheVariants.{ReadFault, WriteFault, OutOfMemory, TooLong}
 use Rattle.information_service.proofs.Ends.{all_taken}
+use Rattle.information_service.proofs.Fronts.{first_lines}
 use Rattle.mt_io.specs.Causes.{Rose}
+use Rattle.delay_model.specs.Windows.{lines_of as lines_of_windows}
 use Rattle.mt_io.specs.Lines.{lines_of}
 use Rattle.mt_io.proofs.Runs.{ends}
-use Rattle.information_service.proofs.Fronts.{first_lines}
+use Rattle.std.proofs.lemmas.List.Elements.{All-nil}
+use Rattle.window_service.proofs.Answered.{none-received}
 
--- at the end of the input its lines are those that were taken
-lines-are : {r : Reader} {left left_now : Option (List ℕ)} {taken : List ℕ} {lines : List Line} (bytes : List ℕ) → IsTaken r left left_now taken lines → IsDone r → left ≡ Some bytes → lines_of true bytes ≡ lines
+-- at the end of the input its lines are those that were read
+lines-are : {r : Reader} {left left_now : Option (List ℕ)} {taken : List ℕ} {lines : List Line} (bytes : List ℕ) → IsTaken r left left_now taken lines → IsDone r → left ≡ Some bytes → lines ≡ lines_of true bytes
 lines-are {r = r} {left = left} {left_now = left_now} {taken = taken} {lines = lines} bytes h done told =
-    ap (lines_of true) (sym (all_taken left left_now bytes taken h.source (h.end done.ended) told)) ∙ ends taken lines r h.lines_so_far done
+    sym (ap (lines_of true) (sym (all_taken left left_now bytes taken h.source (h.end done.ended) told)) ∙ ends taken lines r h.lines_so_far done)
 
-module _ {nw : Network} {names : Names} {st : State} {r : Reader} {left left_now written written_now : Option (List ℕ)} where
-  pub all-served : (bytes : List ℕ) → HasEnded nw names st r left left_now written written_now → left ≡ Some bytes → AppendsServed nw names st (lines_of true bytes) written written_now
-  all-served bytes h told = subst (λ (ls : List Line). AppendsServed nw names st ls written written_now) (sym (lines-are bytes h.taken h.done told)) h.output
+module _ {K : Type 0} {Receives : K → K → Names → List Reply → Type 0} {nw : Network} {names : Names} {st : State} {r : Reader} {left left_now : Option (List ℕ)} {old new : K} where
+  pub received-whole : HasEnded Receives nw names st r left left_now old new → IsReceivedWhole Receives nw names st left left_now old new
+  received-whole h = record {
+    ended = h.read.end h.done.ended;
+    all = λ bytes told. subst (λ (ls : List Line). AreAllReceived Receives Receives nw names st ls old new) (lines-are bytes h.read h.done told) h.output;
+  }
 
-  pub whole-windows : HasStopped nw names st r left left_now written written_now
-      → (bytes : List ℕ) × Consumes left left_now bytes × AppendsWholeWindows nw names st (lines_of false bytes) written written_now
-  whole-windows h = (h.bytes, h.taken.source, subst (λ (ls : List Line). AppendsWholeWindows nw names st ls written written_now) (sym h.are) h.output)
+  pub received-in-part : HasStopped Receives nw names st r left left_now old new → IsReceivedInPart Receives nw names st left left_now old new
+  received-in-part h = record { bytes = h.bytes; took = h.read.source; whole = rw h.are h.output }
 
-  front-by : {taken : List ℕ} {lines : List Line} (bytes : List ℕ) → IsTaken r left left_now taken lines → left ≡ Some bytes → AppendsFrontSoFar nw names st r lines written written_now
-      → AppendsServedFront nw names st (lines_of true bytes) written written_now
-  front-by {taken = taken} {lines = lines} bytes h told (inl f) =
+module _ {K : Type 0} {Receives Begins : K → K → Names → List Reply → Type 0} {nw : Network} {names : Names} {st : State} {left : Option (List ℕ)} {old new : K} where
+  first-by : {r : Reader} {left_now : Option (List ℕ)} {taken : List ℕ} {lines : List Line} (bytes : List ℕ) → IsTaken r left left_now taken lines → left ≡ Some bytes
+      → AreFirstReceived Receives Begins nw names st lines old new ⊎ (IsDone r × AreAllReceived Receives Begins nw names st lines old new)
+      → AreFirstReceived Receives Begins nw names st (lines_of true bytes) old new ⊎ AreAllReceived Receives Begins nw names st (lines_of true bytes) old new
+  first-by {r = r} {left_now = left_now} {taken = taken} {lines = lines} bytes h told (inl f) =
       let more = first_lines r left left_now taken bytes lines h.source told h.end h.lines_so_far in
       inl (record {
-        first = f.first;
+        windows = f.windows;
+        window = f.window;
         later = f.later ++ more.0;
-        shown = f.shown;
-        split = sym (append_assoc f.first f.later more.0) ∙ ap (λ (ls : List Line). ls ++ more.0) f.split ∙ sym more.1;
-        is = f.is;
-        front = f.front;
+        split = more.1 ∙ ap (λ (ls : List Line). ls ++ more.0) f.split ∙ append_assoc (lines_of_windows f.windows ++ f.window) f.later more.0;
+        closed = f.closed;
+        mid = f.mid;
+        received = f.received;
+        more = f.more;
       })
-  front-by bytes h told (inr all) =
-      inr (all.1.0, subst (λ (ls : List Line). IsServed nw names st ls all.1.0) (sym (lines-are bytes h all.0 told)) all.1.1, all.1.2)
+  first-by bytes h told (inr all) = inr (subst (λ (ls : List Line). AreAllReceived Receives Begins nw names st ls old new) (lines-are bytes h all.0 told) all.1)
 
-  pub front-served : (bytes : List ℕ) → HasBegun nw names st r left left_now written written_now → left ≡ Some bytes → AppendsServedFront nw names st (lines_of true bytes) written written_now
-  front-served bytes h told = front-by bytes h.taken told h.output
+  pub received-at-first : {r : Reader} {left_now : Option (List ℕ)} → HasBegun Receives Begins nw names st r left left_now old new → IsReceivedAtFirst Receives Begins nw names st left old new
+  received-at-first h bytes told = first-by bytes h.read told h.output
+
+-- an output that received nothing
+pub nothing-received : {K : Type 0} {Receives Begins : K → K → Names → List Reply → Type 0} {nw : Network} {names : Names} {st : State} {left : Option (List ℕ)} {out : K} → IsReceivedAtFirst Receives Begins nw names st left out out
+nothing-received {Receives = Receives} {nw = nw} {names = names} {st = st} {out = out} bytes told =
+    inl (record { windows = []; window = []; later = lines_of true bytes; split = refl; closed = All-nil IsClosedWindow; mid = out; received = none-received Receives nw names st out; more = inl refl })
 
 -- ---- faults of a write
 
@@ -54,3 +67,10 @@ rose-since T L before mid now ReadFault later cause = absurd cause
 rose-since T L before mid now WriteFault later cause = omega (arith, later, cause)
 rose-since T L before mid now OutOfMemory later cause = tt
 rose-since T L before mid now TooLong later cause = absurd cause
+
+-- where no write can fail, none did
+pub none-rose : (R L : Type 0) (f : LinesFault) → HasLinesFaultCause R (Rose 0 0) L f → HasLinesFaultCause R ⊥ L f
+none-rose R L ReadFault cause = cause
+none-rose R L WriteFault cause = omega (arith, cause)
+none-rose R L OutOfMemory cause = tt
+none-rose R L TooLong cause = cause

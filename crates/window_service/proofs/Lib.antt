@@ -2,3 +2,6 @@ pub mod Words
 pub mod Answered
 pub mod Inputs
 pub mod Networks
+pub mod SameSums
+pub mod SumLemmas
+pub mod Written

@@ -14,6 +14,9 @@ use Rattle.message_reader.specs.ResolvedQueries.{query_resolved}
 use Rattle.mt_io.specs.Lines.{Line}
 use Rattle.schedule_build.specs.Directory.{Names}
 use Rattle.query_crew.specs.Served.{IsQueryReply, IsReplyAt, AreWindowReplies, AreRepliesFrom, text_of_replies, text_from, AreServed, IsServed}
+use Rattle.query_crew.specs.Windows.{windows_of}
+use Rattle.reply_sums.specs.declared.sums.ReplySums.{ReplySums}
+use Rattle.window_service.specs.Summed.{AreSummed}
 use Rattle.window_service.specs.Whole.{AreWholeWindowsServed}
 
 module _ (a b : Network) (h : IsSame a b) (names : Names) (st : State) where
@@ -81,4 +84,17 @@ whole-same a b h names st lines bytes s = record {
   are_read = s.are_read;
   joined = s.joined;
   served = windows-alike a b h names st s.windows bytes s.served;
+}
+
+-- and the same sums are those over replies
+pub summed-same : (a b : Network) → IsSame a b → (names : Names) (st : State) (lines : List Line) (sums : ReplySums) → AreSummed b names st lines sums → AreSummed a names st lines sums
+summed-same a b h names st lines sums s = record {
+  output = s.output;
+  served = record {
+    replies = s.served.replies;
+    are = replies-alike a b h names st [] (windows_of lines) s.served.replies s.served.are;
+    counts = s.served.counts;
+    text = s.served.text ∙ text-alike a b h names st [] (windows_of lines) s.served.replies;
+  };
+  sums_are = s.sums_are;
 }

@@ -1,2 +1,5 @@
 pub mod Whole
 pub mod Runs
+pub mod Summed
+pub mod Received
+pub mod SameSums

@@ -35,8 +35,8 @@ abbrev pub AppendsFirstWindows : Network → Names → State → List Line → O
     → Option (List ℕ) → Type 0
 AppendsFirstWindows nw names st = AppendsFirst (AreWholeWindowsServed nw names st)
 
--- a front was written of what is written for these lines: of the replies to the whole windows of the
--- first of them, or of all replies
+-- a front was written of what is written for these lines: of the replies to the whole windows of
+-- the first of them, or of all replies
 abbrev pub AppendsServedFront : Network → Names → State → List Line → Option (List ℕ)
     → Option (List ℕ) → Type 0
 AppendsServedFront nw names st =

@@ -1,4 +1,4 @@
-//! The whole output: the replies to all windows of the input.
+//! The replies to all windows of the input: received by any output, or written.
 
 ghost use Rattle.std.specs.Prelude.{◌≡◌, ◌≤◌, List, ℕ, Some, true, false, OnOk, IfErr};
 ghost use Rattle.std.specs.Io.KnownBytes.{Consumes, IsAtEnd};
@@ -6,9 +6,12 @@ ghost use Rattle.mt_io.specs.Causes.{Rose};
 ghost use Rattle.mt_io.specs.Lines.{lines_of};
 ghost use Rattle.information_service.specs.Causes.{HasLinesFaultCause, WhereLinesStop, TookAll};
 ghost use Rattle.schedule_build.specs.InStep.{AreInStep};
+ghost use Rattle.window_service.specs.Received.{IsReceivedWhole, IsReceivedInPart, IsReceivedAtFirst};
 ghost use Rattle.window_service.specs.Whole.{AppendsServed, AppendsWholeWindows, AppendsServedFront};
 
+use crate::receiving::ReceiveReplies;
 use crate::windows::answer_windows;
+use crate::writing::WriteTexts;
 use information_service::LinesFault;
 use mt_io::{Gate, LineReader, Sink, Source};
 use query_crew::Crew;
@@ -21,13 +24,77 @@ use timetable::Timetable;
 use train_nodes::Msg;
 
 /// Answers the windows of the input one after another, with so many workers beside the publisher of
+/// the messages, and the output receives the replies to a window when all of it is answered.
+pub(crate) fn receive_windows<
+    H: Opening<Timetable> + Send + Sync,
+    T: ReceiveReplies<K>,
+    R: Threads + Wait + Sync,
+    S: Source,
+    K,
+    G: Gate + Sync,
+>(
+    rt: &R,
+    alloc: Global,
+    history: NewHistory<Msg>,
+    timetable: Timetable,
+    directory: Directory,
+    trains: u32,
+    workers: u32,
+    input: &mut S,
+    out: &mut K,
+    gate: &G,
+    budget: u64,
+) -> Result<(), LinesFault>
+    // the history of the board that is opened, and how it opens
+    requires book { history ≡ H.book }
+    requires opening { H.opening ≡ Some timetable }
+
+    // names and trains are in step, and one to sixteen workers
+    requires in_step { AreInStep directory timetable.state }
+    requires some { 1 ≤ workers }
+    requires few { workers ≤ 16 }
+
+    // what is received at the end, or where it stops
+    ensures all { OnOk result (IsReceivedWhole T.receives timetable.network directory
+        timetable.state (S.left input.old) (S.left input.new) out.old out.new) }
+    ensures stopped { IfErr result (WhereLinesStop (IsReceivedInPart T.receives timetable.network
+        directory timetable.state (S.left input.old) (S.left input.new) out.old out.new)) }
+    ensures begun { IfErr result (λ f. IsReceivedAtFirst T.receives T.begins timetable.network
+        directory timetable.state (S.left input.old) out.old out.new) }
+
+    // faults have causes, and their counts do not fall
+    ensures fault { IfErr result (HasLinesFaultCause
+        (Rose (S.faults input.old) (S.faults input.new))
+        (Rose (T.failed out.old) (T.failed out.new))
+        (TookAll budget (S.left input.old) (S.left input.new))) }
+    ensures later { (S.faults input.old ≤ S.faults input.new)
+        × (T.failed out.old ≤ T.failed out.new) }
+{
+    let mut reader = LineReader::build(alloc, budget)?;
+    let mut crew: Crew<Publisher<Timetable, H>, Viewer<Timetable, H>> = Crew::build(
+        rt, alloc, history, timetable, directory, workers, trains,
+    )?;
+    let run = answer_windows::<H, T, R, S, K, G>(
+        rt,
+        alloc,
+        &mut crew,
+        &mut reader,
+        input,
+        out,
+        gate,
+    );
+    crew.close(rt, alloc);
+    run
+}
+
+/// Answers the windows of the input one after another, with so many workers beside the publisher of
 /// the messages, and writes the replies to a window when all of it is answered. The search for
 /// journeys remembers where it has been of trains below the number `trains`; for others it only
 /// takes longer. It fails with `ReadFault` where a read of the input failed, and with `TooLong`
 /// where `budget` bytes of it were taken and no end was read; then the windows that are whole among
 /// the bytes taken are answered, and no other line is. It fails with `WriteFault` where a write of
-/// the output failed, and with `OutOfMemory` where there was none, or where the number of lines
-/// comes near 2^64; then a front of an output is written.
+/// the output failed, and with `OutOfMemory` where there was no memory, or where the number of
+/// lines comes near 2^64; then a front of an output is written.
 pub fn write_windows<
     H: Opening<Timetable> + Send + Sync,
     R: Threads + Wait + Sync,
@@ -79,11 +146,7 @@ pub fn write_windows<
     ensures later { (S.faults input.old ≤ S.faults input.new)
         × (K.faults out.old ≤ K.faults out.new) }
 {
-    let mut reader = LineReader::build(alloc, budget)?;
-    let mut crew: Crew<Publisher<Timetable, H>, Viewer<Timetable, H>> = Crew::build(
-        rt, alloc, history, timetable, directory, workers, trains,
-    )?;
-    let run = answer_windows(rt, alloc, &mut crew, &mut reader, input, out, gate);
-    crew.close(rt, alloc);
-    run
+    receive_windows::<H, WriteTexts, R, S, K, G>(
+        rt, alloc, history, timetable, directory, trains, workers, input, out, gate, budget,
+    )
 }

@@ -15,9 +15,9 @@ ghost use Rattle.query_crew.specs.Posting.{CanBeRun, StandsAt};
 ghost use Rattle.query_crew.specs.WindowLines.{window_lines};
 ghost use Rattle.window_service.specs.Runs.{IsAnswered, IsBegun, HasEnded, HasStopped, HasBegun};
 
-use crate::writing::write_replies;
+use crate::receiving::ReceiveReplies;
 use information_service::LinesFault;
-use mt_io::{Gate, LineReader, Sink, Source};
+use mt_io::{Gate, LineReader, Source};
 use query_crew::{Crew, Window, WindowEnd, WindowLine, read_window};
 use snapshot_board::{Opening, Publisher, Viewer};
 use std::alloc::Global;
@@ -25,13 +25,14 @@ use std::sync::Wait;
 use std::thread::Threads;
 use timetable::Timetable;
 
-/// Runs a window and writes the replies to its lines. `first` is the number of lines before it. It
-/// fails with `WriteFault` where a write of the output failed, and with `OutOfMemory` where there
-/// was none; then the crew can only be closed.
+/// Runs a window, and the output receives the replies to its lines. `first` is the number of lines
+/// before it. It fails with `WriteFault` where a write of the output failed, and with `OutOfMemory`
+/// where there was no memory; then the crew can only be closed.
 fn answer_window<
     H: Opening<Timetable> + Send + Sync,
+    T: ReceiveReplies<K>,
     R: Threads + Wait + Sync,
-    K: Sink,
+    K,
     G: Gate + Sync,
 >(
     rt: &R,
@@ -51,22 +52,22 @@ fn answer_window<
         (before window : List Line) → StandsAt H.opening crew.old.publisher crew.old.directory
         (service_after nw names st before)
         → first ≡ length before → lines.now ≡ window_lines crew.old.directory window
-        → IsAnswered H.opening nw names st before window crew.new.publisher crew.new.directory
-        (K.written out.old) (K.written out.new)) }
+        → IsAnswered T.receives H.opening nw names st before window crew.new.publisher
+        crew.new.directory out.old out.new) }
     ensures begun { IfErr result (λ f. (nw : Network) (names : Names) (st : State)
         (before window : List Line) → StandsAt H.opening crew.old.publisher crew.old.directory
         (service_after nw names st before)
         → first ≡ length before → lines.now ≡ window_lines crew.old.directory window
-        → IsBegun nw names st before window (K.written out.old) (K.written out.new)) }
+        → IsBegun T.begins nw names st before window out.old out.new) }
     ensures ready { OnOk result (IsReady H.opening crew.new) }
 
     // faults have causes, and their count does not fall
     ensures fault { IfErr result (HasLinesFaultCause ⊥
-        (Rose (K.faults out.old) (K.faults out.new)) ⊥) }
-    ensures later { K.faults out.old ≤ K.faults out.new }
+        (Rose (T.failed out.old) (T.failed out.new)) ⊥) }
+    ensures later { T.failed out.old ≤ T.failed out.new }
 {
     let replies = crew.run_window(rt, alloc, lines, first, gate)?;
-    write_replies(alloc, &crew.directory, replies.as_slice(), out)
+    T::receive(alloc, &crew.directory, replies.as_slice(), out)
 }
 
 /// Whether numbers of lines and of messages still fit after one more window.
@@ -79,14 +80,15 @@ fn has_room(first: u64, posted: u64) -> bool
 /// Answers each window of the input, until the input is at its end: for a new reader, and a crew to
 /// which no message was posted. It fails with `ReadFault` or `TooLong` where the reader does, when
 /// all whole windows before are answered; the window in which that came is not run. It fails with
-/// `WriteFault` where a write of the output failed, and with `OutOfMemory` where there was none, or
-/// where the number of lines comes near 2^64; then the last window may have no replies, or a part
-/// of them.
+/// `WriteFault` where a write of the output failed, and with `OutOfMemory` where there was no
+/// memory, or where the number of lines comes near 2^64; then the last window may have no replies,
+/// or a part of them.
 pub(crate) fn answer_windows<
     H: Opening<Timetable> + Send + Sync,
+    T: ReceiveReplies<K>,
     R: Threads + Wait + Sync,
     S: Source,
-    K: Sink,
+    K,
     G: Gate + Sync,
 >(
     rt: &R,
@@ -102,24 +104,24 @@ pub(crate) fn answer_windows<
     requires ready { IsReady H.opening crew.old }
     requires new { crew.old.publisher ≡ [] }
 
-    // what is written at the end, or where it stops, over the timetable at which the board opened
+    // what is received at the end, or where it stops, over the timetable at which the board opened
     ensures all { OnOk result ((t : TimetableState) → H.opening ≡ Some t
-        → HasEnded t.network crew.old.directory t.state reader.new (S.left input.old)
-        (S.left input.new) (K.written out.old) (K.written out.new)) }
+        → HasEnded T.receives t.network crew.old.directory t.state reader.new (S.left input.old)
+        (S.left input.new) out.old out.new) }
     ensures stopped { IfErr result (WhereLinesStop ((t : TimetableState) → H.opening ≡ Some t
-        → HasStopped t.network crew.old.directory t.state reader.new (S.left input.old)
-        (S.left input.new) (K.written out.old) (K.written out.new))) }
+        → HasStopped T.receives t.network crew.old.directory t.state reader.new (S.left input.old)
+        (S.left input.new) out.old out.new)) }
     ensures begun { IfErr result (λ f. (t : TimetableState) → H.opening ≡ Some t
-        → HasBegun t.network crew.old.directory t.state reader.new (S.left input.old)
-        (S.left input.new) (K.written out.old) (K.written out.new)) }
+        → HasBegun T.receives T.begins t.network crew.old.directory t.state reader.new
+        (S.left input.old) (S.left input.new) out.old out.new) }
 
     // faults have causes, and their counts do not fall
     ensures fault { IfErr result (HasLinesFaultCause
         (Rose (S.faults input.old) (S.faults input.new))
-        (Rose (K.faults out.old) (K.faults out.new))
+        (Rose (T.failed out.old) (T.failed out.new))
         (TookAll reader.old.budget (S.left input.old) (S.left input.new))) }
     ensures later { (S.faults input.old ≤ S.faults input.new)
-        × (K.faults out.old ≤ K.faults out.new) }
+        × (T.failed out.old ≤ T.failed out.new) }
 {
     let mut window = Window::build(alloc)?;
     let mut first = 0;
@@ -127,11 +129,19 @@ pub(crate) fn answer_windows<
         let end = read_window(alloc, reader, input, &crew.directory, &mut window)?;
         match end {
             WindowEnd::More => {
-                answer_window(rt, alloc, crew, window.lines(), first, out, gate)?;
+                answer_window::<H, T, R, K, G>(rt, alloc, crew, window.lines(), first, out, gate)?;
                 first += window.lines().len() as u64;
             }
             WindowEnd::End => {
-                return answer_window(rt, alloc, crew, window.lines(), first, out, gate);
+                return answer_window::<H, T, R, K, G>(
+                    rt,
+                    alloc,
+                    crew,
+                    window.lines(),
+                    first,
+                    out,
+                    gate,
+                );
             }
             WindowEnd::ReadFault => return Err(LinesFault::ReadFault),
             WindowEnd::Budget => return Err(LinesFault::TooLong),

@@ -1,4 +1,4 @@
-//! The replies of a window, written at once.
+//! The replies to a window as texts, written at once.
 
 ghost use Rattle.std.specs.Prelude.{◌≤◌, OnOk, IfErr, IfOk, ◌≡◌};
 ghost use Rattle.std.specs.Io.KnownBytes.{Appends};
@@ -7,6 +7,7 @@ ghost use Rattle.information_service.specs.Fronts.{AppendsFront};
 ghost use Rattle.mt_io.specs.Causes.{Rose};
 ghost use Rattle.query_crew.specs.Served.{text_of_replies};
 
+use crate::receiving::ReceiveReplies;
 use delay_report::{Reply, reply_text};
 use information_service::LinesFault;
 use mt_base::memory::OutOfMemory;
@@ -30,8 +31,8 @@ fn text_of_replies(
 }
 
 /// Writes replies. It fails with `WriteFault` where a write of the output failed, and with
-/// `OutOfMemory` where there was none, before anything is written.
-pub(crate) fn write_replies<K: Sink>(
+/// `OutOfMemory` where there was no memory, before anything is written.
+fn write_replies<K: Sink>(
     alloc: Global,
     directory: &Directory,
     replies: &[Reply],
@@ -48,4 +49,26 @@ pub(crate) fn write_replies<K: Sink>(
     let text = text_of_replies(alloc, directory, replies)?;
     put(out, text.as_slice())?;
     Ok(())
+}
+
+/// Writes the text of each reply.
+pub(crate) struct WriteTexts;
+
+impl<K: Sink> ReceiveReplies<K> for WriteTexts {
+    ghost use Rattle.window_service.specs.Received.{ReceivesTexts, BeginsTexts};
+
+    ghost receives = { ReceivesTexts K.written };
+
+    ghost begins = { BeginsTexts K.written };
+
+    ghost failed = { K.faults };
+
+    fn receive(
+        alloc: Global,
+        directory: &Directory,
+        replies: &[Reply],
+        out: &mut K,
+    ) -> Result<(), LinesFault> {
+        write_replies(alloc, directory, replies, out)
+    }
 }

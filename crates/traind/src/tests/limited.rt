@@ -75,7 +75,14 @@ fn shown_by<R: Threads + Wait + Sync>(
     let words = words_of_serve(alloc, "4")?;
     let asked = read_words(alloc, &words)?;
     let mut feed = feed_with_rules(alloc)?;
-    let loaded = load_timetable(alloc, &asked, &mut feed)?;
+    let loaded = load_timetable(
+        alloc,
+        asked.folder,
+        asked.first,
+        asked.days,
+        &asked.opts,
+        &mut feed,
+    )?;
     Ok(limited_text::<Brand, R>(
         rt,
         alloc,

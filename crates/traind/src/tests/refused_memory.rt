@@ -25,7 +25,15 @@ fn feed_timetable(alloc: Global) -> Result<Timetable, Fail> {
     let words = words(alloc)?;
     let asked = read_words(alloc, &words)?;
     let mut feed = feed(alloc, STOP_TIMES.as_bytes())?;
-    Ok(load_timetable(alloc, &asked, &mut feed)?.timetable)
+    let loaded = load_timetable(
+        alloc,
+        asked.folder,
+        asked.first,
+        asked.days,
+        &asked.opts,
+        &mut feed,
+    )?;
+    Ok(loaded.timetable)
 }
 
 /// Whether there is a journey from one place to another from 08:00:00 on.

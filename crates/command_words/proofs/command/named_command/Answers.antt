@@ -1,15 +1,7 @@
-use Rattle.std.proofs.Common.{◌≡◌, ◌∙◌, ap₂, false}
 use Rattle.std.proofs.lemmas.Result.{IfOk-weaker}
-use Rattle.clap.specs.Words.{AddsArg, App, Rule, app_of, rule_of, with_rule}
-use Rattle.clap.specs.declared.builder.arg.Arg.{Arg}
-use Rattle.clap.specs.declared.builder.command.Command.{Command}
 use Rattle.command_words.specs.Commands.{command_app}
+use Rattle.command_words.proofs.Adding.{added}
 use Rattle.command_words.proofs.command.named_command.Goals as goal
-
--- a command with one more argument, as clap reads both
-added : {old new : Command} {arg : Arg} {app : App} {rule : Rule} → AddsArg old arg new → arg.global ≡ false → app_of old ≡ app → rule_of arg ≡ rule
-    → app_of new ≡ with_rule app rule
-added adds local app_is rule_is = adds.shape local ∙ ap₂ with_rule app_is rule_is
 
 pub returns : goal.returns
 unfolding command_app

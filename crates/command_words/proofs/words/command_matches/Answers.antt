@@ -1,5 +1,6 @@
-use Rattle.std.proofs.Common.{◌≡◌, ◌∙◌, List, [], true, map, string_bytes, ap, refl, subst, sym, ⊎_elim}
-use Rattle.clap.specs.Words.{App, IsAmong, Kinds, Text, app_of, fault_of, is_simple, is_simple_and_free, kind_of, matches_of}
+use Rattle.std.proofs.Common.{◌≡◌, ◌∙◌, [], true, ap, map, refl, string_bytes, subst}
+use Rattle.std.specs.Result.{IfOk}
+use Rattle.clap.specs.Words.{App, Text, fault_of, found_of, is_simple, is_simple_and_free, matches_of, rows_of}
 use Rattle.clap.proofs.OnLiterals.{clap_on_literals}
 use Rattle.command_words.specs.Commands.{command_app}
 use Rattle.command_words.proofs.words.command_matches.Goals as goal
@@ -12,25 +13,19 @@ free : (name : Text) → is_simple_and_free (command_app name) ≡ true
 unfolding command_app clap_on_literals
 free name = refl
 
-pub returns-in-Ok-clause-taken : goal.returns-in-Ok-clause-taken
-returns-in-Ok-clause-taken c =
-    let same : app_of c.in_ok-command.command ≡ command_app c.args.name.now = c.in_ok-command.ensures in
-    ap (λ (a : App). fault_of a (map string_bytes c.args.words.now)) (sym same) ∙ c.in-Ok.ensures.kinds (ap is_simple_and_free same ∙ free c.args.name.now)
+pub given_arguments-requires-clause-simple : goal.given_arguments-requires-clause-simple
+given_arguments-requires-clause-simple c = ap is_simple c.in_ok-named_command.ensures ∙ simple c.args.name.now
 
-pub returns-in-Ok-clause-values : goal.returns-in-Ok-clause-values
-returns-in-Ok-clause-values c =
-    let same : app_of c.in_ok-command.command ≡ command_app c.args.name.now = c.in_ok-command.ensures in
-    (c.in-Ok.ensures.matches (ap is_simple same ∙ simple c.args.name.now)).0 ∙ ap (λ (a : App). matches_of a (map string_bytes c.args.words.now)) same
+pub given_arguments-requires-clause-free : goal.given_arguments-requires-clause-free
+given_arguments-requires-clause-free c = ap is_simple_and_free c.in_ok-named_command.ensures ∙ free c.args.name.now
 
-pub returns : goal.returns
-returns c =
-    let same : app_of c.in_ok-command.command ≡ command_app c.args.name.now = c.in_ok-command.ensures in
-    let words : List Text = map string_bytes c.args.words.now in
-    record {
-      taken = tt;
-      values = tt;
-      usage = λ is none. ⊎_elim
-          (λ memory. c.in_default.not-OutOfMemory (c.kind.ensures ∙ memory))
-          (λ among. let no : IsAmong (kind_of c.in-Err.error) [] = subst (λ (kinds : Kinds). IsAmong (kind_of c.in-Err.error) kinds) (ap (λ (a : App). fault_of a words) same ∙ none) among in no)
-          (c.in-Err.ensures.kinds (ap is_simple_and_free same ∙ free c.args.name.now));
-    }
+pub returns-clause-taken : goal.returns-clause-taken
+returns-clause-taken c =
+    subst (λ (a : App). IfOk c.given_arguments.result (λ _. fault_of a (map string_bytes c.args.words.now) ≡ [])) c.in_ok-named_command.ensures c.given_arguments.ensures.taken
+
+pub returns-clause-values : goal.returns-clause-values
+returns-clause-values c =
+    subst (λ (a : App). IfOk c.given_arguments.result (λ m. rows_of (found_of m) ≡ matches_of a (map string_bytes c.args.words.now))) c.in_ok-named_command.ensures c.given_arguments.ensures.values
+
+pub returns-clause-usage : goal.returns-clause-usage
+returns-clause-usage c is none = c.given_arguments.ensures.usage is (ap (λ (a : App). fault_of a (map string_bytes c.args.words.now)) c.in_ok-named_command.ensures ∙ none)

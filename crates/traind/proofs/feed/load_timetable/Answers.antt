@@ -9,5 +9,5 @@ use Rattle.traind.proofs.feed.load_timetable.Goals as goal
 pub returns-clause-network : goal.returns-clause-network
 returns-clause-network g c = λ told rows is are.
     let both = c.in_ok-loaded.ensures.network told rows is are in
-    subst (λ (n : Network). IsSame (network rows c.args.asked.now.opts) n) (sym (ap (λ (t : TimetableState). t.network) c.in_ok-timetable.ensures))
-    (same-tables rows c.args.asked.now.opts c.in_ok-loaded.loaded.changes c.in_ok-loaded.loaded.waits both.0 both.1)
+    subst (λ (n : Network). IsSame (network rows c.args.opts.now) n) (sym (ap (λ (t : TimetableState). t.network) c.in_ok-timetable.ensures))
+    (same-tables rows c.args.opts.now c.in_ok-loaded.loaded.changes c.in_ok-loaded.loaded.waits both.0 both.1)

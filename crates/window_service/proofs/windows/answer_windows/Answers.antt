@@ -1,4 +1,4 @@
-use Rattle.window_service.proofs.Words.{◌≡◌, ◌∙◌, ◌+◌, ◌∷◌, ◌++◌, length, ap, sym, refl, arith, [], List, ℕ, Option, true, each_fault, handed_on, on_ok_weaker, IfErr-weaker}
+use Rattle.window_service.proofs.Words.{◌≡◌, ◌∙◌, ◌∷◌, ◌++◌, length, ap, sym, refl, arith, [], List, ℕ, Option, true, each_fault, handed_on, on_ok_weaker, IfErr-weaker}
 use Rattle.std.proofs.Common.{Bool}
 use Rattle.std.proofs.lemmas.List.{length-map}
 use Rattle.information_service.specs.Lines.{said_by}
@@ -17,7 +17,7 @@ windows-init g c = record {
     [],
     [],
     none-read c.args.reader.now c.args.reader.now.budget (g.S.Source.left c.args.input.now) c.requires.reader,
-    λ t is. none-answered t (g.K.Sink.written c.args.out.now) is c.requires.new c.requires.ready.board,
+    λ t is. none-answered t c.args.out.now is c.requires.new c.requires.ready.board,
   );
   ready = c.requires.ready;
   budget = refl;
@@ -51,7 +51,7 @@ windows-preserved g c =
 pub returns-in_err-window-clause-begun : goal.returns-in_err-window-clause-begun
 returns-in_err-window-clause-begun g c =
     let read = none-read c.args.reader.now c.args.reader.now.budget (g.S.Source.left c.args.input.now) c.requires.reader in
-    each_fault c.from_residual.result _ (λ f t is. begun-so-far read (none-answered t (g.K.Sink.written c.args.out.now) is c.requires.new c.requires.ready.board))
+    each_fault c.from_residual.result _ (λ f t is. begun-so-far read (none-answered t c.args.out.now is c.requires.new c.requires.ready.board))
 
 pub returns-in_err-end-clause-begun : goal.returns-in_err-end-clause-begun
 returns-in_err-end-clause-begun g c =

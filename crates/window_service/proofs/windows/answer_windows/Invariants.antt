@@ -10,11 +10,11 @@ invariant-windows g l =
     let o = g.H.Opening.opening in
     record {
       run : (bytes : List ℕ) × (ws : List (List Line)) × AreRead l.reader (left l.initial.input) (left l.input) l.first bytes ws
-          × ((t : TimetableState) → o ≡ Some t → AreAnswered o t.network l.initial.crew.directory t.state ws l.crew.publisher l.crew.directory (g.K.Sink.written l.initial.out) (g.K.Sink.written l.out));
+          × ((t : TimetableState) → o ≡ Some t → AreAnswered g.T.ReceiveReplies.receives o t.network l.initial.crew.directory t.state ws l.crew.publisher l.crew.directory l.initial.out l.out);
       ready : IsReady o l.crew;
       budget : l.reader.budget ≡ l.initial.reader.budget;
       read : g.S.Source.faults l.initial.input ≤ g.S.Source.faults l.input;
-      write : g.K.Sink.faults l.initial.out ≤ g.K.Sink.faults l.out;
+      write : g.T.ReceiveReplies.failed l.initial.out ≤ g.T.ReceiveReplies.failed l.out;
     }
 
 abbrev pub decreases-windows : goal.decreases-windows

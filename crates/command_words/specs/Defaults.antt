@@ -1,0 +1,27 @@
+-- Words that give no option ask for the default options.
+use Rattle.std.specs.Prelude.{◌≡◌, List, [], ◌∷◌, Some, codes}
+use Rattle.clap.specs.Words.{Text}
+use Rattle.command_words.specs.declared.words.Command.{Command}
+use Rattle.command_words.specs.declared.words.Command.TheVariants.{Times, Serve}
+use Rattle.command_words.specs.GenWords.{default_options}
+use Rattle.command_words.specs.Words.{Asked, asked_of}
+
+-- `NAME feed --from 20260105`
+abbrev pub words_without_options : Text → List Text
+words_without_options name = name ∷ codes "feed" ∷ codes "--from" ∷ codes "20260105" ∷ []
+
+-- what they ask for
+abbrev pub asked_by_default : Command → Asked
+asked_by_default command = record {
+  command = command;
+  folder = codes "feed";
+  first = 20260105;
+  days = 1;
+  opts = default_options;
+  workers = 4;
+}
+
+abbrev pub DefaultsAreAsked : Type 0
+DefaultsAreAsked =
+    (asked_of (words_without_options (codes "times")) ≡ Some (asked_by_default Times))
+    × (asked_of (words_without_options (codes "serve")) ≡ Some (asked_by_default Serve))

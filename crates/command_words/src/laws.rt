@@ -1,0 +1,9 @@
+//! What holds of the words of the commands.
+
+ghost use Rattle.command_words.specs.Defaults.{DefaultsAreAsked};
+
+/// Words of `times` and `serve` that give no option ask for the default options, for one service
+/// day and for four workers.
+pub fn defaults_are_asked()
+    ensures { DefaultsAreAsked }
+{}

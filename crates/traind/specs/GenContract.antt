@@ -1,0 +1,70 @@
+-- What `gen` promises of each run, whatever its outputs do.
+use Rattle.std.specs.Prelude.{ℕ, ◌≡◌, ◌≢◌, ◌⊎◌, List, None, Some, Result, Err, OnOk, IfErr}
+use Rattle.std.specs.Io.KnownBytes.{Appends}
+use Rattle.command_words.specs.GenWords.{gen_asked_of}
+use Rattle.command_words.specs.declared.gen_words.AskedGen.{AskedGen}
+use Rattle.information_service.specs.Fronts.{AppendsFront}
+use Rattle.mt_io.specs.Causes.{AppendsPart, Rose}
+use Rattle.traind.specs.Causes.{HasFaultCause}
+use Rattle.traind.specs.Contract.{StreamSeen, Tells}
+use Rattle.traind.specs.Statuses.{error_line}
+use Rattle.traind.specs.Summaries.{WritesSummary}
+use Rattle.traind.specs.declared.status.Fault.{Fault}
+use Rattle.traind.specs.declared.status.Fault.TheVariants as faults
+use Rattle.traind.specs.declared.status.Status.{Status}
+use Rattle.traind.specs.declared.status.Status.TheVariants.{Ok, Usage, FeedRefused, ReadFault, WriteFault, OutOfMemory, TooLong}
+
+-- How a run of `gen` ends, before its status is told. It had these words; it found the output as
+-- the first and left it as the second
+pub record GenEndsAs {K : Type 0} (words : List (List ℕ)) (out : StreamSeen) (out_old out_new : K)
+    (run : Result (Unit {0}) Fault) : Type 0 where
+  -- all went well: the summary is written
+  pub ok : OnOk run (WritesSummary Appends words out.bytes out.bytes_after)
+  -- words that ask for nothing, which touch nothing
+  pub no_words : gen_asked_of words ≡ None
+      → (run ≡ Err faults.Usage) ⊎ (run ≡ Err faults.OutOfMemory)
+  pub usage_untouched : gen_asked_of words ≡ None → out_new ≡ out_old
+  -- why the run stops: for no other cause than the words, a failed write and want of memory
+  pub fault : IfErr run (HasFaultCause (gen_asked_of words ≡ None) (λ why. ⊥) ⊥
+      (Rose out.faults out.faults_after) ⊥)
+  -- where there is no memory nothing was written, and where a write failed not all of the summary
+  pub memory : run ≡ Err faults.OutOfMemory → out_new ≡ out_old
+  pub part : run ≡ Err faults.WriteFault
+      → WritesSummary AppendsPart words out.bytes out.bytes_after
+  -- however it ends, what is written is a front of the summary, or nothing was touched
+  pub front : (out_new ≡ out_old) ⊎ WritesSummary AppendsFront words out.bytes out.bytes_after
+
+-- The contract of `gen`. The run had these words; it found the output as the first and left it as
+-- the second; and it ended with this status
+pub record MeetsGenContract {K : Type 0} (words : List (List ℕ)) (out err : StreamSeen)
+    (out_old out_new : K) (status : Status) : Type 0 where
+  -- ---- words
+
+  -- the status for words that ask for nothing comes for such words alone
+  pub usage : status ≡ Usage → gen_asked_of words ≡ None
+  -- and for all of them, unless there is no memory
+  pub usage_exactly : gen_asked_of words ≡ None → (status ≡ Usage) ⊎ (status ≡ OutOfMemory)
+  -- such words touch nothing
+  pub usage_untouched : gen_asked_of words ≡ None → out_new ≡ out_old
+  -- ---- the output
+
+  -- all went well: the summary of so many trains is written, of which there is only one
+  pub ok : status ≡ Ok → WritesSummary Appends words out.bytes out.bytes_after
+  -- where there was no memory, nothing was written
+  pub memory : status ≡ OutOfMemory → out_new ≡ out_old
+  -- where a write failed, a front of the summary is written, and not all of it
+  pub part : status ≡ WriteFault → WritesSummary AppendsPart words out.bytes out.bytes_after
+  -- however the run ended, what is written is a front of the summary, or nothing was touched
+  pub front : (out_new ≡ out_old) ⊎ WritesSummary AppendsFront words out.bytes out.bytes_after
+  -- ---- faults
+
+  -- its own feed is not refused, its own reads do not fail, and its own lines are not too many
+  pub never : (status ≢ FeedRefused) × (status ≢ ReadFault) × (status ≢ TooLong)
+  -- a write fault comes where a write of the output failed
+  pub write_fault : status ≡ WriteFault → Rose out.faults out.faults_after
+  -- words that ask for a number of trains, and no write that failed: all goes well, unless there is
+  -- no memory
+  pub complete : (asked : AskedGen) → gen_asked_of words ≡ Some asked
+      → ¬ (Rose out.faults out.faults_after) → (status ≡ Ok) ⊎ (status ≡ OutOfMemory)
+  -- the error stream has the line of the status
+  pub error_line : Tells err (error_line status)

@@ -1,0 +1,92 @@
+//! The sums over the replies to all windows of the input.
+
+ghost use Rattle.std.specs.Prelude.{◌≡◌, ◌≤◌, List, ℕ, Some, true, IfOk, IfErr};
+ghost use Rattle.mt_io.specs.Causes.{Rose};
+ghost use Rattle.mt_io.specs.Lines.{lines_of};
+ghost use Rattle.information_service.specs.Causes.{HasLinesFaultCause, TookAll};
+ghost use Rattle.schedule_build.specs.InStep.{AreInStep};
+ghost use Rattle.window_service.specs.Summed.{AreSummed};
+
+use crate::output::receive_windows;
+use crate::receiving::ReceiveReplies;
+use delay_report::Reply;
+use information_service::LinesFault;
+use mt_io::{Gate, Source};
+use reply_sums::ReplySums;
+use schedule_build::Directory;
+use snapshot_board::{NewHistory, Opening};
+use std::alloc::Global;
+use std::sync::Wait;
+use std::thread::Threads;
+use timetable::Timetable;
+use train_nodes::Msg;
+
+/// Adds the replies up.
+struct AddReplies;
+
+impl ReceiveReplies<ReplySums> for AddReplies {
+    ghost use Rattle.window_service.specs.Received.{ReceivesSums, BeginsSums, never_fails};
+
+    ghost receives = { ReceivesSums };
+
+    ghost begins = { BeginsSums };
+
+    ghost failed = { never_fails };
+
+    fn receive(
+        _alloc: Global,
+        _directory: &Directory,
+        replies: &[Reply],
+        out: &mut ReplySums,
+    ) -> Result<(), LinesFault> {
+        out.add(replies);
+        Ok(())
+    }
+}
+
+/// Answers the windows of the input as `write_windows` does, and gives the sums over the replies in
+/// place of their texts. It fails with `ReadFault` where a read of the input failed, with `TooLong`
+/// where `budget` bytes of it were taken and no end was read, and with `OutOfMemory` where there
+/// was no memory, or where the number of lines comes near 2^64.
+pub fn sum_windows<
+    H: Opening<Timetable> + Send + Sync,
+    R: Threads + Wait + Sync,
+    S: Source,
+    G: Gate + Sync,
+>(
+    rt: &R,
+    alloc: Global,
+    history: NewHistory<Msg>,
+    timetable: Timetable,
+    directory: Directory,
+    trains: u32,
+    workers: u32,
+    input: &mut S,
+    gate: &G,
+    budget: u64,
+) -> Result<ReplySums, LinesFault>
+    // the history of the board that is opened, and how it opens
+    requires book { history ≡ H.book }
+    requires opening { H.opening ≡ Some timetable }
+
+    // names and trains are in step, and one to sixteen workers
+    requires in_step { AreInStep directory timetable.state }
+    requires some { 1 ≤ workers }
+    requires few { workers ≤ 16 }
+
+    // all went well
+    ensures ok { IfOk result (λ sums. (bytes : List ℕ) → S.left input.old ≡ Some bytes
+        → AreSummed timetable.network directory timetable.state (lines_of true bytes) sums) }
+
+    // faults have causes, and their count does not fall
+    ensures fault { IfErr result (HasLinesFaultCause
+        (Rose (S.faults input.old) (S.faults input.new)) ⊥
+        (TookAll budget (S.left input.old) (S.left input.new))) }
+    ensures later { S.faults input.old ≤ S.faults input.new }
+{
+    let mut sums = ReplySums::none();
+    receive_windows::<H, AddReplies, R, S, ReplySums, G>(
+        rt, alloc, history, timetable, directory, trains, workers, input, &mut sums, gate, budget,
+    )?;
+    Ok(sums)
+}
