@@ -47,11 +47,12 @@ class Train:
     trip: str
     route: str
     day: int
+    date: str
     events: list[Event] = field(default_factory=list)
     next_label: int = 0
 
     def name(self):
-        return {"trip": self.trip, "date": date_text(self.day)}
+        return {"trip": self.trip, "date": self.date}
 
     def new_calls(self, calls):
         """The live events of new calls. A call is a stop, and for each of its events a time and if it is open."""
@@ -76,18 +77,18 @@ def time_text(seconds):
     return f"{seconds // 3600:02}:{seconds // 60 % 60:02}:{seconds % 60:02}"
 
 
-def date_text(day):
-    return (MONDAY + timedelta(days=day)).strftime("%Y%m%d")
+def date_text(day, first=MONDAY):
+    """The text of a service day, counted from the first one."""
+    return (first + timedelta(days=day)).strftime("%Y%m%d")
 
 
-def runs(service, day, calendar, exceptions):
-    """Whether a service runs on a loaded day."""
-    today = date_text(day)
-    exception = exceptions.get((service, today))
+def runs(service, today, calendar, exceptions):
+    """Whether a service runs on a date."""
+    exception = exceptions.get((service, today.strftime("%Y%m%d")))
     if exception:
         return exception["exception_type"] == "1"
     row = calendar.get(service)
-    weekday = WEEKDAYS[(MONDAY + timedelta(days=day)).weekday()]
+    weekday, today = WEEKDAYS[today.weekday()], today.strftime("%Y%m%d")
     return row is not None and row[weekday] == "1" and row["start_date"] <= today <= row["end_date"]
 
 
@@ -101,8 +102,9 @@ def timed_call(row, day):
 class Feed:
     """The tables of a folder."""
 
-    def __init__(self, folder, days, default_change):
-        self.folder, self.days, self.default_change = folder, days, default_change
+    def __init__(self, folder, days, default_change, first=MONDAY):
+        self.folder, self.days, self.default_change, self.first = folder, days, default_change, first
+        self.dates = [date_text(day, first) for day in range(days)]
         self.stops = {row["stop_id"]: row for row in self.rows("stops.txt")}
         self.transfers = [row for row in self.rows("transfers.txt") if self.is_general(row)]
         self.rules = self.rows("waiting_rules.txt")
@@ -126,8 +128,8 @@ class Feed:
         for day, trip in itertools.product(range(self.days), self.rows("trips.txt")):
             rows = [row for row in calls if row["trip_id"] == trip["trip_id"]]
             timed = [timed_call(row, day) for row in rows if row["arrival_time"] or row["departure_time"]]
-            if timed and runs(trip["service_id"], day, calendar, exceptions):
-                trains.append(Train(len(trains), trip["trip_id"], trip["route_id"], day))
+            if timed and runs(trip["service_id"], self.first + timedelta(days=day), calendar, exceptions):
+                trains.append(Train(len(trains), trip["trip_id"], trip["route_id"], day, self.dates[day]))
                 trains[-1].begin(timed)
         return trains
 

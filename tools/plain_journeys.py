@@ -7,8 +7,6 @@ import itertools
 import math
 from collections import namedtuple
 
-from plain_feed import date_text
-
 # A ride from departure u to arrival v of one train, at the times `departs` and `arrives`.
 Ride = namedtuple("Ride", "u v departs arrives")
 
@@ -21,7 +19,7 @@ def rides_of(trains, times):
             u, v = events[first], events[last]
             if u.kind == "dep" and v.kind == "arr" and u.is_open and v.is_open:
                 if all(event.live for event in events[first : last + 1]):
-                    rides[u.train.trip, date_text(u.train.day), u.label, v.label] = Ride(u, v, times[u], times[v])
+                    rides[u.train.trip, u.train.date, u.label, v.label] = Ride(u, v, times[u], times[v])
     return rides
 
 

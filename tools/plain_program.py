@@ -1,7 +1,8 @@
 """The rules of docs/MODEL.md as a plain, slow program, to be read beside that page.
 
-It reads a feed from its folder and answers lines as `traind times` does, from
-Monday 2026-01-05: all eight messages, queries, and flush lines. A query is also
+It reads a feed from its folder, or takes one that tools/plain_tables.py has read, and
+answers lines as `traind times` does, from Monday 2026-01-05 where the feed does not
+say another day: all eight messages, queries, and flush lines. A query is also
 answered by the rides of an earlier state, as `traind serve` may. It takes feeds
 that are not refused and lines that are not bad but for the places, the date and
 the time of a query. It does nothing fast: every pair of events is tried for a
@@ -15,7 +16,7 @@ import json
 import re
 from collections import namedtuple
 
-from plain_feed import DAY, Feed, Train, date_text, seconds_of, time_text
+from plain_feed import DAY, Feed, Train, seconds_of, time_text
 from plain_journeys import Journeys, rides_of
 
 DEFAULTS = {
@@ -31,9 +32,9 @@ Edge = namedtuple("Edge", "u v least limit")
 class Plain:
     """The first state of a feed, and the messages that come to it."""
 
-    def __init__(self, folder, options):
+    def __init__(self, folder, options, feed=None):
         self.options = DEFAULTS | options
-        self.feed = Feed(folder, self.options["days"], self.options["change"])
+        self.feed = feed or Feed(folder, self.options["days"], self.options["change"])
         self.trains = self.feed.trains()
         self.spare = {"trains": self.options["spare-trains"], "calls": self.options["spare-calls"]}
         # For each departure, the planned connections by feeder; and what was chosen for each feeder: keep or drop.
@@ -102,7 +103,7 @@ class Plain:
 
     def train(self, trip, date):
         """The train of this name, or None."""
-        return next((train for train in self.trains if train.trip == trip and date_text(train.day) == date), None)
+        return next((train for train in self.trains if (train.trip, train.date) == (trip, date)), None)
 
     def event(self, kind, trip, date, call):
         """The event of this name, or None."""
@@ -158,14 +159,14 @@ class Plain:
         return None
 
     def take_extra(self, message):
-        days = {date_text(day): day for day in range(self.options["days"])}
-        if message["date"] not in days or message["route"] not in self.feed.routes:
+        dates, date = self.feed.dates, message["date"]
+        if date not in dates or message["route"] not in self.feed.routes:
             return UNKNOWN
         if not self.are_at_stops(message["calls"]):
             return UNKNOWN
-        if self.train(message["trip"], message["date"]):
+        if self.train(message["trip"], date):
             return {"refused": "Known"}
-        train = Train(len(self.trains), message["trip"], message["route"], days[message["date"]])
+        train = Train(len(self.trains), message["trip"], message["route"], dates.index(date), date)
         train.begin(read_calls(message["calls"], train.day))
         refusal = self.against_rank(self.train_edges(train.events)) or self.shortage(trains=1, calls=train.next_label)
         if refusal:
@@ -210,7 +211,7 @@ class Plain:
 
         It has journeys in place of one; a reply may show any of them that arrives then.
         """
-        places, days = (query["from"], query["to"]), [date_text(day) for day in range(self.options["days"])]
+        places, days = (query["from"], query["to"]), self.feed.dates
         if not all(place in self.feed.stops and self.feed.place_type(place) in "01" for place in places):
             return {"bad": "stop"}
         if query["date"] not in days or not re.fullmatch("[0-9]{1,2}:[0-5][0-9]:[0-5][0-9]", query["time"]):
@@ -246,7 +247,10 @@ class Plain:
 
     def reply(self, line):
         """The reply to a line, without its number."""
-        message = json.loads(line)
+        return self.taken(json.loads(line))
+
+    def taken(self, message):
+        """The reply to what a line says, without its number."""
         if message["type"] == "flush":
             return {"flush": self.accepted}
         if message["type"] == "query":
@@ -265,7 +269,8 @@ class Plain:
         yield "trip,date,call,stop,event,scheduled,time"
         for v in (event for train in self.trains for event in train.events if event.live):
             times = v.day_time(v.scheduled), v.day_time(self.times[v])
-            yield ",".join((v.train.trip, date_text(v.train.day), str(v.label), v.stop, v.kind, *times))
+            fields = v.train.trip, v.train.date, str(v.label), v.stop, v.kind, *times
+            yield ",".join(quoted(field) for field in fields)
 
 
 TAKES = {
@@ -330,6 +335,11 @@ def full(what):
     return {"refused": "Full", "full": what}
 
 
+def quoted(field):
+    """A field of the table, in quotes where CSV needs them."""
+    return '"' + field.replace('"', '""') + '"' if re.search('[",\r\n]', field) else field
+
+
 def numbered(reply, line):
     """The text of a reply, with the number of its line."""
-    return json.dumps(reply | {"line": line}, separators=(",", ":"), sort_keys=True)
+    return json.dumps(reply | {"line": line}, separators=(",", ":"), sort_keys=True, ensure_ascii=False)

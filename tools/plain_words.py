@@ -1,0 +1,66 @@
+"""The words of the program as docs/FORMATS.md has them."""
+
+from datetime import date
+
+from plain_tables import is_date, is_number
+
+RANGES = {
+    "days": (1, 31),
+    "slack": (0, 50),
+    "stop": (0, 3_600),
+    "change": (1, 3_600),
+    "window": (0, 3_600),
+    "spare-trains": (0, 2_000),
+    "spare-calls": (0, 40_000),
+    "overrides": (0, 100_000),
+    "workers": (1, 16),
+}
+USAGE = "usage: traind times FEED --from DATE or traind serve FEED --from DATE or traind gen N"
+
+
+def read_words(words):
+    """The command, its FEED or N, and the options by name, a date and numbers; or None where the words are others."""
+    if not words or words[0] not in ("times", "serve", "gen"):
+        return None
+    given = parts(words[1:])
+    if given is None or given[0] is None:
+        return None
+    main, options = given
+    if words[0] == "gen":
+        if options.keys() - {"workers"} or not (is_number(main, 100_000) and int(main) > 0):
+            return None
+    elif "from" not in options:
+        return None
+    values = {option: value_of(option, text) for option, text in options.items()}
+    return None if None in values.values() else (words[0], main, values)
+
+
+def parts(words):
+    """The word that is no option, or None where there is none, and the text of each option; or None."""
+    main, options, rest = [], {}, list(words)
+    while rest:
+        word = rest.pop(0)
+        if word == "--":
+            main, rest = main + rest, []
+        elif word == "-" or not word.startswith("-"):
+            main.append(word)
+        else:
+            option, equals, text = word.partition("=")
+            option = option.removeprefix("--") if option.startswith("--") else None
+            if option in options or (option != "from" and option not in RANGES):
+                return None
+            if not equals:
+                if not rest or (rest[0].startswith("-") and rest[0] != "-"):
+                    return None
+                text = rest.pop(0)
+            options[option] = text
+    return None if len(main) > 1 else ((main or [None])[0], options)
+
+
+def value_of(option, text):
+    """The value of an option, or None where it is none."""
+    if option == "from":
+        is_first = is_date(text) and 1900 <= int(text[:4]) <= 2100
+        return date(int(text[:4]), int(text[4:6]), int(text[6:])) if is_first else None
+    least, most = RANGES[option]
+    return int(text) if is_number(text, most) and int(text) >= least else None
