@@ -1,22 +1,27 @@
 //! Marked events.
 
-ghost use Rattle.std.specs.Prelude.{◌≡◌, ◌≤◌, ◌<◌, ◌||◌, [], ◌∷◌, false, true, Bool, All, filter, IfSome, IfNone, IfOk, length};
+ghost use Rattle.std.specs.Prelude.{◌≡◌, ◌≤◌, ◌<◌, ◌||◌, [], ◌∷◌, ◌++◌, false, true, Bool, All, filter, IfSome, IfNone, IfOk, length};
 ghost use Rattle.std.specs.Fn.{ComputesKey};
+ghost use Rattle.std.specs.Option.{option_to_list};
+ghost use Rattle.std.specs.VecDeque.{deque_capacity};
 ghost use Rattle.mt_base.specs.declared.keys.Key.{Key as AKey};
 ghost use Rattle.mt_base.specs.Order.{is_before, is_same};
 ghost use Rattle.rank_order.specs.Marked.{Ascends, is_marked};
 
+use core::mem::replace_with;
 use mt_base::keys::Key;
-use mt_base::memory::{OutOfMemory, copy_with_room};
+use mt_base::memory::OutOfMemory;
 use std::alloc::Global;
+use std::collections::VecDeque;
 use std::marker::Model;
 
 /// Events that are marked, by their keys. It is seen as the list of these keys in their order, and
 /// how many can be marked at once.
 #[derive(Drop)]
 pub struct Marks {
-    /// The greatest key first, so that the least is taken off the end.
-    keys: Vec<Key>,
+    /// The least key first. A mark is put in by moving the marks before it or those after it,
+    /// whichever are fewer, and the least is taken without moving any.
+    keys: VecDeque<Key>,
     /// How many can be marked at once: so many are sure to fit.
     room: u32,
 }
@@ -35,13 +40,39 @@ impl Model for Marks {
     ghost invariant = { IsStored };
 }
 
+/// Puts a queue without keys back to the start of its memory. A queue moves on through its memory
+/// with each key that is put at its end and each that is taken off its front; put back, it touches
+/// no more of it than for the keys that were put in since it was last without keys.
+fn begin_again(keys: &mut VecDeque<Key>)
+    requires { keys.old.items ≡ [] }
+    ensures items { keys.new.items ≡ [] }
+    ensures capacity { deque_capacity keys.new ≡ deque_capacity keys.old }
+{
+    replace_with(keys, (), |keys, _nothing| {
+        (VecDeque::from_vec(keys.into_vec()), ())
+    })
+}
+
+/// Takes the first key off, and puts the queue back to the start of its memory if it was the last.
+fn take_first(keys: &mut VecDeque<Key>) -> Option<Key>
+    ensures items { keys.old.items ≡ option_to_list result ++ keys.new.items }
+    ensures none { IfNone result (keys.old.items ≡ []) }
+    ensures capacity { deque_capacity keys.new ≡ deque_capacity keys.old }
+{
+    let first = keys.pop_front();
+    if keys.is_empty() {
+        begin_again(keys);
+    }
+    first
+}
+
 impl Marks {
     /// No marks, with room for so many at once. `OutOfMemory` where there is no memory.
     pub fn build(alloc: Global, room: u32) -> Result<Marks, OutOfMemory>
         ensures { IfOk result (λ marks. marks ≡ record { keys = []; room = room }) }
     {
         Ok(Marks {
-            keys: Vec::with_capacity(alloc, room as usize)?,
+            keys: VecDeque::with_capacity(alloc, room as usize)?,
             room,
         })
     }
@@ -50,8 +81,12 @@ impl Marks {
     pub fn copy(&self, alloc: Global) -> Result<Marks, OutOfMemory>
         ensures { IfOk result (λ copy. copy ≡ self.now) }
     {
+        let (first, second) = self.keys.as_slices();
+        let mut keys = Vec::with_capacity(alloc, self.room as usize)?;
+        keys.extend_from_slice(first)?;
+        keys.extend_from_slice(second)?;
         Ok(Marks {
-            keys: copy_with_room(alloc, &self.keys, self.room)?,
+            keys: VecDeque::from_vec(keys),
             room: self.room,
         })
     }
@@ -71,7 +106,7 @@ impl Marks {
         ensures marked { (q : AKey) → is_marked self.new q
             ≡ (is_same k.now q || is_marked self.old q) }
     {
-        let place = self.keys.partition_point(|q| k.is_before(q));
+        let place = self.keys.partition_point(|q| q.is_before(k));
         if place < self.keys.len() && self.keys[place].is_same(k) {
             return;
         }
@@ -87,7 +122,7 @@ impl Marks {
         ensures taken { IfSome result (λ k. self.old.keys ≡ k ∷ self.new.keys) }
         ensures least { IfSome result (λ k. All (λ q. is_before k q ≡ true) self.new.keys) }
     {
-        self.keys.pop()
+        take_first(&mut self.keys)
     }
 
     /// Takes the marks off that do not pass a test.

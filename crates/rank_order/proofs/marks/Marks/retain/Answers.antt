@@ -1,7 +1,6 @@
 use Rattle.std.proofs.Common.{ap, ◌∙◌, arith, filter}
 use Rattle.rank_order.specs.Marked.{Marked}
-use Rattle.rank_order.proofs.InsertLemmas.{reverse-ascends, reverse-falls}
-use Rattle.rank_order.proofs.RetainLemmas.{left-falls, retained}
+use Rattle.rank_order.proofs.RetainLemmas.{kept-ascends, retained}
 use Rattle.rank_order.proofs.marks.Marks.retain.Goals as goal
 
 pub invariant_of-self : goal.invariant_of-self
@@ -9,7 +8,7 @@ invariant_of-self g c =
     let ks = c.self.inside.keys.items in
     let left = c.retain.ensures.filtered in
     record {
-      ascends = rw left.4 (reverse-ascends _ (left-falls left.0 ks (reverse-falls ks c.self.invariant.ascends)));
+      ascends = rw left.4 (kept-ascends left.0 ks c.self.invariant.ascends);
       room = omega (arith, c.self.invariant.room, c.retain.ensures.capacity);
       fits = omega (arith, c.self.invariant.fits, c.retain.ensures.bound);
     }
