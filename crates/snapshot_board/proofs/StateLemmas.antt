@@ -19,3 +19,9 @@ follows_next after None list m x y h e = absurd (cc h)
 follows_next after (Some s) list m x y h e =
     let k : fold after s list ≡ x = cc h in
     ap Some (fold_one_more after s list m ∙ (ap (λ t. after t m) k ∙ sym e))
+
+-- what another value means after one message more
+pub follows_other : {St M : Type 0} (after : St → M → St) (o : Option St) (list : List M) (m : M) (x z : St)
+    → meaning_after after o list ≡ Some x → meaning_after after o (list ++ m ∷ []) ≡ Some z → z ≡ after x m
+follows_other after o list m x z h k =
+    let next = follows_next after o list m x (after x m) h refl in cc (h, k, next)

@@ -35,6 +35,24 @@ pub struct Published<S: Replay, H: Opening<S::State>> {
     ghost follows: { ∥ meaning_after S.after H.opening prefix ≡ Some (S.meaning value) ∥₁ },
 }
 
+// The value takes the message that is next. Where the other value took it last, it follows that
+// one.
+fn take_message<S: Replay, H: Opening<S::State>>(
+    value: &mut S,
+    post: &Post<S::Msg, H>,
+    other: &Published<S, H>,
+)
+    requires { ∥ meaning_after S.after H.opening post.now.before
+        ≡ Some (S.meaning value.old) ∥₁ }
+    ensures { S.meaning value.new ≡ S.after (S.meaning value.old) post.now.message }
+{
+    if other.prefix.is_same(&post.after) {
+        value.follow(&post.message, &other.value);
+    } else {
+        value.step(&post.message);
+    }
+}
+
 impl<S: Replay, H: Opening<S::State>> Published<S, H> {
     pub(crate) fn at_opening(value: S, empty: Prefix<S::Msg, H>) -> Published<S, H>
         requires { (empty ≡ []) × (H.opening ≡ Some (S.meaning value)) }
@@ -47,13 +65,13 @@ impl<S: Replay, H: Opening<S::State>> Published<S, H> {
     }
 
     // Takes the message if it is the next one.
-    fn take_in(&mut self, post: &Post<S::Msg, H>)
+    fn take_in(&mut self, post: &Post<S::Msg, H>, other: &Published<S, H>)
         ensures { (S.meaning self.new.value, self.new.prefix)
             ≡ taken_in S.after (S.meaning self.old.value, self.old.prefix)
             post.now.message post.now.before }
     {
         if self.prefix.is_same(&post.before) {
-            self.value.step(&post.message);
+            take_message(&mut self.value, post, other);
             self.prefix = post.after.copy();
         }
     }
@@ -71,11 +89,11 @@ impl<S: Replay, H: Opening<S::State>> Absorb<Operation<S::Msg, H>> for Published
     fn absorb_first(
         &mut self,
         operation: &Operation<S::Msg, H>,
-        _other: &Published<S, H>,
+        other: &Published<S, H>,
     ) -> Result<(), AllocError> {
         match operation {
             Operation::MakeRoom => {}
-            Operation::Post(post) => self.take_in(post),
+            Operation::Post(post) => self.take_in(post, other),
         }
         Ok(())
     }

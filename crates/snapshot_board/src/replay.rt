@@ -20,4 +20,10 @@ pub trait Replay: Drop {
     /// Takes a message.
     fn step(&mut self, m: &Self::Msg)
         ensures { meaning self.new ≡ after (meaning self.old) m.now };
+
+    /// Takes a message that another value took last, which meant the same before. What that one
+    /// computed need not be computed again.
+    fn follow(&mut self, m: &Self::Msg, other: &Self)
+        requires { meaning other.now ≡ after (meaning self.old) m.now }
+        ensures { meaning self.new ≡ after (meaning self.old) m.now };
 }

@@ -10,6 +10,7 @@ pub mod CallsKept
 pub mod Prepared
 pub mod Moved
 pub mod TakenOut
+pub mod Followed
 pub mod Moving
 pub mod AllMarked
 pub mod Stepping

@@ -1,5 +1,5 @@
 -- Departures taken out that are among some events.
-use Rattle.timetable.proofs.Words.{◌≡◌, suc, true, false, not, List, [], ◌∷◌, Bool, filter, get_or, refl, sym, ◌∙◌, ap, arith, inl, inr, All, All-contains, All-contains_itself, All-filter, All-tail, Contains, cases_Bool, false_from_ne_true}
+use Rattle.timetable.proofs.Words.{◌≡◌, true, false, not, List, [], ◌∷◌, Bool, filter, get_or, refl, sym, ◌∙◌, ap, arith, inl, inr, All, All-contains, All-contains_itself, All-filter, All-tail, Contains, cases_Bool, false_from_ne_true}
 use Rattle.timetable.proofs.Words.{Key, Node, State, IsTrain, Departure, AreLiveDepartures, events, has_call, is_of_none, is_same, is_same_node, live_keys, node_of, same-is, same-itself, same_node-is, same_node-itself, Event, events-unique}
 use Rattle.timetable.proofs.Words.{Contains-there, None, Option, Some, event_named, find, is_event, option_map, train_events, train_events-there}
 use Rattle.dep_order.specs.Ordered.{Ordered}

@@ -1,19 +1,23 @@
 //! Lists of live events of one train: those that a message takes away, and those that a report
 //! bears on.
 
-ghost use Rattle.std.specs.Prelude.{◌≡◌, ◌+◌, ◌≤◌, ◌++◌, [], ◌∷◌, length, vec_len, vec_capacity};
+ghost use Rattle.std.specs.Prelude.{◌≡◌, ◌+◌, ◌≤◌, ◌++◌, [], ◌∷◌, None, length, vec_len};
+ghost use Rattle.std.specs.Prelude.{vec_capacity};
 ghost use Rattle.delay_model.specs.Cuts.{before};
-ghost use Rattle.delay_model.specs.Effect.{events_between, stretch};
+ghost use Rattle.delay_model.specs.Effect.{effect, events_between, stretch};
 ghost use Rattle.delay_model.specs.Events.{events, is_event, live_events, train_events};
-ghost use Rattle.delay_model.specs.Touched.{is_reported, names_of, since_report};
+ghost use Rattle.delay_model.specs.Refusals.{refusal};
+ghost use Rattle.delay_model.specs.Touched.{is_reported, live_only, names_of, since_report};
+ghost use Rattle.delay_model.specs.Valid.{IsValid};
 ghost use Rattle.timetable.specs.LiveTimes.{live_keys};
 ghost use Rattle.timetable.specs.Marking.{leaving_of};
 
 use delay_model::state::Event;
+use edge_rules::Graph;
 use mt_base::keys::Node;
 use mt_base::numbers::{Label, TrainNo};
-use train_nodes::Trains;
-use train_nodes::kinds::Shape;
+use train_nodes::kinds::{Kind, Shape};
+use train_nodes::{Msg, Trains};
 
 /// Lists an event, if it is live.
 fn push_live(list: &mut Vec<Node>, event: &Event)
@@ -88,6 +92,23 @@ pub(crate) fn list_leaving(list: &mut Vec<Node>, trains: &Trains, s: &Shape<'_>)
             ..
         } => list_between(list, trains, *train, *from, *to),
         Shape::Extra { .. } => {}
+    }
+}
+
+/// Before an accepted message is applied: lists the live events that it takes away, in the train's
+/// order, in place of those that were listed. It takes no memory.
+pub(crate) fn list_taken(list: &mut Vec<Node>, graph: &Graph, m: &Msg)
+    requires valid { IsValid graph.now.network graph.now.state }
+    requires accepted { refusal graph.now.network graph.now.state m.now ≡ None }
+    requires room { length (live_keys (events graph.now.state)) ≤ vec_capacity list.old }
+    ensures list { list.new.items ≡ names_of (live_only (events graph.now.state)
+        (events (effect graph.now.state m.now))) }
+    ensures capacity { vec_capacity list.new ≡ vec_capacity list.old }
+{
+    list.clear();
+    match m.kind() {
+        Kind::Value(_) | Kind::Choice(_) => {}
+        Kind::Shape(shape) => list_leaving(list, graph.trains(), &shape),
     }
 }
 

@@ -7,6 +7,7 @@
 mod check;
 mod departures;
 mod events;
+mod following;
 pub mod laws;
 mod leaving;
 mod lists;

@@ -18,7 +18,7 @@ ghost use Rattle.rank_order.specs.Marked.{is_marked};
 ghost use Rattle.timetable.specs.LiveTimes.{live_keys};
 ghost use Rattle.timetable.specs.Marking.{AreMarksOf, AreUnsettled, CanBeMarked, IsMarkedBefore, IsStateAfter, IsMarkedAndApplied, is_fed_from_new, is_fed_from, is_marked_by};
 
-use crate::leaving::{list_leaving, list_since_report};
+use crate::leaving::{list_since_report, list_taken};
 use delay_model::state::Event;
 use edge_rules::Graph;
 use mt_base::keys::{Key, Node};
@@ -198,15 +198,12 @@ pub(crate) fn mark_before(graph: &Graph, m: &Msg, changed: &mut Vec<Node>, marks
     ensures marked { IsMarkedBefore graph.now.network graph.now.state m.now marks.new }
     ensures marks_room { marks.new.room ≡ marks.old.room }
 {
-    changed.clear();
+    list_taken(changed, graph, m);
     let trains = graph.trains();
     match m.kind() {
         Kind::Value(value) => mark_value(trains, &value, changed, marks),
         Kind::Choice(choice) => mark_event(trains, &choice.train, marks),
-        Kind::Shape(shape) => {
-            list_leaving(changed, trains, &shape);
-            mark_fed(graph, changed, marks);
-        }
+        Kind::Shape(_shape) => mark_fed(graph, changed, marks),
     }
 }
 

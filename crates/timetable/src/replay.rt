@@ -20,6 +20,18 @@ fn take<L: Ledger>(timetable: &mut Timetable, m: &Msg, blank: Blank)
     let _ = timetable.step(m, &mut steps);
 }
 
+/// Takes a message as another timetable took it. The steps that it counts are not used.
+fn follow<L: Ledger>(timetable: &mut Timetable, m: &Msg, other: &Timetable, blank: Blank)
+    requires name { blank.name ≡ L.name }
+    requires parts { blank.parts ≡ L.parts }
+    requires some { 0 < blank.parts }
+    requires taken { other.now ≡ taken timetable.old m.now }
+    ensures { timetable.new ≡ taken timetable.old m.now }
+{
+    let mut steps = Steps::<L>::open(blank);
+    timetable.follow(m, other, &mut steps);
+}
+
 impl Replay for Timetable {
     type Msg = Msg;
 
@@ -31,5 +43,9 @@ impl Replay for Timetable {
 
     fn step(&mut self, m: &Msg) {
         take::<Brand>(self, m, Blank::new(1))
+    }
+
+    fn follow(&mut self, m: &Msg, other: &Timetable) {
+        follow::<Brand>(self, m, other, Blank::new(1))
     }
 }

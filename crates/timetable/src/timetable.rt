@@ -13,12 +13,14 @@ ghost use Rattle.propagate.specs.Reads.{reads_of};
 ghost use Rattle.timetable.specs.Departures.{departures_from};
 ghost use Rattle.timetable.specs.Emptied.{AreEmpty};
 ghost use Rattle.timetable.specs.LiveTimes.{live_time};
-ghost use Rattle.timetable.specs.TimetableState.{stepped};
+ghost use Rattle.timetable.specs.TimetableState.{stepped, taken};
 ghost use Rattle.timetable.specs.Settled.{HasTimesFor, most_live};
 
 use crate::check::check;
 use crate::departures::{move_departures, take_departures};
 use crate::events::count_live;
+use crate::following::{names_from, take_times};
+use crate::leaving::list_taken;
 use crate::lists::{Lists, copy_lists, empty_lists};
 use crate::loading::settle_all;
 use crate::marking::{mark_after, mark_before};
@@ -208,6 +210,45 @@ impl Timetable {
         push_names(&mut self.changed, &self.time_changes);
         self.count = self.count.saturating_add(1);
         Ok(self.changed.len() as u64)
+    }
+
+    /// Takes a message that a timetable like this one took as its last. What that one found out is
+    /// taken over, and the rule is evaluated at no event. It takes no memory.
+    pub fn follow<L: Ledger>(&mut self, m: &Msg, other: &Timetable, steps: &mut Steps<L>)
+        requires { other.now ≡ taken self.old m.now }
+        ensures { self.new ≡ taken self.old m.now }
+    {
+        if check(&self.graph, m).is_ok() {
+            self.follow_accepted(m, other, steps);
+        }
+    }
+
+    /// The same for a message that is accepted.
+    fn follow_accepted<L: Ledger>(&mut self, m: &Msg, other: &Timetable, steps: &mut Steps<L>)
+        requires accepted { refusal self.old.network self.old.state m.now ≡ None }
+        requires stepped { other.now ≡ stepped self.old m.now }
+        ensures { self.new ≡ stepped self.old m.now }
+    {
+        list_taken(&mut self.changed, &self.graph, m);
+        take_departures(&mut self.departures, self.graph.trains(), &self.changed);
+        apply(&mut self.graph, &mut self.times, m);
+        let first = self.changed.len();
+        self.time_changes.clear();
+        take_times(
+            &self.graph,
+            &mut self.times,
+            &other.times,
+            names_from(&other.changed, first),
+            &mut self.time_changes,
+            steps,
+        );
+        move_departures(
+            &mut self.departures,
+            self.graph.trains(),
+            &self.time_changes,
+        );
+        push_names(&mut self.changed, &self.time_changes);
+        self.count = self.count.saturating_add(1);
     }
 
     /// The events that the last accepted message changed: in the order of the trains those that it

@@ -1,5 +1,5 @@
 use Rattle.timetable.proofs.Words.{◌∙◌, sym, ap, message_of}
-use Rattle.timetable.proofs.Renewed.{choice-before, choice-leaves, choice-there, shape-before, shape-leaves, shape-taken, value-before, value-leaves, value-there}
+use Rattle.timetable.proofs.Renewed.{choice-before, choice-there, shape-before, shape-leaves, shape-taken, value-before, value-leaves, value-there}
 use Rattle.timetable.proofs.marking.mark_before.Goals as goal
 
 pub mark_value-requires-clause-live : goal.mark_value-requires-clause-live
@@ -15,8 +15,13 @@ mark_event-requires-clause-live c =
 pub mark_fed-requires-clause-live : goal.mark_fed-requires-clause-live
 mark_fed-requires-clause-live c =
     let g = c.args.graph.now in
-    rw (c.deref.ensures.value, c.list_leaving.ensures.list, c.trains-trains.ensures.trains)
-    (shape-taken g.network g.state c.in-Shape.shape (sym (ap message_of c.in-Shape.is) ∙ c.kind.ensures.says) c.requires.valid c.kind.ensures.well_formed c.requires.accepted)
+    rw (c.deref.ensures.value, c.list_taken.ensures.list, ← shape-leaves g.network g.state c.in-Shape._shape (sym (ap message_of c.in-Shape.is) ∙ c.kind.ensures.says) c.requires.valid c.kind.ensures.well_formed c.requires.accepted)
+    (shape-taken g.network g.state c.in-Shape._shape (sym (ap message_of c.in-Shape.is) ∙ c.kind.ensures.says) c.requires.valid c.kind.ensures.well_formed c.requires.accepted)
+
+pub mark_value-requires-clause-empty : goal.mark_value-requires-clause-empty
+mark_value-requires-clause-empty c =
+    let g = c.args.graph.now in
+    c.list_taken.ensures.list ∙ sym (value-leaves g.network g.state c.in-Value.value (sym (ap message_of c.in-Value.is) ∙ c.kind.ensures.says))
 
 pub returns-in-Value-clause-leaving : goal.returns-in-Value-clause-leaving
 returns-in-Value-clause-leaving c =
@@ -30,11 +35,6 @@ returns-in-Value-clause-marked c =
     let marked = rw (c.trains-trains.ensures.trains, c.requires.unmarked) at c.mark_value.ensures.marked in
     value-before g.network g.state c.in-Value.value (sym (ap message_of c.in-Value.is) ∙ c.kind.ensures.says) c.mark_value.new.marks fit marked
 
-pub returns-in-Choice-clause-leaving : goal.returns-in-Choice-clause-leaving
-returns-in-Choice-clause-leaving c =
-    let g = c.args.graph.now in
-    c.clear.ensures.items ∙ choice-leaves g.network g.state c.in-Choice.choice (sym (ap message_of c.in-Choice.is) ∙ c.kind.ensures.says)
-
 pub returns-in-Choice-clause-marked : goal.returns-in-Choice-clause-marked
 returns-in-Choice-clause-marked c =
     let g = c.args.graph.now in
@@ -42,15 +42,9 @@ returns-in-Choice-clause-marked c =
     let marked = rw (c.trains-trains.ensures.trains, c.requires.unmarked) at c.mark_event.ensures.marked in
     choice-before g.network g.state c.in-Choice.choice (sym (ap message_of c.in-Choice.is) ∙ c.kind.ensures.says) c.mark_event.new.marks fit marked
 
-pub returns-in-Shape-clause-leaving : goal.returns-in-Shape-clause-leaving
-returns-in-Shape-clause-leaving c =
-    let g = c.args.graph.now in
-    (let list = rw c.trains-trains.ensures.trains at c.list_leaving.ensures.list in list)
-    ∙ shape-leaves g.network g.state c.in-Shape.shape (sym (ap message_of c.in-Shape.is) ∙ c.kind.ensures.says) c.requires.valid c.kind.ensures.well_formed c.requires.accepted
-
 pub returns-in-Shape-clause-marked : goal.returns-in-Shape-clause-marked
 returns-in-Shape-clause-marked c =
     let g = c.args.graph.now in
-    let list = rw c.trains-trains.ensures.trains at c.list_leaving.ensures.list in
+    let list = c.list_taken.ensures.list ∙ sym (shape-leaves g.network g.state c.in-Shape._shape (sym (ap message_of c.in-Shape.is) ∙ c.kind.ensures.says) c.requires.valid c.kind.ensures.well_formed c.requires.accepted) in
     let marked = rw (c.deref.ensures.value, list, c.requires.unmarked) at c.mark_fed.ensures.marked in
-    shape-before g.network g.state c.in-Shape.shape (sym (ap message_of c.in-Shape.is) ∙ c.kind.ensures.says) c.requires.valid c.kind.ensures.well_formed c.requires.accepted c.mark_fed.new.marks c.mark_fed.ensures.fit marked
+    shape-before g.network g.state c.in-Shape._shape (sym (ap message_of c.in-Shape.is) ∙ c.kind.ensures.says) c.requires.valid c.kind.ensures.well_formed c.requires.accepted c.mark_fed.new.marks c.mark_fed.ensures.fit marked

@@ -8,5 +8,5 @@ invariant_of-self g c =
     let s = c.args.self.now in let p = c.args.post.now in let after = g.S.Replay.after in
     let same : s.prefix ≡ p.before = c.if-is_same.ensures.same in
     let old = known g.row.S-State.coded _ _ s.follows in
-    let new = follows_next after g.H.Opening.opening s.prefix p.message (g.S.Replay.meaning s.value) (g.S.Replay.meaning c.step.new.self) old c.step.ensures in
-    record { follows = ∣ subst (λ l. meaning_after after g.H.Opening.opening l ≡ Some (g.S.Replay.meaning c.step.new.self)) (ap (λ l. l ++ p.message ∷ []) same ∙ (sym p.next ∙ sym c.copy.ensures)) new ∣₁ }
+    let new = follows_next after g.H.Opening.opening s.prefix p.message (g.S.Replay.meaning s.value) (g.S.Replay.meaning c.take_message.new.value) old c.take_message.ensures in
+    record { follows = ∣ subst (λ l. meaning_after after g.H.Opening.opening l ≡ Some (g.S.Replay.meaning c.take_message.new.value)) (ap (λ l. l ++ p.message ∷ []) same ∙ (sym p.next ∙ sym c.copy.ensures)) new ∣₁ }
