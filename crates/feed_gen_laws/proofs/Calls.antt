@@ -9,8 +9,8 @@ use Rattle.gtfs_tables.proofs.KeyedLemmas.{insert-behind, lookup-behind}
 use Rattle.gtfs_tables.specs.Feeds.{calls_in}
 use Rattle.gtfs_tables.specs.StopTimes.{AreBelow, Calls, Key, Named, call_of, call_step, check_order, check_trip, check_trips, is_timed, key_cmp, needed_columns, stop_times_of, with_call}
 use Rattle.gtfs_tables.specs.declared.faults.Table.TheVariants as table
-use Rattle.feed_gen_laws.proofs.Fields.{plain-clock, plain-decimal}
 use Rattle.feed_gen_laws.proofs.Names.{apart, name-found, plain-name}
+use Rattle.feed_gen_laws.proofs.PlainTexts.{plain-clock, plain-decimal}
 use Rattle.feed_gen_laws.proofs.Rows.{numbers, one-more}
 use Rattle.feed_gen_laws.proofs.Steps.{IsGood, content-holds, domain, table-made}
 use Rattle.feed_gen_laws.proofs.Stops.{stop, stop-found}
@@ -118,7 +118,7 @@ call-good trains places r few are small =
     let number : r + 2 ≡ 4 * (r / 4) + r % 4 + 2 = omega arith in
     let found : number_from 0 (trip_name t) (trip_ids (map trip (numbers trains))) ≡ Some t = rw (ids-of-trips trains) (name-found trip_name 1000000 (apart 71) trains t (omega arith) (omega arith)) in
     record {
-      plain = (plain-name 71 t refl (omega arith), (plain-clock (arrival t i), (plain-clock (departure t i), (plain-name 83 (stop_of t i) refl (omega arith), (plain-decimal i (omega arith), tt)))));
+      plain = (plain-name 71 t refl, (plain-clock (arrival t i), (plain-clock (departure t i), (plain-name 83 (stop_of t i) refl, (plain-decimal i, tt)))));
       width = refl;
       steps = rw (
         number,

@@ -1,49 +1,15 @@
 -- Fields of plain bytes: such a field needs no quotes, has no blanks and is UTF-8.
-use Rattle.feed_gen_laws.proofs.Words.{Bool, List, None, Option, Some, [], arith, clock, decimal, default_writer, false, get_or, is_utf8, nat_tests, place_of, refl, suc, true, zero, ℕ, ◌%◌, ◌++◌, ◌+◌, ◌/◌, ◌<◌, ◌∷◌, ◌≡◌}
-use Rattle.std.proofs.Common.{nat_le, reverse, ◌&&◌, ◌^◌}
-use Rattle.std.proofs.lemmas.Fmt.{decimal_by_steps}
+use Rattle.feed_gen_laws.proofs.Words.{List, None, Option, Some, [], arith, default_writer, false, get_or, is_utf8, nat_tests, place_of, refl, suc, true, zero, ℕ, ◌∷◌, ◌≡◌}
+use Rattle.std.proofs.Common.{reverse}
 use Rattle.std.proofs.lemmas.List.{reverse-append, reverse-reverse}
-use Rattle.std.proofs.lemmas.List.Folds.{list_all-append}
 use Rattle.std.proofs.lemmas.Str.{IsUtf8-from_ascii, is_utf8-from_IsUtf8}
-use Rattle.std.proofs.lemmas.Str.Ascii.{IsAscii-cons, IsAscii-nil}
-use Rattle.std.specs.List.{list_all, list_any}
+use Rattle.std.specs.List.{list_any}
 use Rattle.std.specs.Option.{option_map_or}
-use Rattle.std.specs.Prelude.{nat_lt}
-use Rattle.std.specs.Str.{IsAscii}
 use Rattle.csv.specs.Writing.{needs_byte}
 use Rattle.gtfs_tables.specs.Checks.{all_utf8}
 use Rattle.gtfs_tables.specs.Columns.{field_at_place, field_in}
 use Rattle.gtfs_tables.specs.Fields.{trim_start, trimmed}
-
--- a byte from `0` on that is ASCII, such as a letter, a digit, `:` and `_`
-abbrev pub is_plain : ℕ → Bool
-is_plain byte = nat_le 48 byte && nat_lt byte 128
-
--- each byte of the field is such a byte
-abbrev pub IsPlain : List ℕ → Type 0
-IsPlain field = list_all is_plain field ≡ true
-
-pub plain-append : (xs ys : List ℕ) → IsPlain xs → IsPlain ys → IsPlain (xs ++ ys)
-plain-append xs ys p q = grind (arith, list_all-append is_plain xs ys)
-
-plain-digit : (n : ℕ) → n < 10 → IsPlain ((48 + n) ∷ [])
-plain-digit n small = grind (arith, nat_tests)
-
-pub plain-decimal : (n : ℕ) → n < 2 ^ 64 → IsPlain (decimal n)
-plain-decimal = decimal_by_steps (λ _ ds. IsPlain ds) plain-digit
-    (λ n ds large plain. plain-append ds ((48 + n % 10) ∷ []) plain (plain-digit (n % 10) (omega arith)))
-
--- two digits, and what follows
-plain-two : (n : ℕ) (rest : List ℕ) → IsPlain rest → IsPlain ((48 + n / 10 % 10) ∷ (48 + n % 10) ∷ rest)
-plain-two n rest plain =
-    plain-append ((48 + n / 10 % 10) ∷ []) ((48 + n % 10) ∷ rest) (plain-digit (n / 10 % 10) (omega arith)) (plain-append ((48 + n % 10) ∷ []) rest (plain-digit (n % 10) (omega arith)) plain)
-
-pub plain-clock : (seconds : ℕ) → IsPlain (clock seconds)
-unfolding clock
-plain-clock seconds =
-    let last : List ℕ = (48 + seconds % 60 / 10 % 10) ∷ (48 + seconds % 60 % 10) ∷ [] in
-    let middle : List ℕ = (48 + seconds / 60 % 60 / 10 % 10) ∷ (48 + seconds / 60 % 60 % 10) ∷ 58 ∷ last in
-    plain-two (seconds / 3600) (58 ∷ middle) (plain-two (seconds / 60 % 60) (58 ∷ last) (plain-two (seconds % 60) [] refl))
+use Rattle.feed_gen_laws.proofs.PlainTexts.{IsPlain, plain-append, plain-ascii}
 
 -- it needs no quotes
 pub plain-quotes : (field : List ℕ) → IsPlain field → list_any (needs_byte default_writer) field ≡ false
@@ -65,10 +31,6 @@ plain-trimmed field plain =
     rw (start-plain field plain, start-plain (reverse field) (reverse-plain field plain)) (reverse-reverse field)
 
 -- it is UTF-8
-plain-ascii : (field : List ℕ) → IsPlain field → IsAscii field
-plain-ascii [] plain = IsAscii-nil
-plain-ascii (byte ∷ field) plain = IsAscii-cons byte field (grind (arith, nat_tests)) (plain-ascii field (grind arith))
-
 pub plain-utf8 : (field : List ℕ) → IsPlain field → is_utf8 field ≡ true
 plain-utf8 field plain = is_utf8-from_IsUtf8 field (IsUtf8-from_ascii field (plain-ascii field plain))
 

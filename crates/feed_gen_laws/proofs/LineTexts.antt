@@ -12,7 +12,7 @@ use Rattle.serde_json.specs.Data.{Data}
 use Rattle.serde_json.specs.Read.{max_depth, of_json, read}
 use Rattle.message_reader.specs.declared.wire.Line.{Line}
 use Rattle.message_reader.specs.Lines.{line_of, said_by_value}
-use Rattle.feed_gen_laws.proofs.PlainTexts.{IsPlain, ascii-plain, escape-plain}
+use Rattle.feed_gen_laws.proofs.PlainTexts.{IsPlain, escape-plain, plain-ascii}
 
 -- what is printed of a value is read as it
 read-printed : (j : Json) (d : Data) → ArePrintable (tree.json_tokens j) → tree.depth j ≤ max_depth → of_json j ≡ Some d → read (print (tree.json_tokens j)) ≡ Some d
@@ -33,6 +33,6 @@ module _ (before s between t behind : List ℕ) (plain-s : IsPlain s) (plain-t :
       let text = before ++ (s ++ (34 ∷ between ++ (t ++ 34 ∷ behind))) in
       let same : print (tree.json_tokens j) ≡ text = printed ∙ rw (escape-plain s plain-s, escape-plain t plain-t) (simp append_assoc) in
       let utf8 =
-      IsUtf8-append before _ (IsUtf8-are_ascii before a) (IsUtf8-append s _ (IsUtf8-from_ascii s (ascii-plain s plain-s))
-      (IsUtf8-append (34 ∷ between) _ (IsUtf8-are_ascii (34 ∷ between) b) (IsUtf8-append t (34 ∷ behind) (IsUtf8-from_ascii t (ascii-plain t plain-t)) (IsUtf8-are_ascii (34 ∷ behind) c)))) in
+      IsUtf8-append before _ (IsUtf8-are_ascii before a) (IsUtf8-append s _ (IsUtf8-from_ascii s (plain-ascii s plain-s))
+      (IsUtf8-append (34 ∷ between) _ (IsUtf8-are_ascii (34 ∷ between) b) (IsUtf8-append t (34 ∷ behind) (IsUtf8-from_ascii t (plain-ascii t plain-t)) (IsUtf8-are_ascii (34 ∷ behind) c)))) in
       rw (is_utf8-from_IsUtf8 text utf8, sym (ap read same) ∙ read-printed j d printable shallow is) said

@@ -4,7 +4,7 @@ use Rattle.std.proofs.Common.{◌≢◌}
 use Rattle.std.proofs.lemmas.Fmt.{decimal_injective}
 use Rattle.std.proofs.lemmas.Slice.Eq.{bytes_eq-Decides}
 use Rattle.std.specs.Prelude.{bytes_eq}
-use Rattle.feed_gen_laws.proofs.Fields.{IsPlain, plain-append, plain-decimal}
+use Rattle.feed_gen_laws.proofs.PlainTexts.{IsPlain, plain-append, plain-decimal}
 use Rattle.feed_gen_laws.proofs.Rows.{numbers}
 
 -- no two numbers below a bound have one name
@@ -15,8 +15,8 @@ AreApart name bound = (j k : ℕ) → j < bound → k < bound → name j ≡ nam
 pub apart : (letter : ℕ) → AreApart (λ k. letter ∷ decimal k) 1000000
 apart letter j k small below same = let e : decimal j ≡ decimal k = cc in decimal_injective j k (omega arith) (omega arith) e
 
-pub plain-name : (letter k : ℕ) → IsPlain (letter ∷ []) → k < 1000000 → IsPlain (letter ∷ decimal k)
-plain-name letter k plain small = plain-append (letter ∷ []) (decimal k) plain (plain-decimal k (omega arith))
+pub plain-name : (letter k : ℕ) → IsPlain (letter ∷ []) → IsPlain (letter ∷ decimal k)
+plain-name letter k plain = plain-append (letter ∷ []) (decimal k) plain (plain-decimal k)
 
 module _ (name : ℕ → List ℕ) (bound : ℕ) (distinct : AreApart name bound) where
   other-name : (j k : ℕ) → j < bound → k < bound → j ≢ k → bytes_eq (name j) (name k) ≡ false

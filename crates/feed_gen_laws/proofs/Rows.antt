@@ -8,7 +8,8 @@ use Rattle.csv.proofs.RoundTrip.{read-write-many}
 use Rattle.csv.specs.Reading.{default_config}
 use Rattle.csv.specs.Writing.{field_text, fields_text, is_blank}
 use Rattle.csv.specs.declared.parser.State.TheVariants as st
-use Rattle.feed_gen_laws.proofs.Fields.{ArePlain, IsPlain, plain-quotes}
+use Rattle.feed_gen_laws.proofs.Fields.{ArePlain, plain-quotes}
+use Rattle.feed_gen_laws.proofs.PlainTexts.{IsPlain}
 
 -- ---- one row
 

@@ -1,5 +1,6 @@
 -- What the lines of the input say.
 use Rattle.std.proofs.Common.{◌≡◌, ◌<◌, ℕ, false, List, codes, Ok, Some, ap, ◌∙◌, refl, arith, rules}
+use Rattle.std.specs.Prelude.{decimal}
 use Rattle.std.specs.Str.{chars, is_utf8}
 use Rattle.json.specs.Json.{Json, member, no_members, number, object, string}
 use Rattle.json.specs.Print.{ArePrintable, escape_byte, print_from}
@@ -20,7 +21,7 @@ use Rattle.feed_gen.specs.Trains.{forecast_time, stop_name, stop_of, trip_name}
 use Rattle.feed_gen_laws.specs.Sayings.{saying}
 use Rattle.feed_gen_laws.proofs.Clocks.{clock-spelled}
 use Rattle.feed_gen_laws.proofs.LineTexts.{line-said}
-use Rattle.feed_gen_laws.proofs.PlainTexts.{clock-plain, decimal-plain}
+use Rattle.feed_gen_laws.proofs.PlainTexts.{plain-append, plain-clock, plain-decimal}
 
 civil : IsCivil 20260105
 civil = search rules
@@ -43,7 +44,7 @@ forecast-said train =
     let small : secs < 360000 = omega arith in
     let message : Wire = Event Forecast trip 20260105 1 false secs in
     line-said (codes "{\"v\":1,\"type\":\"forecast\",\"trip\":\"") trip (codes ",\"date\":\"20260105\",\"call\":1,\"event\":\"arr\",\"time\":\"") (clock secs) (codes "}")
-    (omega arith, omega arith, decimal-plain train) (clock-plain secs) (forecast_json trip (clock secs)) (object_of message) (saying (forecast train)) refl refl refl refl (search rules) (omega arith)
+    (plain-append (codes "G") (decimal train) refl (plain-decimal train)) (plain-clock secs) (forecast_json trip (clock secs)) (object_of message) (saying (forecast train)) refl refl refl refl (search rules) (omega arith)
     (ap (λ time. of_json (forecast_json trip time)) (clock-spelled secs small) ∙ forecast-data trip secs)
     (messages_back message (civil, omega arith) (omega arith))
 
@@ -63,7 +64,7 @@ query-said train =
     let from = stop_name (stop_of train 0) in
     let to = stop_name (stop_of train 3) in
     line-said (codes "{\"v\":1,\"type\":\"query\",\"client\":\"q\",\"from\":\"") from (codes ",\"to\":\"") to (codes ",\"date\":\"20260105\",\"time\":\"04:00:00\"}")
-    (omega arith, omega arith, decimal-plain (stop_of train 0)) (omega arith, omega arith, decimal-plain (stop_of train 3)) (query_json from to) (query_object (codes "q") from to 20260105 14400) (saying (query train)) refl refl refl refl (search rules)
+    (plain-append (codes "S") (decimal (stop_of train 0)) refl (plain-decimal (stop_of train 0))) (plain-append (codes "S") (decimal (stop_of train 3)) refl (plain-decimal (stop_of train 3))) (query_json from to) (query_object (codes "q") from to 20260105 14400) (saying (query train)) refl refl refl refl (search rules)
     (omega arith) (query-data from to) (queries_back (codes "q") from to 20260105 14400 civil (omega arith))
 
 flush-said : line_of (text_of flush) ≡ Ok (saying flush)

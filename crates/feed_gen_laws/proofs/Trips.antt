@@ -33,9 +33,9 @@ trip-more : (rows more : List TripRow) (id : List ℕ) (number : ℕ) → number
 trip-more rows more id number fresh is = rw (fresh, is) refl
 
 trip-good : (k : ℕ) → k < 1000000 → IsGood trip_step trip_header (trip_fields k) (k + 2) (trips_made k) (trips_made (suc k))
-trip-good zero small = record { plain = (refl, (refl, (plain-name 71 0 refl small, tt))); width = refl; steps = refl }
+trip-good zero small = record { plain = (refl, (refl, (plain-name 71 0 refl, tt))); width = refl; steps = refl }
 trip-good (suc k) small = record {
-  plain = (refl, (refl, (plain-name 71 (suc k) refl small, tt)));
+  plain = (refl, (refl, (plain-name 71 (suc k) refl, tt)));
   width = refl;
   steps = trip-more (map trip (numbers (suc k))) (map trip (numbers (suc (suc k)))) (trip_name (suc k)) (suc k + 2) (ap (number_from 0 (trip_name (suc k))) (ids-of-trips (suc k)) ∙ name-fresh trip_name 1000000 (apart 71) (suc k) small) (one-more trip (suc k));
 }

@@ -1,5 +1,5 @@
 -- Sums over replies.
-use Rattle.std.specs.Prelude.{ℕ, ◌+◌, ◌-◌, ◌^◌, min, List, [], ◌∷◌}
+use Rattle.std.specs.Prelude.{ℕ, ◌+◌, ◌-◌, ◌^◌, min, fold, List}
 use Rattle.delay_report.specs.declared.replies.Reply.{Reply}
 use Rattle.delay_report.specs.declared.replies.Reply.TheVariants.{Accepted, Refused, RefusedExtra, Bad, Flush, Journey, NoJourney}
 use Rattle.reply_sums.specs.declared.sums.ReplySums.{ReplySums}
@@ -50,10 +50,13 @@ added a b = record {
   refused = sum_of a.refused b.refused;
 }
 
+-- these sums, and what one reply more counts for
+abbrev pub with_reply : ReplySums → Reply → ReplySums
+with_reply s reply = added s (reply_sums reply)
+
 -- the sums after these replies
 abbrev pub sums_after : ReplySums → List Reply → ReplySums
-sums_after s [] = s
-sums_after s (reply ∷ replies) = sums_after (added s (reply_sums reply)) replies
+sums_after s replies = fold with_reply s replies
 
 -- the sums over these replies
 abbrev pub sums_over : List Reply → ReplySums

@@ -1,6 +1,7 @@
 -- Replies to the same windows have the same sums, where no query shares its window with a message.
 use Rattle.window_service.proofs.Words.{◌≡◌, ◌∙◌, ◌+◌, ◌∷◌, ◌++◌, ℕ, List, [], length, All, true, refl, sym, ap, subst, arith, inl, inr, append-nil, Network, State, Line, Names, Reply, AreRepliesFrom}
 use Rattle.std.proofs.Common.{suc, take, slice_get, Some, Result, Ok, Err, true≢false}
+use Rattle.std.proofs.lemmas.Grind.{fold-append}
 use Rattle.std.proofs.lemmas.List.Elements.{filter_map-append}
 use Rattle.std.proofs.lemmas.List.Folds.{list_any_at}
 use Rattle.std.proofs.lemmas.Option.{slice_get_within, get_or_from_slice_get}
@@ -17,8 +18,7 @@ use Rattle.message_reader.specs.ResolvedQueries.{query_resolved}
 use Rattle.query_crew.specs.Served.{IsQueryReply, IsReplyAt, AreWindowReplies, replies_of}
 use Rattle.query_crew.specs.Windows.{windows_of}
 use Rattle.reply_sums.specs.declared.sums.ReplySums.{ReplySums}
-use Rattle.reply_sums.specs.Sums.{added, no_sums, reply_sums, sums_after}
-use Rattle.window_service.proofs.SumLemmas.{sums-append}
+use Rattle.reply_sums.specs.Sums.{added, no_sums, reply_sums, sums_after, with_reply}
 use Rattle.window_service.specs.SameSums.{is_query, says_query, AreApart, SumsAreTheSame}
 
 -- each of two earliest journeys arrives no later than the other
@@ -73,10 +73,10 @@ module _ (nw : Network) (names : Names) (st : State) where
   windows-same before (w ∷ ws) [] ss old apart a b = absurd a
   windows-same before (w ∷ ws) (r ∷ rs) [] old apart a b = absurd b
   windows-same before (w ∷ ws) (r ∷ rs) (s ∷ ss) old apart a b =
-      sums-append old r (replies_of rs)
+      fold-append with_reply old r (replies_of rs)
       ∙ ap (λ (t : ReplySums). sums_after t (replies_of rs)) (window-same before w r s old (apart 0 w (omega arith)) a.0 b.0)
       ∙ windows-same (before ++ w) ws rs ss (sums_after old s) (λ k d l. apart (suc k) d (omega (arith, l))) a.1 b.1
-      ∙ sym (sums-append old s (replies_of ss))
+      ∙ sym (fold-append with_reply old s (replies_of ss))
 
 pub same-sums : SumsAreTheSame
 same-sums nw names st lines a b apart one two =

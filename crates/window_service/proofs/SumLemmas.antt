@@ -1,18 +1,13 @@
 -- The sums over the replies to windows.
 use Rattle.window_service.proofs.Words.{◌≡◌, ◌∙◌, ◌∷◌, ◌++◌, ℕ, List, [], refl, sym, ap, subst, arith, append-nil, Network, State, lines_of, Line, Names, Reply, AreRepliesFrom, AreServed, AreReceivedFrom, AreAllReceived, ReceivesSums}
-use Rattle.std.proofs.lemmas.Grind.{flat_map-append}
+use Rattle.std.proofs.lemmas.Grind.{flat_map-append, fold-append}
 use Rattle.query_crew.specs.Served.{AreWindowReplies, replies_of, text_from}
 use Rattle.query_crew.specs.Windows.{windows_of, with_last}
 use Rattle.query_crew.proofs.Ends.{read-windows}
 use Rattle.query_crew.proofs.ServedLemmas.{counts-along, replies-more}
 use Rattle.reply_sums.specs.declared.sums.ReplySums.{ReplySums}
-use Rattle.reply_sums.specs.Sums.{added, no_sums, reply_sums, sums_after, sums_over}
+use Rattle.reply_sums.specs.Sums.{no_sums, sums_after, sums_over, with_reply}
 use Rattle.window_service.specs.Summed.{AreSummed}
-
--- sums after replies, and after more of them
-pub sums-append : (s : ReplySums) (a b : List Reply) → sums_after s (a ++ b) ≡ sums_after (sums_after s a) b
-sums-append s [] b = refl
-sums-append s (x ∷ a) b = sums-append (added s (reply_sums x)) a b
 
 module _ (nw : Network) (names : Names) (st : State) where
   sums-from : (before : List Line) (ws : List (List Line)) (rs : List (List Reply)) (old new : ReplySums) → AreRepliesFrom nw names st before ws rs → AreReceivedFrom ReceivesSums nw names st before ws rs old new → new ≡ sums_after old (replies_of rs)
@@ -20,7 +15,7 @@ module _ (nw : Network) (names : Names) (st : State) where
   sums-from before [] (r ∷ rs) old new are same = absurd are
   sums-from before (w ∷ ws) [] old new are same = absurd are
   sums-from before (w ∷ ws) (r ∷ rs) old new are taken =
-      sums-from (before ++ w) ws rs taken.0 new are.1 taken.2 ∙ ap (λ (s : ReplySums). sums_after s (replies_of rs)) taken.1 ∙ sym (sums-append old r (replies_of rs))
+      sums-from (before ++ w) ws rs taken.0 new are.1 taken.2 ∙ ap (λ (s : ReplySums). sums_after s (replies_of rs)) taken.1 ∙ sym (fold-append with_reply old r (replies_of rs))
 
   -- these are the sums over the replies to these windows, as they are written
   abbrev AreWindowsSummed : List (List Line) → ReplySums → Type 0
@@ -36,7 +31,7 @@ module _ (nw : Network) (names : Names) (st : State) where
   last-summed ws rs [] (s ∷ r) mid new are one so_far ends = absurd (omega (arith, one.one_each))
   last-summed ws rs (x ∷ xs) r mid new are one so_far ends =
       summed-by (ws ++ (x ∷ xs) ∷ []) (rs ++ r ∷ []) new (replies-more nw names st [] ws rs (x ∷ xs) r are one)
-      (ends ∙ ap (λ (s : ReplySums). sums_after s r) so_far ∙ sym (sums-append no_sums (replies_of rs) r)
+      (ends ∙ ap (λ (s : ReplySums). sums_after s r) so_far ∙ sym (fold-append with_reply no_sums (replies_of rs) r)
       ∙ ap sums_over (sym (flat_map-append (λ (l : List Reply). l) rs (r ∷ []) ∙ ap (λ (l : List Reply). replies_of rs ++ l) (append-nil r))))
 
   pub all-summed : (lines : List Line) (new : ReplySums) → AreAllReceived ReceivesSums ReceivesSums nw names st lines no_sums new → AreSummed nw names st lines new
