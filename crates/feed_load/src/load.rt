@@ -4,7 +4,7 @@ ghost use Rattle.std.specs.Prelude.{◌≡◌, ◌+◌, ◌*◌, ◌<◌, ◌≤
 ghost use Rattle.mt_base.specs.Civil.{IsCivil};
 ghost use Rattle.mt_base.specs.Options.{IsInRange};
 ghost use Rattle.mt_base.specs.declared.tables.What.TheVariants.{Pairs};
-ghost use Rattle.mt_io.specs.Causes.{Rose};
+ghost use Rattle.mt_io.specs.Causes.{counted};
 ghost use Rattle.delay_model.specs.declared.network.Network.{Network as ANetwork};
 ghost use Rattle.change_times.specs.Reach.{pairs};
 ghost use Rattle.delay_model.specs.Events.{events};
@@ -200,8 +200,9 @@ pub fn load_feed<F: Feed>(
 
     // the faults of the feed that are counted
     ensures failed { IsErrOf result FeedError.ReadFault
-        → Rose (F.faults feed.old) (F.faults feed.new) }
-    ensures later { F.faults feed.old ≤ F.faults feed.new }
+        → F.faults feed.new ≡ counted (F.faults feed.old) }
+    ensures answered { ¬ (IsErrOf result FeedError.ReadFault)
+        → F.faults feed.new ≡ F.faults feed.old }
 {
     let tables = read_tables(alloc, feed, folder)?;
     load_tables(alloc, &tables, first, days, opts)

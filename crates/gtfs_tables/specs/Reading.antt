@@ -1,6 +1,6 @@
 -- How a feed is left when a table of it was read.
-use Rattle.std.specs.Prelude.{◌≡◌, ◌≤◌, ℕ, Option, Result, IsErrOf}
-use Rattle.mt_io.specs.Causes.{Rose}
+use Rattle.std.specs.Prelude.{◌≡◌, ℕ, Option, Result, IsErrOf}
+use Rattle.mt_io.specs.Causes.{counted}
 use Rattle.gtfs_tables.specs.Feeds.{Files}
 use Rattle.gtfs_tables.specs.declared.refusals.FeedError.{FeedError}
 use Rattle.gtfs_tables.specs.declared.refusals.FeedError.TheVariants.{ReadFault}
@@ -9,9 +9,9 @@ use Rattle.gtfs_tables.specs.declared.refusals.FeedError.TheVariants.{ReadFault}
 -- failed reads are those before the reading and after it
 pub record IsRead {T : Type 0} (result : Result T FeedError) (files files_after : Option Files)
     (faults faults_after : ℕ) : Type 0 where
-  -- it fails only where a read of the feed failed
-  pub failed : IsErrOf result ReadFault → Rose faults faults_after
-  -- reads that failed stay counted
-  pub later : faults ≤ faults_after
+  -- it fails where exactly one read of the feed failed
+  pub failed : IsErrOf result ReadFault → faults_after ≡ counted faults
+  -- else no read failed
+  pub answered : ¬ (IsErrOf result ReadFault) → faults_after ≡ faults
   -- the files stay as they were
   pub same : files_after ≡ files

@@ -1,17 +1,35 @@
 -- Why answering lines stops before its end, and what it then has done.
-use Rattle.std.specs.Prelude.{ℕ, ◌≡◌, List, length}
+use Rattle.std.specs.Prelude.{ℕ, ◌≡◌, List, length, Result, Ok, Err}
 use Rattle.std.specs.declared.option.Option.{Option}
 use Rattle.std.specs.Io.KnownBytes.{Consumes}
+use Rattle.mt_io.specs.Causes.{counted}
 use Rattle.information_service.specs.declared.fault.LinesFault.{LinesFault}
 use Rattle.information_service.specs.declared.fault.LinesFault.TheVariants.{ReadFault, WriteFault, OutOfMemory, TooLong}
 
--- A fault has its cause: one for a failed read, one for a failed write, one for an input that is
--- too long. Want of memory has none.
-abbrev pub HasLinesFaultCause : Type 0 → Type 0 → Type 0 → LinesFault → Type 0
-HasLinesFaultCause read write long ReadFault = read
-HasLinesFaultCause read write long WriteFault = write
-HasLinesFaultCause read write long OutOfMemory = Unit {0}
-HasLinesFaultCause read write long TooLong = long
+-- the count of failed reads of an input after a run with this result, by the count before it: one
+-- more where the run stopped because a read failed, else the same
+abbrev pub reads_failed : {T : Type 0} → Result T LinesFault → ℕ → ℕ
+reads_failed (Ok value) before = before
+reads_failed (Err ReadFault) before = counted before
+reads_failed (Err WriteFault) before = before
+reads_failed (Err OutOfMemory) before = before
+reads_failed (Err TooLong) before = before
+
+-- the count of failed writes of an output after a run with this result, by the count before it: one
+-- more where the run stopped because a write failed, else the same
+abbrev pub writes_failed : {T : Type 0} → Result T LinesFault → ℕ → ℕ
+writes_failed (Ok value) before = before
+writes_failed (Err ReadFault) before = before
+writes_failed (Err WriteFault) before = counted before
+writes_failed (Err OutOfMemory) before = before
+writes_failed (Err TooLong) before = before
+
+-- the fault is none of an input: no read failed, and no input is too long
+abbrev pub IsNotOfInput : LinesFault → Type 0
+IsNotOfInput ReadFault = ⊥
+IsNotOfInput WriteFault = Unit {0}
+IsNotOfInput OutOfMemory = Unit {0}
+IsNotOfInput TooLong = ⊥
 
 -- this holds where answering stopped because a read failed or the input is too long
 abbrev pub WhereLinesStop : Type 0 → LinesFault → Type 0

@@ -1,13 +1,12 @@
 //! The lines of the input, each answered at once.
 
-ghost use Rattle.std.specs.Prelude.{◌≡◌, ◌≤◌, List, ℕ, false, OnOk, IfErr};
+ghost use Rattle.std.specs.Prelude.{◌≡◌, List, ℕ, false, OnOk, IfErr, IsErrOf};
 ghost use Rattle.std.specs.Io.KnownBytes.{Appends};
 ghost use Rattle.delay_report.specs.Replies.{text_of_reply};
-ghost use Rattle.mt_io.specs.Causes.{Rose};
 ghost use Rattle.mt_io.specs.Lines.{Line, lines_of};
 ghost use Rattle.mt_io.specs.Reader.{IsDone};
 ghost use Rattle.mt_io.specs.Runs.{fresh};
-ghost use Rattle.information_service.specs.Causes.{HasLinesFaultCause, WhereLinesStop, TookAll};
+ghost use Rattle.information_service.specs.Causes.{IsNotOfInput, WhereLinesStop, TookAll, reads_failed, writes_failed};
 ghost use Rattle.information_service.specs.Fronts.{AreAnswered, AppendsFront, Begun};
 
 use crate::fault::LinesFault;
@@ -29,9 +28,8 @@ fn write_reply<K: Sink>(
         (text_of_reply directory.now reply.now)) }
     ensures front { IfErr result (λ f. AppendsFront (K.written out.old) (K.written out.new)
         (text_of_reply directory.now reply.now)) }
-    ensures fault { IfErr result (HasLinesFaultCause ⊥
-        (Rose (K.faults out.old) (K.faults out.new)) ⊥) }
-    ensures later { K.faults out.old ≤ K.faults out.new }
+    ensures fault { IfErr result IsNotOfInput }
+    ensures writes { K.faults out.new ≡ writes_failed result (K.faults out.old) }
 {
     let text = reply_text(alloc, reply, directory)?;
     put(out, text.as_slice())?;
@@ -66,13 +64,11 @@ pub(crate) fn answer_lines<S: Source, K: Sink>(
         × Begun service.old reader.new (S.left input.old) (S.left input.new) (K.written out.old)
         (K.written out.new) bytes lines) }
 
-    // faults have causes, and their counts do not fall
-    ensures fault { IfErr result (HasLinesFaultCause
-        (Rose (S.faults input.old) (S.faults input.new))
-        (Rose (K.faults out.old) (K.faults out.new))
-        (TookAll reader.old.budget (S.left input.old) (S.left input.new))) }
-    ensures later { (S.faults input.old ≤ S.faults input.new)
-        × (K.faults out.old ≤ K.faults out.new) }
+    // how many reads and writes failed, and when the input is too long
+    ensures reads { S.faults input.new ≡ reads_failed result (S.faults input.old) }
+    ensures writes { K.faults out.new ≡ writes_failed result (K.faults out.old) }
+    ensures too_long { IsErrOf result LinesFault.TooLong
+        → TookAll reader.old.budget (S.left input.old) (S.left input.new) }
 {
     for number in 1..u64::MAX {
         let reply = match reader.next(input) {

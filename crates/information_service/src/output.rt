@@ -1,10 +1,9 @@
 //! The whole output: the replies to all lines of the input, and the table of all times.
 
-ghost use Rattle.std.specs.Prelude.{◌≡◌, ◌≤◌, List, ℕ, Some, true, false, OnOk, IfErr};
+ghost use Rattle.std.specs.Prelude.{◌≡◌, List, ℕ, Some, true, false, OnOk, IfErr, IsErrOf};
 ghost use Rattle.std.specs.Io.KnownBytes.{Consumes, IsAtEnd};
-ghost use Rattle.mt_io.specs.Causes.{Rose};
 ghost use Rattle.mt_io.specs.Lines.{lines_of};
-ghost use Rattle.information_service.specs.Causes.{HasLinesFaultCause, WhereLinesStop, TookAll};
+ghost use Rattle.information_service.specs.Causes.{WhereLinesStop, TookAll, reads_failed, writes_failed};
 ghost use Rattle.information_service.specs.Fronts.{AppendsReplies, AppendsOutput, AppendsOutputFront};
 
 use crate::fault::LinesFault;
@@ -44,13 +43,11 @@ pub fn write_output<S: Source, K: Sink>(
         → AppendsOutputFront service.old.network service.old.names service.old.state
         (lines_of true bytes) (K.written out.old) (K.written out.new)) }
 
-    // faults have causes, and their counts do not fall
-    ensures fault { IfErr result (HasLinesFaultCause
-        (Rose (S.faults input.old) (S.faults input.new))
-        (Rose (K.faults out.old) (K.faults out.new))
-        (TookAll budget (S.left input.old) (S.left input.new))) }
-    ensures later { (S.faults input.old ≤ S.faults input.new)
-        × (K.faults out.old ≤ K.faults out.new) }
+    // how many reads and writes failed, and when the input is too long
+    ensures reads { S.faults input.new ≡ reads_failed result (S.faults input.old) }
+    ensures writes { K.faults out.new ≡ writes_failed result (K.faults out.old) }
+    ensures too_long { IsErrOf result LinesFault.TooLong
+        → TookAll budget (S.left input.old) (S.left input.new) }
 {
     let mut reader = LineReader::build(alloc, budget)?;
     answer_lines(alloc, service, &mut reader, input, out)?;

@@ -1,10 +1,9 @@
 //! The table of all times.
 
-ghost use Rattle.std.specs.Prelude.{◌≤◌, OnOk, IfErr};
+ghost use Rattle.std.specs.Prelude.{◌≡◌, OnOk, IfErr};
 ghost use Rattle.std.specs.Io.KnownBytes.{Appends};
 ghost use Rattle.delay_report.specs.Table.{table};
-ghost use Rattle.mt_io.specs.Causes.{Rose};
-ghost use Rattle.information_service.specs.Causes.{HasLinesFaultCause};
+ghost use Rattle.information_service.specs.Causes.{IsNotOfInput, writes_failed};
 ghost use Rattle.information_service.specs.Fronts.{AppendsFront};
 
 use crate::fault::LinesFault;
@@ -26,9 +25,8 @@ pub(crate) fn write_table<K: Sink>(
         (table service.now.network service.now.names service.now.state)) }
     ensures front { IfErr result (λ f. AppendsFront (K.written out.old) (K.written out.new)
         (table service.now.network service.now.names service.now.state)) }
-    ensures fault { IfErr result (HasLinesFaultCause ⊥
-        (Rose (K.faults out.old) (K.faults out.new)) ⊥) }
-    ensures later { K.faults out.old ≤ K.faults out.new }
+    ensures fault { IfErr result IsNotOfInput }
+    ensures writes { K.faults out.new ≡ writes_failed result (K.faults out.old) }
 {
     put(out, times_header())?;
     for train in 0..service.timetable.graph().trains().count() {

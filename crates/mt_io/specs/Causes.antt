@@ -1,5 +1,5 @@
--- Counts of faults: when one rose in a call, and what a failed call says.
-use Rattle.std.specs.Prelude.{ℕ, ◌+◌, ◌-◌, ◌^◌, ◌≤◌, ◌<◌, min, Result, OnErr, List, length, take}
+-- Counts of faults: what a call does to one, and what a failed call says.
+use Rattle.std.specs.Prelude.{ℕ, ◌≡◌, ◌+◌, ◌-◌, ◌^◌, ◌≤◌, ◌<◌, min, Result, OnOk, OnErr, List, length, take}
 use Rattle.std.specs.Io.KnownBytes.{Appends}
 use Rattle.std.specs.declared.option.Option.{Option}
 
@@ -11,10 +11,11 @@ counted before = min (before + 1) (2 ^ 64 - 1)
 abbrev pub Rose : ℕ → ℕ → Type 0
 Rose before now = counted before ≤ now
 
--- a call never lowers the count, and raises it where it answers that the object failed
+-- a call that answers well counts no fault, and one that answers that the object failed counts
+-- exactly one
 pub record HasCause {T E : Type 0} (before now : ℕ) (result : Result T E) : Type 0 where
-  pub later : before ≤ now
-  pub failed : OnErr result (Rose before now)
+  pub answered : OnOk result (now ≡ before)
+  pub failed : OnErr result (now ≡ counted before)
 
 -- known bytes grow by a front of bs, but not by all of it
 abbrev pub AppendsPart : Option (List ℕ) → Option (List ℕ) → List ℕ → Type 0

@@ -3,7 +3,7 @@
 ghost use Rattle.std.specs.Prelude.{◌≡◌, ◌↔◌, ◌⊎◌, ◌<◌, ◌≤◌, ◌-◌, ◌∷◌, [], length, drop, take, min, Contains, IsErr, IsErrOf, IfOk, IfSome, OnOk, OnErr, Some, option_map, vec_len, vec_capacity, IsTrue, ◌++◌, ◌+◌};
 ghost use Rattle.std.specs.Io.{ReadsAtMost, WritesAtMost};
 ghost use Rattle.std.specs.Io.KnownBytes.{ReadConsumes, WriteAppends};
-ghost use Rattle.mt_io.specs.Causes.{HasCause, Rose};
+ghost use Rattle.mt_io.specs.Causes.{HasCause, counted};
 ghost use Rattle.mt_io.specs.Memory.{MemoryReader, MemoryWriter, MemoryTables, after_read, after_read_fault, after_write, after_write_fault, after_table, after_table_fault};
 ghost use Rattle.mt_io.specs.Tables.{IsTooLong, table_in};
 
@@ -244,14 +244,16 @@ impl Feed for MemFeed {
         ensures small { IfOk result (λ table. IfSome table (λ v. length v.items ≤ 268435456)) }
         ensures long { IsErrOf result FeedFault.TooLong
             → IsTooLong (table_in self.old.tables folder.now name.now) }
-        ensures failed { IsErrOf result FeedFault.Failed → Rose self.old.faults self.new.faults }
-        ensures later { self.old.faults ≤ self.new.faults }
+        ensures failed { IsErrOf result FeedFault.Failed
+            → self.new.faults ≡ counted self.old.faults }
+        ensures answered { ¬ (IsErrOf result FeedFault.Failed)
+            → self.new.faults ≡ self.old.faults }
         ensures same { Some (table_in self.new.tables) ≡ Some (table_in self.old.tables) }
 
         // when it fails, and the feed afterwards
         ensures listed { Contains self.old.failing self.old.calls
             → IsErrOf result FeedFault.Failed × (self.new ≡ after_table_fault self.old) }
-        ensures answered { ¬ (Contains self.old.failing self.old.calls)
+        ensures not_listed { ¬ (Contains self.old.failing self.old.calls)
             → ¬ (IsErrOf result FeedFault.Failed) × (self.new ≡ after_table self.old) }
     {
         let number = self.calls;

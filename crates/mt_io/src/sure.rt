@@ -2,7 +2,7 @@
 ghost use Rattle.std.specs.Prelude.{◌≡◌, ◌<◌, ◌≤◌, ◌∷◌, [], length, drop, min, IsOk, IsOkAnd, IfOk, IfSome, IsErrOf, OnOk, OnErr, Some, None, option_map, vec_len};
 ghost use Rattle.std.specs.Io.{ReadsAtMost, WritesAtMost};
 ghost use Rattle.std.specs.Io.KnownBytes.{ReadConsumes};
-ghost use Rattle.mt_io.specs.Causes.{HasCause, Rose};
+ghost use Rattle.mt_io.specs.Causes.{HasCause};
 ghost use Rattle.mt_io.specs.Memory.{SureReader};
 ghost use Rattle.mt_io.specs.Tables.{IsTooLong, table_in};
 

@@ -1,3 +1,5 @@
+ghost use Rattle.std.specs.Prelude.{Some};
+
 use crate::{
     Failed, Feed, FeedFault, FolderFeed, Gate, Hold, LineReader, MemFeed, MemSink, MemSource, Next,
     NoGate, Point, Sink, Source, StdSink, StdSource, SureFeed, SureSink, SureSource, TurnGate, put,
@@ -33,6 +35,41 @@ fn lines_come_whole_whatever_the_pieces(rt: HostRuntime) -> Result<(), Fail> {
         assert!(rt; matches!(reader.next(&mut source), Next::End));
         assert!(rt; matches!(reader.next(&mut source), Next::End));
     }
+    Ok(())
+}
+
+// A source that counts its reads.
+#[derive(Drop)]
+struct CountedSource {
+    inner: SureSource,
+    reads: u64,
+}
+
+impl Source for CountedSource {
+    ghost left = { λ s. Some s.inner.left };
+
+    ghost faults = { λ _. 0 };
+
+    fn read(&mut self, buf: &mut [u8]) -> Result<usize, Failed> {
+        self.reads = self.reads.saturating_add(1);
+        self.inner.read(buf)
+    }
+}
+
+#[test]
+fn no_read_behind_a_whole_line(rt: HostRuntime) -> Result<(), Fail> {
+    let bytes = Vec::from_slice(rt.alloc(), b"ab\ncd\ne\nfgh")?;
+    let mut source = CountedSource {
+        inner: SureSource::build(bytes, 4),
+        reads: 0,
+    };
+    let mut reader = LineReader::build(rt.alloc(), 100)?;
+    for (want, reads) in [("ab", 1), ("cd", 2), ("e", 2), ("fgh", 4)] {
+        assert!(rt; is_line(reader.next(&mut source), want), "{want}");
+        assert_eq!(rt; source.reads, reads, "reads up to {want}");
+    }
+    assert!(rt; matches!(reader.next(&mut source), Next::End));
+    assert_eq!(rt; source.reads, 4);
     Ok(())
 }
 

@@ -2,7 +2,7 @@
 ghost use Rattle.std.specs.Prelude.{◌≡◌, ◌<◌, ◌≤◌, List, ℕ, length, IfOk, OnOk, OnErr, Option, IfSome, IsErrOf, option_map};
 ghost use Rattle.std.specs.Io.{ReadsAtMost, WritesAtMost};
 ghost use Rattle.std.specs.Io.KnownBytes.{Appends, ReadConsumes, WriteAppends};
-ghost use Rattle.mt_io.specs.Causes.{HasCause, AppendsPart, Rose};
+ghost use Rattle.mt_io.specs.Causes.{HasCause, AppendsPart, counted};
 ghost use Rattle.mt_io.specs.Tables.{IsTooLong};
 
 /// The object failed.
@@ -68,8 +68,9 @@ pub trait Feed {
         ensures long { IsErrOf result FeedFault.TooLong → IfSome (tables self.old) (λ told.
             IsTooLong (told folder.now name.now)) }
         ensures failed { IsErrOf result FeedFault.Failed
-            → Rose (faults self.old) (faults self.new) }
-        ensures later { faults self.old ≤ faults self.new }
+            → faults self.new ≡ counted (faults self.old) }
+        ensures answered { ¬ (IsErrOf result FeedFault.Failed)
+            → faults self.new ≡ faults self.old }
         ensures same { tables self.new ≡ tables self.old };
 }
 

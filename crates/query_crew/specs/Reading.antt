@@ -1,6 +1,7 @@
 -- What reading a window takes from the input, and how it ends.
-use Rattle.std.specs.Prelude.{◌≡◌, ◌<◌, List, [], ◌∷◌}
+use Rattle.std.specs.Prelude.{ℕ, ◌≡◌, ◌<◌, List, [], ◌∷◌, Result, Ok, Err}
 use Rattle.information_service.specs.Lines.{said_by}
+use Rattle.mt_io.specs.Causes.{counted}
 use Rattle.mt_io.specs.Lines.{Line}
 use Rattle.mt_io.specs.Reader.{Reader, IsDone, CanReadOn, IsSpent, work}
 use Rattle.schedule_build.specs.Directory.{Names}
@@ -46,3 +47,22 @@ pub record IsReadWindow (names : Names) (end : WindowEnd) (lines : List Line)
     (window : List WindowLine) (old new : Reader) : Type 0 where
   pub shown : window ≡ window_lines names lines
   pub ended : EndsWindow end lines old new
+
+-- the count of failed reads of an input after a window that ended so, by the count before it: one
+-- more where a read failed, else the same
+abbrev pub failed_at_end : WindowEnd → ℕ → ℕ
+failed_at_end ends.More before = before
+failed_at_end ends.End before = before
+failed_at_end ends.ReadFault before = counted before
+failed_at_end ends.Budget before = before
+
+-- the same after the next line was read, or was lost for want of memory
+abbrev pub line_reads_failed : {E : Type 0} → Result NextLine E → ℕ → ℕ
+line_reads_failed (Ok (next.Line line)) before = before
+line_reads_failed (Ok (next.Stop end)) before = failed_at_end end before
+line_reads_failed (Err fault) before = before
+
+-- the same after a window was read, or a line of it was lost for want of memory
+abbrev pub window_reads_failed : {E : Type 0} → Result WindowEnd E → ℕ → ℕ
+window_reads_failed (Ok end) before = failed_at_end end before
+window_reads_failed (Err fault) before = before

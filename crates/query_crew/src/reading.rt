@@ -1,10 +1,9 @@
 //! The windows of an input, one after another.
 
-ghost use Rattle.std.specs.Prelude.{◌≡◌, ◌≤◌, List, Ok, IfOk, true};
-ghost use Rattle.mt_io.specs.Causes.{Rose};
+ghost use Rattle.std.specs.Prelude.{◌≡◌, List, IfOk, true};
 ghost use Rattle.mt_io.specs.Lines.{Line};
 ghost use Rattle.mt_io.specs.Reader.{GivesNext};
-ghost use Rattle.query_crew.specs.Reading.{IsNextLine, IsReadWindow};
+ghost use Rattle.query_crew.specs.Reading.{IsNextLine, IsReadWindow, line_reads_failed, window_reads_failed};
 
 use crate::window::Window;
 use crate::window_line::{WindowLine, read_window_line};
@@ -47,9 +46,7 @@ fn next_line<S: Source>(
     ensures taken { (lines : List Line)
         × GivesNext reader.old reader.new (S.left input.old) (S.left input.new) lines
         × IfOk result (λ next. IsNextLine directory.now next lines reader.old reader.new) }
-    ensures read_fault { result ≡ Ok (NextLine.Stop WindowEnd.ReadFault)
-        → Rose (S.faults input.old) (S.faults input.new) }
-    ensures later { S.faults input.old ≤ S.faults input.new }
+    ensures reads { S.faults input.new ≡ line_reads_failed result (S.faults input.old) }
     ensures ended { reader.old.ended ≡ true → input.new ≡ input.old }
 {
     match reader.next(input) {
@@ -77,10 +74,8 @@ pub fn read_window<S: Source>(
         × IfOk result (λ end. IsReadWindow directory.now end lines window.new reader.old
         reader.new) }
 
-    // the faults of the input, and when it is not read
-    ensures read_fault { result ≡ Ok WindowEnd.ReadFault
-        → Rose (S.faults input.old) (S.faults input.new) }
-    ensures later { S.faults input.old ≤ S.faults input.new }
+    // how many reads failed, and when the input is not read
+    ensures reads { S.faults input.new ≡ window_reads_failed result (S.faults input.old) }
     ensures ended { reader.old.ended ≡ true → input.new ≡ input.old }
 {
     window.clear();

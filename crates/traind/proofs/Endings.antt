@@ -1,5 +1,5 @@
 -- How a run ends: words that are not read, a feed that is not loaded, lines that are answered.
-use Rattle.std.proofs.Common.{◌≡◌, ◌⊎◌, ◌∙◌, ℕ, List, [], Option, Some, None, Result, Ok, Err, arith, refl, sym, subst, true, false, inl, inr}
+use Rattle.std.proofs.Common.{◌≡◌, ◌⊎◌, ◌∙◌, ℕ, List, [], Option, Some, None, Result, Ok, Err, ap, arith, refl, sym, subst, true, false, inl, inr}
 use Rattle.std.proofs.lemmas.Option.{none-some}
 use Rattle.std.specs.Io.KnownBytes.{Consumes, IsAtEnd}
 use Rattle.std.specs.Result.{IsErrAnd}
@@ -15,17 +15,17 @@ use Rattle.gtfs_tables.specs.declared.refusals.FeedError.TheVariants as feeds
 use Rattle.gtfs_tables.specs.declared.refusals.FeedRefusal.{FeedRefusal}
 use Rattle.gtfs_tables.specs.Feeds.{Files}
 use Rattle.gtfs_tables.specs.Refusals.{IsErrorOf}
-use Rattle.information_service.specs.Causes.{HasLinesFaultCause, TookAll, WhereLinesStop}
+use Rattle.information_service.specs.Causes.{TookAll, WhereLinesStop, reads_failed, writes_failed}
 use Rattle.information_service.specs.declared.fault.LinesFault.{LinesFault}
 use Rattle.information_service.specs.declared.fault.LinesFault.TheVariants as lines
 use Rattle.information_service.specs.Fronts.{AppendsAll, AppendsWholeFront}
 use Rattle.information_service.specs.Networks.{IsSame}
-use Rattle.mt_io.specs.Causes.{Rose}
+use Rattle.mt_io.specs.Causes.{counted}
 use Rattle.mt_io.specs.Lines.{lines_of}
 use Rattle.mt_io.proofs.Gives.{consumes_none}
 use Rattle.schedule_build.specs.Directory.{Names}
 use Rattle.traind.specs.Causes.{HasFaultCause}
-use Rattle.traind.specs.Contract.{EndsAs, FeedSeen, StreamSeen}
+use Rattle.traind.specs.Contract.{EndsAs, FeedReadFailed, FeedSeen, InputReadFailed, NothingFailed, StreamSeen, WriteFailed}
 use Rattle.traind.specs.Feeds.{network, tables_in, asked_in}
 use Rattle.traind.specs.Runs.{IsRefused, output_for, output_of}
 use Rattle.traind.specs.Statuses.{feed_fault, lines_fault, words_fault}
@@ -37,14 +37,24 @@ use Rattle.traind.proofs.Tables.{same-start, not-refused, output-is, replies-are
 abbrev pub stops : Fault → Result (Unit {0}) Fault
 stops f = Err f
 
+pub not-error : {T E : Type 0} (x : T) (e : E) → ¬ (Ok x ≡ Err e)
+not-error x e is = absurd cc
+
+pub same-error : {T E : Type 0} (r : Result T E) (e f : E) → r ≡ Err e → r ≡ Err f → e ≡ f
+same-error r e f one other = cc
+
 pub is-err : (run : Result (Unit {0}) Fault) (f : Fault) → IsErrAnd run (λ e. e ≡ f) → stops f ≡ run
 is-err (Ok u) f is = absurd is
 is-err (Err e) f is = grind (arith, is)
 
+-- a stream that a run did not touch
+abbrev pub still : Option (List ℕ) → ℕ → StreamSeen
+still bytes faults = record { bytes = bytes; bytes_after = bytes; faults = faults; faults_after = faults }
+
 -- a run that read nothing from the input and wrote nothing to the output
-abbrev pub Untouched : {F S K : Type 0} → (budget : ℕ) (words : List (List ℕ)) (feed : FeedSeen) (left written : Option (List ℕ)) (reads reads_after writes writes_after : ℕ) (before after : F) (input : S) (out : K) → Result (Unit {0}) Fault → Type 0
-Untouched budget words feed left written reads reads_after writes writes_after before after input out run =
-    EndsAs output_of budget words feed (record { bytes = left; bytes_after = left; faults = reads; faults_after = reads_after }) (record { bytes = written; bytes_after = written; faults = writes; faults_after = writes_after }) before after input input out out run
+abbrev pub Untouched : {F S K : Type 0} → (budget : ℕ) (words : List (List ℕ)) (feed : FeedSeen) (left written : Option (List ℕ)) (reads writes : ℕ) (before after : F) (input : S) (out : K) → Result (Unit {0}) Fault → Type 0
+Untouched budget words feed left written reads writes before after input out run =
+    EndsAs output_of budget words feed (still left reads) (still written writes) before after input input out out run
 
 pub usage_or_memory : (f : WordsFault) → (stops (words_fault f) ≡ stops faults.Usage) ⊎ (stops (words_fault f) ≡ stops faults.OutOfMemory)
 usage_or_memory words_faults.Usage = inl refl
@@ -58,9 +68,9 @@ pub words_cause : (f : WordsFault) (none : Type 0) (refused : FeedRefusal → Ty
 words_cause words_faults.Usage none refused read write long usage = usage refl
 words_cause words_faults.OutOfMemory none refused read write long usage = tt
 
-not_read : {F S K : Type 0} {budget : ℕ} {words : List (List ℕ)} {feed : FeedSeen} {left written : Option (List ℕ)} {reads reads_after writes writes_after : ℕ} {before : F} {input : S} {out : K} (f : WordsFault) → (f ≡ words_faults.Usage → asked_of words ≡ None)
-    → Untouched budget words feed left written reads reads_after writes writes_after before before input out (stops (words_fault f))
-not_read {left = left} {written = written} f usage = record {
+not_read : {F S K : Type 0} {budget : ℕ} {words : List (List ℕ)} {feed : FeedSeen} {left written : Option (List ℕ)} {reads writes : ℕ} {before : F} {input : S} {out : K} (f : WordsFault) → (f ≡ words_faults.Usage → asked_of words ≡ None) → feed.faults_after ≡ feed.faults
+    → Untouched budget words feed left written reads writes before before input out (stops (words_fault f))
+not_read {left = left} {written = written} f usage same = record {
   ok = tt;
   ended = tt;
   no_words = λ none. usage_or_memory f;
@@ -68,49 +78,57 @@ not_read {left = left} {written = written} f usage = record {
   refused = λ why r. inr (inl (is_memory f (λ is. none-some r.asked (sym (usage is) ∙ r.asked_is))));
   refused_untouched = λ why r. (refl, refl);
   fault = words_cause f _ _ _ _ _ (λ is. (usage is, refl, refl, refl));
+  no_fault = λ not_read not_written. record { feed_reads = same; input_reads = refl; writes = refl };
   stopped = λ is nw st names loads. ([], consumes_none left, none-written loads.asked nw names st written);
   front = λ nw st names bytes loads is. none-front loads.asked nw names st (lines_of true bytes) written;
 }
 
 -- words that are not read touch nothing
-pub words-not-read : {F S K : Type 0} {budget : ℕ} {words : List (List ℕ)} {feed : FeedSeen} {left written : Option (List ℕ)} {reads reads_after writes writes_after : ℕ} {before : F} {input : S} {out : K} (run : Result (Unit {0}) Fault) (f : WordsFault) → IsErrAnd run (λ e. e ≡ words_fault f)
-    → (f ≡ words_faults.Usage → asked_of words ≡ None) → Untouched budget words feed left written reads reads_after writes writes_after before before input out run
-words-not-read {budget = budget} {words = words} {feed = feed} {left = left} {written = written} {reads = reads} {reads_after = reads_after} {writes = writes} {writes_after = writes_after} {before = before} {input = input} {out = out} run f is usage =
-    subst (Untouched budget words feed left written reads reads_after writes writes_after before before input out) (is-err run (words_fault f) is) (not_read f usage)
+pub words-not-read : {F S K : Type 0} {budget : ℕ} {words : List (List ℕ)} {feed : FeedSeen} {left written : Option (List ℕ)} {reads writes : ℕ} {before : F} {input : S} {out : K} (run : Result (Unit {0}) Fault) (f : WordsFault) → IsErrAnd run (λ e. e ≡ words_fault f)
+    → (f ≡ words_faults.Usage → asked_of words ≡ None) → feed.faults_after ≡ feed.faults → Untouched budget words feed left written reads writes before before input out run
+words-not-read {budget = budget} {words = words} {feed = feed} {left = left} {written = written} {reads = reads} {writes = writes} {before = before} {input = input} {out = out} run f is usage same =
+    subst (Untouched budget words feed left written reads writes before before input out) (is-err run (words_fault f) is) (not_read f usage same)
 
 module _ (words : List (List ℕ)) (feed : FeedSeen) (a : Asked) (asked : asked_of words ≡ Some a) where
-  feed_cause : (f : FeedError) (usage one two read write long : Type 0) → one → two → ((told : Files) → feed.tables ≡ Some told → IsErrorOf f (asked_in told a)) → (f ≡ feeds.ReadFault → Rose feed.faults feed.faults_after)
-      → HasFaultCause usage (λ why. ((told : Files) → feed.tables ≡ Some told → IsRefused words feed.tables why) × one × two) ((one × two × Rose feed.faults feed.faults_after) ⊎ read) write long (feed_fault f)
-  feed_cause (feeds.Refused why) usage one two read write long x y gives rose = (λ told is. record { asked = a; told = told; asked_is = asked; told_is = is; refused = gives told is }, x, y)
-  feed_cause feeds.ReadFault usage one two read write long x y gives rose = inl (x, y, rose refl)
-  feed_cause feeds.OutOfMemory usage one two read write long x y gives rose = tt
+  feed_cause : (f : FeedError) (usage one two failed read write long : Type 0) → one → two → ((told : Files) → feed.tables ≡ Some told → IsErrorOf f (asked_in told a)) → (f ≡ feeds.ReadFault → failed)
+      → HasFaultCause usage (λ why. ((told : Files) → feed.tables ≡ Some told → IsRefused words feed.tables why) × one × two) ((one × two × failed) ⊎ read) write long (feed_fault f)
+  feed_cause (feeds.Refused why) usage one two failed read write long x y gives counts = (λ told is. record { asked = a; told = told; asked_is = asked; told_is = is; refused = gives told is }, x, y)
+  feed_cause feeds.ReadFault usage one two failed read write long x y gives counts = inl (x, y, counts refl)
+  feed_cause feeds.OutOfMemory usage one two failed read write long x y gives counts = tt
 
-  is_refused : (f : FeedError) (rose : Type 0) (why : FeedRefusal) → (f ≡ feeds.ReadFault → rose) → ((told : Files) → feed.tables ≡ Some told → IsErrorOf f (asked_in told a)) → IsRefused words feed.tables why
-      → (stops (feed_fault f) ≡ stops (faults.FeedRefused why)) ⊎ (stops (feed_fault f) ≡ stops faults.OutOfMemory) ⊎ ((stops (feed_fault f) ≡ stops faults.ReadFault) × rose)
-  is_refused (feeds.Refused first) rose why failed gives r = inl (grind (arith, asked, r.asked_is, gives r.told r.told_is, r.refused))
-  is_refused feeds.ReadFault rose why failed gives r = inr (inr (refl, failed refl))
-  is_refused feeds.OutOfMemory rose why failed gives r = inr (inl refl)
+  is_refused : (f : FeedError) (failed : Type 0) (why : FeedRefusal) → (f ≡ feeds.ReadFault → failed) → ((told : Files) → feed.tables ≡ Some told → IsErrorOf f (asked_in told a)) → IsRefused words feed.tables why
+      → (stops (feed_fault f) ≡ stops (faults.FeedRefused why)) ⊎ (stops (feed_fault f) ≡ stops faults.OutOfMemory) ⊎ ((stops (feed_fault f) ≡ stops faults.ReadFault) × failed)
+  is_refused (feeds.Refused first) failed why counts gives r = inl (grind (arith, asked, r.asked_is, gives r.told r.told_is, r.refused))
+  is_refused feeds.ReadFault failed why counts gives r = inr (inr (refl, counts refl))
+  is_refused feeds.OutOfMemory failed why counts gives r = inr (inl refl)
 
-  not_loaded : {F S K : Type 0} {budget : ℕ} {left written : Option (List ℕ)} {reads reads_after writes writes_after : ℕ} {before after : F} {input : S} {out : K} (f : FeedError) → ((told : Files) → feed.tables ≡ Some told → IsErrorOf f (asked_in told a))
-      → (f ≡ feeds.ReadFault → Rose feed.faults feed.faults_after) → Untouched budget words feed left written reads reads_after writes writes_after before after input out (stops (feed_fault f))
-  not_loaded {left = left} {written = written} f gives rose = record {
-    ok = tt;
-    ended = tt;
-    no_words = λ none. absurd (none-some a (sym none ∙ asked));
-    usage_untouched = λ none. absurd (none-some a (sym none ∙ asked));
-    refused = λ why r. is_refused f (Rose feed.faults feed.faults_after) why rose gives r;
-    refused_untouched = λ why r. (refl, refl);
-    fault = feed_cause f _ _ _ _ _ _ refl refl gives rose;
-    stopped = λ is nw st names loads. ([], consumes_none left, none-written loads.asked nw names st written);
-    front = λ nw st names bytes loads is. none-front loads.asked nw names st (lines_of true bytes) written;
-  }
+  -- a fault of the feed that is handed on is a failed read exactly where it is one
+  not_failed : (f : FeedError) → ¬ (stops (feed_fault f) ≡ stops faults.ReadFault) → ¬ (f ≡ feeds.ReadFault)
+  not_failed f other is = other (ap (λ f. stops (feed_fault f)) is)
+
+  not_loaded : {F S K : Type 0} {budget : ℕ} {left written : Option (List ℕ)} {reads writes : ℕ} {before after : F} {input : S} {out : K} (f : FeedError) → ((told : Files) → feed.tables ≡ Some told → IsErrorOf f (asked_in told a))
+      → (f ≡ feeds.ReadFault → feed.faults_after ≡ counted feed.faults) → (¬ (f ≡ feeds.ReadFault) → feed.faults_after ≡ feed.faults) → Untouched budget words feed left written reads writes before after input out (stops (feed_fault f))
+  not_loaded {left = left} {written = written} {reads = reads} {writes = writes} f gives failed answered =
+      let one : f ≡ feeds.ReadFault → FeedReadFailed feed (still left reads) (still written writes) = λ is. record { feed_reads = failed is; input_reads = refl; writes = refl } in
+      record {
+        ok = tt;
+        ended = tt;
+        no_words = λ none. absurd (none-some a (sym none ∙ asked));
+        usage_untouched = λ none. absurd (none-some a (sym none ∙ asked));
+        refused = λ why r. is_refused f (FeedReadFailed feed (still left reads) (still written writes)) why one gives r;
+        refused_untouched = λ why r. (refl, refl);
+        fault = feed_cause f _ _ _ _ _ _ _ refl refl gives one;
+        no_fault = λ other not_written. record { feed_reads = answered (not_failed f other); input_reads = refl; writes = refl };
+        stopped = λ is nw st names loads. ([], consumes_none left, none-written loads.asked nw names st written);
+        front = λ nw st names bytes loads is. none-front loads.asked nw names st (lines_of true bytes) written;
+      }
 
   -- where a feed is not loaded, nothing is read from the input or written to the output
-  pub feed-not-loaded : {F S K : Type 0} {budget : ℕ} {left written : Option (List ℕ)} {reads reads_after writes writes_after : ℕ} {before after : F} {input : S} {out : K} (run : Result (Unit {0}) Fault) (f : FeedError) → IsErrAnd run (λ e. e ≡ feed_fault f)
-      → ((told : Files) → feed.tables ≡ Some told → IsErrorOf f (asked_in told a)) → (f ≡ feeds.ReadFault → Rose feed.faults feed.faults_after)
-      → Untouched budget words feed left written reads reads_after writes writes_after before after input out run
-  feed-not-loaded {budget = budget} {left = left} {written = written} {reads = reads} {reads_after = reads_after} {writes = writes} {writes_after = writes_after} {before = before} {after = after} {input = input} {out = out} run f is gives rose =
-      subst (Untouched budget words feed left written reads reads_after writes writes_after before after input out) (is-err run (feed_fault f) is) (not_loaded f gives rose)
+  pub feed-not-loaded : {F S K : Type 0} {budget : ℕ} {left written : Option (List ℕ)} {reads writes : ℕ} {before after : F} {input : S} {out : K} (run : Result (Unit {0}) Fault) (f : FeedError) → IsErrAnd run (λ e. e ≡ feed_fault f)
+      → ((told : Files) → feed.tables ≡ Some told → IsErrorOf f (asked_in told a)) → (f ≡ feeds.ReadFault → feed.faults_after ≡ counted feed.faults) → (¬ (f ≡ feeds.ReadFault) → feed.faults_after ≡ feed.faults)
+      → Untouched budget words feed left written reads writes before after input out run
+  feed-not-loaded {budget = budget} {left = left} {written = written} {reads = reads} {writes = writes} {before = before} {after = after} {input = input} {out = out} run f is gives failed answered =
+      subst (Untouched budget words feed left written reads writes before after input out) (is-err run (feed_fault f) is) (not_loaded f gives failed answered)
 
 -- what holds where the lines stop for a failed read, or since the input is too long, holds of a run
 -- that hands their fault on
@@ -121,13 +139,22 @@ stopped_lines run T lines.WriteFault is t stop = grind arith
 stopped_lines run T lines.OutOfMemory is t stop = grind arith
 stopped_lines run T lines.TooLong is t stop = t
 
--- a fault of the lines has its cause in the run
-cause_of_lines : (usage : Type 0) (refused : FeedRefusal → Type 0) (read write long all_reads : Type 0) (f : LinesFault) → (read → all_reads) → HasLinesFaultCause read write long f
-    → HasFaultCause usage refused all_reads write long (lines_fault f)
-cause_of_lines usage refused read write long all_reads lines.ReadFault reads c = reads c
-cause_of_lines usage refused read write long all_reads lines.WriteFault reads c = c
-cause_of_lines usage refused read write long all_reads lines.OutOfMemory reads c = tt
-cause_of_lines usage refused read write long all_reads lines.TooLong reads c = c
+-- a run in which a fault of the lines stopped it: what failed, by the counts of faults
+module _ (feed : FeedSeen) (input out : StreamSeen) (loads : feed.faults_after ≡ feed.faults) where
+  -- it has its cause
+  cause_of_lines : (usage : Type 0) (refused : FeedRefusal → Type 0) (feed_failed long : Type 0) (f : LinesFault) → input.faults_after ≡ reads_failed {T = Unit {0}} (Err f) input.faults → out.faults_after ≡ writes_failed {T = Unit {0}} (Err f) out.faults → (f ≡ lines.TooLong → long)
+      → HasFaultCause usage refused (feed_failed ⊎ InputReadFailed feed input out) (WriteFailed feed input out) long (lines_fault f)
+  cause_of_lines usage refused feed_failed long lines.ReadFault reads writes spent = inr (record { feed_reads = loads; input_reads = reads; writes = writes })
+  cause_of_lines usage refused feed_failed long lines.WriteFault reads writes spent = record { feed_reads = loads; input_reads = reads; writes = writes }
+  cause_of_lines usage refused feed_failed long lines.OutOfMemory reads writes spent = tt
+  cause_of_lines usage refused feed_failed long lines.TooLong reads writes spent = spent refl
+
+  -- and else nothing failed
+  none_of_lines : (f : LinesFault) → input.faults_after ≡ reads_failed {T = Unit {0}} (Err f) input.faults → out.faults_after ≡ writes_failed {T = Unit {0}} (Err f) out.faults → ¬ (stops (lines_fault f) ≡ stops faults.ReadFault) → ¬ (stops (lines_fault f) ≡ stops faults.WriteFault) → NothingFailed feed input out
+  none_of_lines lines.ReadFault reads writes not_read not_written = absurd (not_read refl)
+  none_of_lines lines.WriteFault reads writes not_read not_written = absurd (not_written refl)
+  none_of_lines lines.OutOfMemory reads writes not_read not_written = record { feed_reads = loads; input_reads = reads; writes = writes }
+  none_of_lines lines.TooLong reads writes not_read not_written = record { feed_reads = loads; input_reads = reads; writes = writes }
 
 not_stopped : {P : Type 0} → (Ok tt ≡ stops faults.ReadFault) ⊎ (Ok tt ≡ stops faults.TooLong) → P
 not_stopped (inl is) = absurd cc
@@ -135,46 +162,48 @@ not_stopped (inr is) = absurd cc
 
 module _ {F S K : Type 0} {budget : ℕ} {words : List (List ℕ)} {feed : FeedSeen} {input out : StreamSeen} {feed_old feed_new : F} {input_old input_new : S} {out_old out_new : K} {c : Command} {a : Asked} {loaded : Network} {st : State} {names : Names}
     (asked : asked_of words ≡ Some a) (held : (told : Files) → feed.tables ≡ Some told → asked_in told a ≡ Ok (st, names))
-    (same : (told : Files) (rows : Tables) → feed.tables ≡ Some told → tables_in told a ≡ Ok rows → IsSame (network rows a.opts) loaded) (command : a.command ≡ c) where
+    (same : (told : Files) (rows : Tables) → feed.tables ≡ Some told → tables_in told a ≡ Ok rows → IsSame (network rows a.opts) loaded) (command : a.command ≡ c) (loads : feed.faults_after ≡ feed.faults) where
   -- all lines are answered
   pub all-answered : ((bytes : List ℕ) → input.bytes ≡ Some bytes → AppendsAll ((output_for c).IsWhole loaded names st (lines_of true bytes)) out.bytes out.bytes_after) → IsAtEnd input.bytes_after
-      → EndsAs output_of budget words feed input out feed_old feed_new input_old input_new out_old out_new (Ok tt)
-  all-answered whole end = record {
-    ok = λ nw first named bytes loads left. output-is (same-start words feed.tables a loaded st names asked held same nw first named loads) command (lines_of true bytes) out.bytes out.bytes_after (whole bytes left);
+      → input.faults_after ≡ input.faults → out.faults_after ≡ out.faults → EndsAs output_of budget words feed input out feed_old feed_new input_old input_new out_old out_new (Ok tt)
+  all-answered whole end reads writes = record {
+    ok = λ nw first named bytes asks left. output-is (same-start words feed.tables a loaded st names asked held same nw first named asks) command (lines_of true bytes) out.bytes out.bytes_after (whole bytes left);
     ended = end;
     no_words = λ none. absurd (none-some a (sym none ∙ asked));
     usage_untouched = λ none. absurd (none-some a (sym none ∙ asked));
     refused = λ why r. absurd (not-refused words feed.tables a st names asked held why r);
     refused_untouched = λ why r. absurd (not-refused words feed.tables a st names asked held why r);
     fault = tt;
+    no_fault = λ not_read not_written. record { feed_reads = loads; input_reads = reads; writes = writes };
     stopped = λ is. not_stopped is;
-    front = λ nw first named bytes loads left. whole-is-front ((output_of loads.asked).IsWhole nw named first) ((output_of loads.asked).AreReplies nw named first) (lines_of true bytes) out.bytes out.bytes_after
-        (output-is (same-start words feed.tables a loaded st names asked held same nw first named loads) command (lines_of true bytes) out.bytes out.bytes_after (whole bytes left));
+    front = λ nw first named bytes asks left. whole-is-front ((output_of asks.asked).IsWhole nw named first) ((output_of asks.asked).AreReplies nw named first) (lines_of true bytes) out.bytes out.bytes_after
+        (output-is (same-start words feed.tables a loaded st names asked held same nw first named asks) command (lines_of true bytes) out.bytes out.bytes_after (whole bytes left));
   }
 
   stopped_early : (f : LinesFault)
       → WhereLinesStop ((bytes : List ℕ) × Consumes input.bytes input.bytes_after bytes × AppendsAll ((output_for c).AreReplies loaded names st (lines_of false bytes)) out.bytes out.bytes_after) f
       → ((bytes : List ℕ) → input.bytes ≡ Some bytes → AppendsWholeFront ((output_for c).IsWhole loaded names st) ((output_for c).AreReplies loaded names st) (lines_of true bytes) out.bytes out.bytes_after)
-      → HasLinesFaultCause (Rose input.faults input.faults_after) (Rose out.faults out.faults_after) (TookAll budget input.bytes input.bytes_after) f
+      → input.faults_after ≡ reads_failed {T = Unit {0}} (Err f) input.faults → out.faults_after ≡ writes_failed {T = Unit {0}} (Err f) out.faults → (f ≡ lines.TooLong → TookAll budget input.bytes input.bytes_after)
       → EndsAs output_of budget words feed input out feed_old feed_new input_old input_new out_old out_new (stops (lines_fault f))
-  stopped_early f stopped front cause = record {
+  stopped_early f stopped front reads writes spent = record {
     ok = tt;
     ended = tt;
     no_words = λ none. absurd (none-some a (sym none ∙ asked));
     usage_untouched = λ none. absurd (none-some a (sym none ∙ asked));
     refused = λ why r. absurd (not-refused words feed.tables a st names asked held why r);
     refused_untouched = λ why r. absurd (not-refused words feed.tables a st names asked held why r);
-    fault = cause_of_lines _ _ _ _ _ _ f inr cause;
-    stopped = λ is nw first named loads.
+    fault = cause_of_lines feed input out loads _ _ _ _ f reads writes spent;
+    no_fault = none_of_lines feed input out loads f reads writes;
+    stopped = λ is nw first named asks.
         let had = stopped_lines (stops (lines_fault f)) _ f refl stopped is in
-        (had.0, had.1, replies-are (same-start words feed.tables a loaded st names asked held same nw first named loads) command (lines_of false had.0) out.bytes out.bytes_after had.2);
-    front = λ nw first named bytes loads left. front-is (same-start words feed.tables a loaded st names asked held same nw first named loads) command (lines_of true bytes) out.bytes out.bytes_after (front bytes left);
+        (had.0, had.1, replies-are (same-start words feed.tables a loaded st names asked held same nw first named asks) command (lines_of false had.0) out.bytes out.bytes_after had.2);
+    front = λ nw first named bytes asks left. front-is (same-start words feed.tables a loaded st names asked held same nw first named asks) command (lines_of true bytes) out.bytes out.bytes_after (front bytes left);
   }
 
   -- answering stops
   pub lines-stopped : (run : Result (Unit {0}) Fault) (f : LinesFault) → IsErrAnd run (λ e. e ≡ lines_fault f)
       → WhereLinesStop ((bytes : List ℕ) × Consumes input.bytes input.bytes_after bytes × AppendsAll ((output_for c).AreReplies loaded names st (lines_of false bytes)) out.bytes out.bytes_after) f
       → ((bytes : List ℕ) → input.bytes ≡ Some bytes → AppendsWholeFront ((output_for c).IsWhole loaded names st) ((output_for c).AreReplies loaded names st) (lines_of true bytes) out.bytes out.bytes_after)
-      → HasLinesFaultCause (Rose input.faults input.faults_after) (Rose out.faults out.faults_after) (TookAll budget input.bytes input.bytes_after) f
+      → input.faults_after ≡ reads_failed {T = Unit {0}} (Err f) input.faults → out.faults_after ≡ writes_failed {T = Unit {0}} (Err f) out.faults → (f ≡ lines.TooLong → TookAll budget input.bytes input.bytes_after)
       → EndsAs output_of budget words feed input out feed_old feed_new input_old input_new out_old out_new run
-  lines-stopped run f is stopped front cause = subst (EndsAs output_of budget words feed input out feed_old feed_new input_old input_new out_old out_new) (is-err run (lines_fault f) is) (stopped_early f stopped front cause)
+  lines-stopped run f is stopped front reads writes spent = subst (EndsAs output_of budget words feed input out feed_old feed_new input_old input_new out_old out_new) (is-err run (lines_fault f) is) (stopped_early f stopped front reads writes spent)

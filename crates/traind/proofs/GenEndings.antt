@@ -11,11 +11,11 @@ use Rattle.gtfs_tables.specs.declared.refusals.FeedError.{FeedError}
 use Rattle.gtfs_tables.specs.declared.refusals.FeedError.TheVariants as feeds
 use Rattle.gtfs_tables.specs.declared.refusals.FeedRefusal.{FeedRefusal}
 use Rattle.gtfs_tables.specs.Refusals.{IsErrorOf}
-use Rattle.information_service.specs.Causes.{HasLinesFaultCause, TookAll}
+use Rattle.information_service.specs.Causes.{TookAll, reads_failed}
 use Rattle.information_service.specs.declared.fault.LinesFault.{LinesFault}
 use Rattle.information_service.specs.declared.fault.LinesFault.TheVariants as lines
 use Rattle.information_service.proofs.Fronts.{front_all, front_part}
-use Rattle.mt_io.specs.Causes.{AppendsPart, Rose}
+use Rattle.mt_io.specs.Causes.{AppendsPart, counted}
 use Rattle.traind.specs.Causes.{HasFaultCause}
 use Rattle.traind.specs.Contract.{StreamSeen, Tells}
 use Rattle.traind.specs.GenContract.{GenEndsAs, MeetsGenContract}
@@ -26,23 +26,23 @@ use Rattle.traind.specs.declared.status.Fault.TheVariants as faults
 use Rattle.traind.specs.declared.status.Status.{Status}
 use Rattle.traind.specs.declared.status.Status.TheVariants as statuses
 use Rattle.traind.proofs.Endings.{is-err, stops, usage_or_memory, words_cause}
-use Rattle.traind.proofs.Statuses.{ended-well, few-taken, went-well}
+use Rattle.traind.proofs.Statuses.{IsMemoryTold, ended-well, few-taken, not-stopped, went-well}
 
 -- ---- why there is no summary
 
 -- a timetable that is held is loaded, unless there is no memory
-pub only-memory : {T : Type 0} (f : FeedError) (held : Result T FeedRefusal) (t : T) → held ≡ Ok t → IsErrorOf f held → (f ≡ feeds.ReadFault → Rose 0 0) → feed_fault f ≡ faults.OutOfMemory
+pub only-memory : {T : Type 0} (f : FeedError) (held : Result T FeedRefusal) (t : T) → held ≡ Ok t → IsErrorOf f held → (f ≡ feeds.ReadFault → 0 ≡ counted 0) → feed_fault f ≡ faults.OutOfMemory
 only-memory (feeds.Refused why) held t is gives failed = grind (arith, is, gives)
 only-memory feeds.ReadFault held t is gives failed = absurd (omega (arith, failed refl))
 only-memory feeds.OutOfMemory held t is gives failed = refl
 
 -- lines that are given without a fault, and that are fewer than may be taken, are answered, unless
 -- there is no memory
-pub only-memory-left : (f : LinesFault) (budget : ℕ) (all : List ℕ) (left : Option (List ℕ)) → length all < budget → HasLinesFaultCause (Rose 0 0) ⊥ (TookAll budget (Some all) left) f → lines_fault f ≡ faults.OutOfMemory
-only-memory-left lines.ReadFault budget all left short cause = absurd (omega (arith, cause))
-only-memory-left lines.WriteFault budget all left short cause = absurd cause
-only-memory-left lines.OutOfMemory budget all left short cause = refl
-only-memory-left lines.TooLong budget all left short cause = absurd (omega (arith, few-taken (Some all) left cause.0 all cause.1 refl, cause.2, short))
+pub only-memory-left : (f : LinesFault) (budget : ℕ) (all : List ℕ) (left : Option (List ℕ)) → length all < budget → 0 ≡ reads_failed {T = Unit {0}} (Err f) 0 → ¬ (f ≡ lines.WriteFault) → (f ≡ lines.TooLong → TookAll budget (Some all) left) → lines_fault f ≡ faults.OutOfMemory
+only-memory-left lines.ReadFault budget all left short reads not_written spent = absurd (omega (arith, reads))
+only-memory-left lines.WriteFault budget all left short reads not_written spent = absurd (not_written refl)
+only-memory-left lines.OutOfMemory budget all left short reads not_written spent = refl
+only-memory-left lines.TooLong budget all left short reads not_written spent = let took = spent refl in absurd (omega (arith, few-taken (Some all) left took.0 all took.1 refl, took.2, short))
 
 -- a result that hands a fault on
 pub handed-on : {T : Type 0} (run : Result T Fault) (f g : Fault) → IsErrAnd run (λ e. e ≡ f) → f ≡ g → IfErr run (λ e. e ≡ g)
@@ -66,46 +66,49 @@ write-failed run s status is = grind (arith, status, is)
 
 module _ {K : Type 0} (words : List (List ℕ)) (out : StreamSeen) (old new : K) where
   -- words that are not read
-  pub gen-not-read : (run : Result (Unit {0}) Fault) (f : WordsFault) → IsErrAnd run (λ e. e ≡ words_fault f) → (f ≡ words_faults.Usage → gen_asked_of words ≡ None) → new ≡ old → GenEndsAs words out old new run
-  gen-not-read run f is usage same =
+  pub gen-not-read : (run : Result (Unit {0}) Fault) (f : WordsFault) → IsErrAnd run (λ e. e ≡ words_fault f) → (f ≡ words_faults.Usage → gen_asked_of words ≡ None) → new ≡ old → out.faults_after ≡ out.faults → GenEndsAs words out old new run
+  gen-not-read run f is usage same counts =
       subst (GenEndsAs words out old new) (is-err run (words_fault f) is)
       (record {
         ok = tt;
         no_words = λ none. usage_or_memory f;
         usage_untouched = λ none. same;
         fault = words_cause f _ _ _ _ _ usage;
+        no_fault = λ not_written. counts;
         memory = λ is_memory. same;
         part = λ failed. absurd (not-written f failed);
         front = inl same;
       })
 
   -- a summary that is not made
-  pub gen-stopped : (run : Result (Unit {0}) Fault) (asked : AskedGen) → gen_asked_of words ≡ Some asked → IsErrAnd run (λ e. e ≡ faults.OutOfMemory) → new ≡ old → GenEndsAs words out old new run
-  gen-stopped run asked asked_is is same =
+  pub gen-stopped : (run : Result (Unit {0}) Fault) (asked : AskedGen) → gen_asked_of words ≡ Some asked → IsErrAnd run (λ e. e ≡ faults.OutOfMemory) → new ≡ old → out.faults_after ≡ out.faults → GenEndsAs words out old new run
+  gen-stopped run asked asked_is is same counts =
       subst (GenEndsAs words out old new) (is-err run faults.OutOfMemory is)
-      (record { ok = tt; no_words = λ none. inr refl; usage_untouched = λ none. same; fault = tt; memory = λ is_memory. same; part = λ failed. absurd cc; front = inl same })
+      (record { ok = tt; no_words = λ none. inr refl; usage_untouched = λ none. same; fault = tt; no_fault = λ not_written. counts; memory = λ is_memory. same; part = λ failed. absurd cc; front = inl same })
 
   -- a summary that is not written
-  pub gen-not-written : (run : Result (Unit {0}) Fault) (asked : AskedGen) (line : List ℕ) → gen_asked_of words ≡ Some asked → IsOnlySummary asked.trains line → IsErrAnd run (λ e. e ≡ faults.WriteFault) → Rose out.faults out.faults_after
+  pub gen-not-written : (run : Result (Unit {0}) Fault) (asked : AskedGen) (line : List ℕ) → gen_asked_of words ≡ Some asked → IsOnlySummary asked.trains line → IsErrAnd run (λ e. e ≡ faults.WriteFault) → out.faults_after ≡ counted out.faults
       → AppendsPart out.bytes out.bytes_after line → GenEndsAs words out old new run
-  gen-not-written run asked line asked_is only is rose part =
+  gen-not-written run asked line asked_is only is counts part =
       subst (GenEndsAs words out old new) (is-err run faults.WriteFault is)
       (record {
         ok = tt;
         no_words = λ none. absurd (none-some asked (sym none ∙ asked_is));
         usage_untouched = λ none. absurd (none-some asked (sym none ∙ asked_is));
-        fault = rose;
+        fault = counts;
+        no_fault = λ not_written. absurd (not_written refl);
         memory = λ is_memory. absurd cc;
         part = λ failed. record { asked = asked; line = line; asked_is = asked_is; is = only; written = part };
         front = inr (record { asked = asked; line = line; asked_is = asked_is; is = only; written = front_part out.bytes out.bytes_after line part });
       })
 
-  pub gen-written : (asked : AskedGen) (line : List ℕ) → gen_asked_of words ≡ Some asked → IsOnlySummary asked.trains line → Appends out.bytes out.bytes_after line → GenEndsAs words out old new (Ok tt)
-  gen-written asked line asked_is only written = record {
+  pub gen-written : (asked : AskedGen) (line : List ℕ) → gen_asked_of words ≡ Some asked → IsOnlySummary asked.trains line → Appends out.bytes out.bytes_after line → out.faults_after ≡ out.faults → GenEndsAs words out old new (Ok tt)
+  gen-written asked line asked_is only written counts = record {
     ok = record { asked = asked; line = line; asked_is = asked_is; is = only; written = written };
     no_words = λ none. absurd (none-some asked (sym none ∙ asked_is));
     usage_untouched = λ none. absurd (none-some asked (sym none ∙ asked_is));
     fault = tt;
+    no_fault = λ not_written. counts;
     memory = λ is_memory. absurd cc;
     part = λ failed. absurd cc;
     front = inr (record { asked = asked; line = line; asked_is = asked_is; is = only; written = front_all out.bytes out.bytes_after line written });
@@ -113,7 +116,7 @@ module _ {K : Type 0} (words : List (List ℕ)) (out : StreamSeen) (old new : K)
 
 -- a run whose end is told meets the contract of `gen`
 pub gen-contract-met : {K : Type 0} {words : List (List ℕ)} {out err : StreamSeen} {old new : K} (run : Result (Unit {0}) Fault) (s : Status) → GenEndsAs words out old new run → (s ≡ status_of run) ⊎ (s ≡ statuses.OutOfMemory)
-    → (s ≡ statuses.OutOfMemory → (run ≡ Err faults.OutOfMemory) ⊎ ((why : FeedRefusal) × (run ≡ Err (faults.FeedRefused why)))) → (s ≢ statuses.FeedRefused → Tells err (error_line s)) → MeetsGenContract words out err old new s
+    → IsMemoryTold run s → (s ≢ statuses.FeedRefused → Tells err (error_line s)) → MeetsGenContract words out err old new s
 gen-contract-met run s e status no_memory told =
     let never : (s ≢ statuses.FeedRefused) × (s ≢ statuses.ReadFault) × (s ≢ statuses.TooLong) = (grind (arith, status, e.fault), grind (arith, status, e.fault), grind (arith, status, e.fault)) in
     record {
@@ -126,6 +129,7 @@ gen-contract-met run s e status no_memory told =
       front = e.front;
       never = never;
       write_fault = grind (arith, status, e.fault);
-      complete = λ asked asked_is out_well. ended-well run s _ _ _ _ _ status e.fault (λ none. none-some asked (sym none ∙ asked_is)) (λ why r. r) (λ r. r) out_well (λ l. l);
+      no_fault = λ not_written. e.no_fault (not-stopped run s faults.WriteFault status no_memory not_written (λ is. absurd cc) (λ why is. absurd cc));
+      complete = λ asked asked_is out_well. ended-well run s _ _ _ _ _ status e.fault (λ none. none-some asked (sym none ∙ asked_is)) (λ why r. r) (λ r. r) (λ w. out_well (omega (arith, w))) (λ l. l);
       error_line = told never.0;
     }

@@ -1,5 +1,5 @@
 -- The status of a run, by how it ended.
-use Rattle.std.proofs.Common.{◌≡◌, ◌≢◌, ◌∙◌, ◌≤◌, ℕ, List, length, Option, Some, None, Result, Ok, Err, ap, inl, inr, ◌⊎◌, arith}
+use Rattle.std.proofs.Common.{◌≡◌, ◌≢◌, ◌∙◌, ◌≤◌, ℕ, List, length, Option, Some, None, Result, Ok, Err, ap, sym, inl, inr, ◌⊎◌, arith}
 use Rattle.std.proofs.lemmas.List.{length-append}
 use Rattle.std.proofs.lemmas.Option.{none-some, same_Some}
 use Rattle.std.specs.Io.KnownBytes.{Consumes}
@@ -8,7 +8,7 @@ use Rattle.gtfs_tables.specs.declared.refusals.FeedRefusal.{FeedRefusal}
 use Rattle.std.specs.Prelude.{IfErr, OnOk}
 use Rattle.command_words.specs.Words.{Asked}
 use Rattle.traind.specs.Causes.{HasFaultCause}
-use Rattle.traind.specs.Contract.{EndsAs, FeedSeen, MeetsContract, StreamSeen, Tells}
+use Rattle.traind.specs.Contract.{EndsAs, FeedReadFailed, FeedSeen, MeetsContract, StreamSeen, Tells}
 use Rattle.traind.specs.Runs.{Output}
 use Rattle.traind.specs.Statuses.{error_line, refusal_line, status_of}
 use Rattle.traind.specs.declared.status.Fault.{Fault}
@@ -53,12 +53,26 @@ pub was-stopped : (run : Result (Unit {0}) Fault) (s : Status) (P : Type 0) → 
     → ((run ≡ Err faults.ReadFault) ⊎ (run ≡ Err faults.TooLong) → P) → P
 was-stopped run s P h is p = grind arith
 
+same-fault : (run : Result (Unit {0}) Fault) (f g : Fault) → run ≡ Err f → run ≡ Err g → f ≡ g
+same-fault run f g one other = cc
+
+-- want of memory is told where it stopped the run, or where it is found when a refusal is told
+abbrev pub IsMemoryTold : Result (Unit {0}) Fault → Status → Type 0
+IsMemoryTold run s = s ≡ statuses.OutOfMemory → (run ≡ Err faults.OutOfMemory) ⊎ ((why : FeedRefusal) × (run ≡ Err (faults.FeedRefused why)))
+
+-- a run with another status than that of a fault did not stop for that fault
+pub not-stopped : (run : Result (Unit {0}) Fault) (s : Status) (f : Fault) → (s ≡ status_of run) ⊎ (s ≡ statuses.OutOfMemory) → IsMemoryTold run s → s ≢ status_of (Err f)
+    → ¬ (f ≡ faults.OutOfMemory) → ((why : FeedRefusal) → ¬ (f ≡ faults.FeedRefused why)) → ¬ (run ≡ Err f)
+not-stopped run s f (inl same) told other not_memory not_refused is = other (same ∙ ap status_of is)
+not-stopped run s f (inr memory) told other not_memory not_refused is =
+    elim (told memory) [ inl ended ↦ not_memory (same-fault run f faults.OutOfMemory is ended) | inr refused ↦ not_refused refused.0 (same-fault run f (faults.FeedRefused refused.0) is refused.1) ]
+
 -- a run whose end is told meets the contract of its command
 pub contract-met : {F S K : Type 0} {output : Asked → Output} {budget : ℕ} {words : List (List ℕ)} {feed : FeedSeen} {input out err : StreamSeen} {feed_old feed_new : F} {input_old input_new : S} {out_old out_new : K} (run : Result (Unit {0}) Fault) (s : Status)
-    → EndsAs output budget words feed input out feed_old feed_new input_old input_new out_old out_new run → (s ≡ status_of run) ⊎ (s ≡ statuses.OutOfMemory)
+    → EndsAs output budget words feed input out feed_old feed_new input_old input_new out_old out_new run → (s ≡ status_of run) ⊎ (s ≡ statuses.OutOfMemory) → IsMemoryTold run s
     → (s ≡ statuses.FeedRefused → (why : FeedRefusal) × (run ≡ Err (faults.FeedRefused why)) × Tells err (refusal_line why)) → (s ≢ statuses.FeedRefused → Tells err (error_line s))
     → MeetsContract output budget words feed input out err feed_old feed_new input_old input_new out_old out_new s
-contract-met {feed = feed} {input = input} run s e status refused_line told = record {
+contract-met {feed = feed} {input = input} {out = out} run s e status no_memory refused_line told = record {
   usage = grind (arith, status, e.fault);
   usage_exactly = grind (arith, status, e.no_words);
   usage_untouched = e.usage_untouched;
@@ -66,7 +80,7 @@ contract-met {feed = feed} {input = input} run s e status refused_line told = re
       let p = refused_line is in
       let cause = rw p.1 at e.fault in
       (p.0, cause.0, p.2);
-  refused_exactly = λ why to_be. refused-status run s why (Rose feed.faults feed.faults_after) status (e.refused why to_be);
+  refused_exactly = λ why to_be. refused-status run s why (FeedReadFailed feed input out) status (e.refused why to_be);
   untouched = grind (arith, status, e.fault);
   refused_untouched = e.refused_untouched;
   ok = λ is. went-well run s _ status is e.ok;
@@ -75,7 +89,8 @@ contract-met {feed = feed} {input = input} run s e status refused_line told = re
   front = e.front;
   read_fault = grind (arith, status, e.fault);
   write_fault = grind (arith, status, e.fault);
+  no_fault = λ not_read not_written. e.no_fault (not-stopped run s faults.ReadFault status no_memory not_read (λ is. absurd cc) (λ why is. absurd cc)) (not-stopped run s faults.WriteFault status no_memory not_written (λ is. absurd cc) (λ why is. absurd cc));
   too_long = grind (arith, status, e.fault);
-  complete = λ can feed_well input_well out_well. ended-well run s _ _ _ _ _ status e.fault (λ u. grind arith) (λ why r. grind arith) (λ r. grind arith) out_well (λ l. omega (arith, few-taken input.bytes input.bytes_after l.0 can.bytes l.1 can.told, l.2, can.short));
+  complete = λ can feed_well input_well out_well. ended-well run s _ _ _ _ _ status e.fault (λ u. grind arith) (λ why r. grind arith) (λ r. elim r [ inl of_feed ↦ feed_well (omega (arith, of_feed.2.feed_reads)) | inr of_input ↦ input_well (omega (arith, of_input.input_reads)) ]) (λ w. out_well (omega (arith, w.writes))) (λ l. omega (arith, few-taken input.bytes input.bytes_after l.0 can.bytes l.1 can.told, l.2, can.short));
   error_line = told;
 }

@@ -6,7 +6,7 @@ use Rattle.std.specs.Io.KnownBytes.{Appends, IsAtEnd}
 use Rattle.command_words.specs.Words.{Asked, asked_of}
 use Rattle.gtfs_tables.specs.declared.refusals.FeedRefusal.{FeedRefusal}
 use Rattle.information_service.specs.Causes.{TookAll}
-use Rattle.mt_io.specs.Causes.{Rose}
+use Rattle.mt_io.specs.Causes.{Rose, counted}
 use Rattle.gtfs_tables.specs.Feeds.{Files}
 use Rattle.traind.specs.Causes.{HasFaultCause}
 use Rattle.traind.specs.Runs.{CanEnd, IsRefused, Output, WritesAll, WritesFront, WritesReplies}
@@ -52,6 +52,30 @@ stream_seen bytes faults old new = record {
   faults_after = faults new;
 }
 
+-- no read of the feed or the input failed in the run, and no write of the output
+pub record NothingFailed (feed : FeedSeen) (input out : StreamSeen) : Type 0 where
+  pub feed_reads : feed.faults_after ≡ feed.faults
+  pub input_reads : input.faults_after ≡ input.faults
+  pub writes : out.faults_after ≡ out.faults
+
+-- one read of the feed failed, and nothing else
+pub record FeedReadFailed (feed : FeedSeen) (input out : StreamSeen) : Type 0 where
+  pub feed_reads : feed.faults_after ≡ counted feed.faults
+  pub input_reads : input.faults_after ≡ input.faults
+  pub writes : out.faults_after ≡ out.faults
+
+-- one read of the input failed, and nothing else
+pub record InputReadFailed (feed : FeedSeen) (input out : StreamSeen) : Type 0 where
+  pub feed_reads : feed.faults_after ≡ feed.faults
+  pub input_reads : input.faults_after ≡ counted input.faults
+  pub writes : out.faults_after ≡ out.faults
+
+-- one write of the output failed, and nothing else
+pub record WriteFailed (feed : FeedSeen) (input out : StreamSeen) : Type 0 where
+  pub feed_reads : feed.faults_after ≡ feed.faults
+  pub input_reads : input.faults_after ≡ input.faults
+  pub writes : out.faults_after ≡ counted out.faults
+
 -- what is written to the error stream is this, unless a write to it fails
 abbrev pub Tells : StreamSeen → List ℕ → Type 0
 Tells err line =
@@ -74,7 +98,7 @@ pub record EndsAs {F S K : Type 0} (output : Asked → Output) (budget : ℕ)
   -- a feed that is to be refused, for which nothing is read from the input or written
   pub refused : (why : FeedRefusal) → IsRefused words feed.tables why
       → (run ≡ Err (faults.FeedRefused why)) ⊎ (run ≡ Err faults.OutOfMemory)
-      ⊎ ((run ≡ Err faults.ReadFault) × Rose feed.faults feed.faults_after)
+      ⊎ ((run ≡ Err faults.ReadFault) × FeedReadFailed feed input out)
   pub refused_untouched : (why : FeedRefusal) → IsRefused words feed.tables why
       → (input_new ≡ input_old) × (out_new ≡ out_old)
   -- why the run stops
@@ -83,10 +107,13 @@ pub record EndsAs {F S K : Type 0} (output : Asked → Output) (budget : ℕ)
       × (out_new ≡ out_old))
       (λ why. ((told : Files) → feed.tables ≡ Some told → IsRefused words feed.tables why)
       × (input_new ≡ input_old) × (out_new ≡ out_old))
-      (((input_new ≡ input_old) × (out_new ≡ out_old) × Rose feed.faults feed.faults_after)
-      ⊎ Rose input.faults input.faults_after)
-      (Rose out.faults out.faults_after)
+      (((input_new ≡ input_old) × (out_new ≡ out_old) × FeedReadFailed feed input out)
+      ⊎ InputReadFailed feed input out)
+      (WriteFailed feed input out)
       (TookAll budget input.bytes input.bytes_after))
+  -- nothing failed, unless it stops for that
+  pub no_fault : run ≢ Err faults.ReadFault → run ≢ Err faults.WriteFault
+      → NothingFailed feed input out
   -- and what is written then
   pub stopped : (run ≡ Err faults.ReadFault) ⊎ (run ≡ Err faults.TooLong)
       → WritesReplies output words feed.tables input.bytes input.bytes_after out.bytes
@@ -119,7 +146,7 @@ pub record MeetsContract {F S K : Type 0} (output : Asked → Output) (budget : 
   -- a feed that is to be refused is refused, unless a read of it fails or there is no memory
   pub refused_exactly : (why : FeedRefusal) → IsRefused words feed.tables why
       → (status ≡ FeedRefused) ⊎ (status ≡ OutOfMemory)
-      ⊎ ((status ≡ ReadFault) × Rose feed.faults feed.faults_after)
+      ⊎ ((status ≡ ReadFault) × FeedReadFailed feed input out)
   -- where a feed is refused, nothing was read from the input or written to the output
   pub untouched : status ≡ FeedRefused → (input_new ≡ input_old) × (out_new ≡ out_old)
   -- whatever the status, where the feed is to be refused nothing is read from the input or written
@@ -140,12 +167,14 @@ pub record MeetsContract {F S K : Type 0} (output : Asked → Output) (budget : 
   pub front : WritesFront output words feed.tables input.bytes out.bytes out.bytes_after
   -- ---- faults
 
-  -- a read fault comes where a read of the feed failed, before anything was read of the input, or
-  -- a read of the input
+  -- the run stops at its first fault: a read fault comes where one read of the feed failed, before
+  -- anything was read of the input, or one read of the input, and nothing else failed
   pub read_fault : status ≡ ReadFault → ((input_new ≡ input_old) × (out_new ≡ out_old)
-      × Rose feed.faults feed.faults_after) ⊎ Rose input.faults input.faults_after
-  -- a write fault comes where a write of the output failed
-  pub write_fault : status ≡ WriteFault → Rose out.faults out.faults_after
+      × FeedReadFailed feed input out) ⊎ InputReadFailed feed input out
+  -- a write fault comes where one write of the output failed, and nothing else
+  pub write_fault : status ≡ WriteFault → WriteFailed feed input out
+  -- and with every other status nothing failed
+  pub no_fault : status ≢ ReadFault → status ≢ WriteFault → NothingFailed feed input out
   -- the input is too long where as many bytes were taken as may be
   pub too_long : status ≡ TooLong → TookAll budget input.bytes input.bytes_after
   -- words that ask for a feed that holds a timetable, an input with fewer bytes than may be taken,

@@ -4,7 +4,7 @@ use Rattle.std.specs.Io.KnownBytes.{Appends}
 use Rattle.command_words.specs.GenWords.{gen_asked_of}
 use Rattle.command_words.specs.declared.gen_words.AskedGen.{AskedGen}
 use Rattle.information_service.specs.Fronts.{AppendsFront}
-use Rattle.mt_io.specs.Causes.{AppendsPart, Rose}
+use Rattle.mt_io.specs.Causes.{AppendsPart, Rose, counted}
 use Rattle.traind.specs.Causes.{HasFaultCause}
 use Rattle.traind.specs.Contract.{StreamSeen, Tells}
 use Rattle.traind.specs.Statuses.{error_line}
@@ -26,7 +26,9 @@ pub record GenEndsAs {K : Type 0} (words : List (List ℕ)) (out : StreamSeen) (
   pub usage_untouched : gen_asked_of words ≡ None → out_new ≡ out_old
   -- why the run stops: for no other cause than the words, a failed write and want of memory
   pub fault : IfErr run (HasFaultCause (gen_asked_of words ≡ None) (λ why. ⊥) ⊥
-      (Rose out.faults out.faults_after) ⊥)
+      (out.faults_after ≡ counted out.faults) ⊥)
+  -- no write failed, unless it stops for that
+  pub no_fault : run ≢ Err faults.WriteFault → out.faults_after ≡ out.faults
   -- where there is no memory nothing was written, and where a write failed not all of the summary
   pub memory : run ≡ Err faults.OutOfMemory → out_new ≡ out_old
   pub part : run ≡ Err faults.WriteFault
@@ -60,8 +62,10 @@ pub record MeetsGenContract {K : Type 0} (words : List (List ℕ)) (out err : St
 
   -- its own feed is not refused, its own reads do not fail, and its own lines are not too many
   pub never : (status ≢ FeedRefused) × (status ≢ ReadFault) × (status ≢ TooLong)
-  -- a write fault comes where a write of the output failed
-  pub write_fault : status ≡ WriteFault → Rose out.faults out.faults_after
+  -- a write fault comes where one write of the output failed
+  pub write_fault : status ≡ WriteFault → out.faults_after ≡ counted out.faults
+  -- and with every other status none failed
+  pub no_fault : status ≢ WriteFault → out.faults_after ≡ out.faults
   -- words that ask for a number of trains, and no write that failed: all goes well, unless there is
   -- no memory
   pub complete : (asked : AskedGen) → gen_asked_of words ≡ Some asked

@@ -8,7 +8,7 @@ ghost use Rattle.gtfs_tables.specs.Refusals.{Gives};
 ghost use Rattle.mt_base.specs.Civil.{IsCivil};
 ghost use Rattle.mt_base.specs.Options.{IsInRange};
 ghost use Rattle.information_service.specs.Networks.{IsSame};
-ghost use Rattle.mt_io.specs.Causes.{Rose};
+ghost use Rattle.mt_io.specs.Causes.{counted};
 ghost use Rattle.mt_base.specs.declared.tables.Tables.{Tables as ATables};
 ghost use Rattle.schedule_build.specs.InStep.{AreInStep};
 ghost use Rattle.traind.specs.Feeds.{network, tables_in, asked_in};
@@ -64,10 +64,11 @@ pub(crate) fn load_timetable<F: Feed>(
     ensures new { IfOk result (λ l. l.timetable.count ≡ 0) }
     ensures in_step { IfOk result (λ l. AreInStep l.directory l.timetable.state) }
 
-    // a read fault comes where a read failed
+    // a read fault comes where one read failed, and else none failed
     ensures failed { IsErrOf result FeedError.ReadFault
-        → Rose (F.faults feed.old) (F.faults feed.new) }
-    ensures later { F.faults feed.old ≤ F.faults feed.new }
+        → F.faults feed.new ≡ counted (F.faults feed.old) }
+    ensures answered { ¬ (IsErrOf result FeedError.ReadFault)
+        → F.faults feed.new ≡ F.faults feed.old }
 {
     let loaded = load_feed(alloc, feed, folder, first, days, opts)?;
     let timetable = Timetable::build(alloc, loaded.trains, loaded.changes, loaded.waits, *opts)?;
@@ -103,10 +104,11 @@ pub(crate) fn load_service<F: Feed>(
         → IsSame (network rows asked.now.opts) s.network) }
     ensures new { IfOk result (λ s. s.count ≡ 0) }
 
-    // a read fault comes where a read failed
+    // a read fault comes where one read failed, and else none failed
     ensures failed { IsErrOf result FeedError.ReadFault
-        → Rose (F.faults feed.old) (F.faults feed.new) }
-    ensures later { F.faults feed.old ≤ F.faults feed.new }
+        → F.faults feed.new ≡ counted (F.faults feed.old) }
+    ensures answered { ¬ (IsErrOf result FeedError.ReadFault)
+        → F.faults feed.new ≡ F.faults feed.old }
 {
     let loaded = load_timetable(
         alloc,

@@ -1,10 +1,11 @@
 -- What is received of the whole input, by what running its windows leaves.
-use Rattle.window_service.proofs.Words.{◌≡◌, ◌⊎◌, ◌∙◌, ◌≤◌, ◌++◌, ℕ, List, [], Option, Some, true, refl, sym, ap, subst, arith, inl, inr, append_assoc, Network, State, LinesFault}
-use Rattle.window_service.proofs.Words.{HasLinesFaultCause, WhereLinesStop, IsTaken, Line, Reader, IsDone, Names, Reply, IsClosedWindow, AreFirstReceived, AreAllReceived, IsReceivedWhole, IsReceivedInPart, IsReceivedAtFirst, HasEnded, HasStopped, HasBegun}
+use Rattle.window_service.proofs.Words.{◌≡◌, ◌⊎◌, ◌∙◌, ◌++◌, ℕ, List, [], Option, Some, true, refl, sym, ap, subst, inl, inr, append_assoc, Network, State, LinesFault}
+use Rattle.window_service.proofs.Words.{IsNotOfInput, WhereLinesStop, IsTaken, Line, Reader, IsDone, Names, Reply, IsClosedWindow, AreFirstReceived, AreAllReceived, IsReceivedWhole, IsReceivedInPart, IsReceivedAtFirst, HasEnded, HasStopped, HasBegun}
+use Rattle.std.specs.Prelude.{Result, Ok, Err, IfErr}
+use Rattle.information_service.specs.Causes.{reads_failed}
 use Rattle.information_service.specs.declared.fault.LinesFault.TheVariants.{ReadFault, WriteFault, OutOfMemory, TooLong}
 use Rattle.information_service.proofs.Ends.{all_taken}
 use Rattle.information_service.proofs.Fronts.{first_lines}
-use Rattle.mt_io.specs.Causes.{Rose}
 use Rattle.delay_model.specs.Windows.{lines_of as lines_of_windows}
 use Rattle.mt_io.specs.Lines.{lines_of}
 use Rattle.mt_io.proofs.Runs.{ends}
@@ -52,25 +53,17 @@ pub nothing-received : {K : Type 0} {Receives Begins : K → K → Names → Lis
 nothing-received {Receives = Receives} {nw = nw} {names = names} {st = st} {out = out} bytes told =
     inl (record { windows = []; window = []; later = lines_of true bytes; split = refl; closed = All-nil IsClosedWindow; mid = out; received = none-received Receives nw names st out; more = inl refl })
 
--- ---- faults of a write
+-- where no fault is of the input, the run did not stop at it
+pub never-stops : (T : Type 0) (f : LinesFault) → IsNotOfInput f → WhereLinesStop T f
+never-stops T ReadFault none = absurd none
+never-stops T WriteFault none = tt
+never-stops T OutOfMemory none = tt
+never-stops T TooLong none = absurd none
 
--- where the input was not read, no read failed
-pub never-stops : (T W : Type 0) (f : LinesFault) → HasLinesFaultCause ⊥ W ⊥ f → WhereLinesStop T f
-never-stops T W ReadFault cause = absurd cause
-never-stops T W WriteFault cause = tt
-never-stops T W OutOfMemory cause = tt
-never-stops T W TooLong cause = absurd cause
-
--- a count that rose later rose since earlier
-pub rose-since : (T L : Type 0) (before mid now : ℕ) (f : LinesFault) → before ≤ mid → HasLinesFaultCause ⊥ (Rose mid now) ⊥ f → HasLinesFaultCause T (Rose before now) L f
-rose-since T L before mid now ReadFault later cause = absurd cause
-rose-since T L before mid now WriteFault later cause = omega (arith, later, cause)
-rose-since T L before mid now OutOfMemory later cause = tt
-rose-since T L before mid now TooLong later cause = absurd cause
-
--- where no write can fail, none did
-pub none-rose : (R L : Type 0) (f : LinesFault) → HasLinesFaultCause R (Rose 0 0) L f → HasLinesFaultCause R ⊥ L f
-none-rose R L ReadFault cause = cause
-none-rose R L WriteFault cause = omega (arith, cause)
-none-rose R L OutOfMemory cause = tt
-none-rose R L TooLong cause = cause
+-- and no read failed
+pub no-more-reads : {T : Type 0} (run : Result T LinesFault) (n : ℕ) → IfErr run IsNotOfInput → reads_failed run n ≡ n
+no-more-reads (Ok value) n none = refl
+no-more-reads (Err ReadFault) n none = absurd none
+no-more-reads (Err WriteFault) n none = refl
+no-more-reads (Err OutOfMemory) n none = refl
+no-more-reads (Err TooLong) n none = absurd none

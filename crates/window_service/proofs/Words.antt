@@ -9,7 +9,7 @@ pub use Rattle.delay_model.specs.declared.network.Network.{Network}
 pub use Rattle.delay_model.specs.declared.state.State.{State}
 pub use Rattle.delay_model.specs.Windows.{lines_of}
 pub use Rattle.information_service.specs.declared.fault.LinesFault.{LinesFault}
-pub use Rattle.information_service.specs.Causes.{HasLinesFaultCause, WhereLinesStop}
+pub use Rattle.information_service.specs.Causes.{IsNotOfInput, WhereLinesStop}
 pub use Rattle.information_service.specs.Fronts.{AppendsAll, AppendsFront, IsTaken}
 pub use Rattle.delay_report.specs.declared.replies.Reply.{Reply}
 pub use Rattle.information_service.specs.Lines.{names_after}

@@ -1,10 +1,9 @@
 //! The replies to all windows of the input: received by any output, or written.
 
-ghost use Rattle.std.specs.Prelude.{◌≡◌, ◌≤◌, List, ℕ, Some, true, false, OnOk, IfErr};
+ghost use Rattle.std.specs.Prelude.{◌≡◌, ◌≤◌, List, ℕ, Some, true, false, OnOk, IfErr, IsErrOf};
 ghost use Rattle.std.specs.Io.KnownBytes.{Consumes, IsAtEnd};
-ghost use Rattle.mt_io.specs.Causes.{Rose};
 ghost use Rattle.mt_io.specs.Lines.{lines_of};
-ghost use Rattle.information_service.specs.Causes.{HasLinesFaultCause, WhereLinesStop, TookAll};
+ghost use Rattle.information_service.specs.Causes.{WhereLinesStop, TookAll, reads_failed, writes_failed};
 ghost use Rattle.schedule_build.specs.InStep.{AreInStep};
 ghost use Rattle.window_service.specs.Received.{IsReceivedWhole, IsReceivedInPart, IsReceivedAtFirst};
 ghost use Rattle.window_service.specs.Whole.{AppendsServed, AppendsWholeWindows, AppendsServedFront};
@@ -62,13 +61,11 @@ pub(crate) fn receive_windows<
     ensures begun { IfErr result (λ f. IsReceivedAtFirst T.receives T.begins timetable.network
         directory timetable.state (S.left input.old) out.old out.new) }
 
-    // faults have causes, and their counts do not fall
-    ensures fault { IfErr result (HasLinesFaultCause
-        (Rose (S.faults input.old) (S.faults input.new))
-        (Rose (T.failed out.old) (T.failed out.new))
-        (TookAll budget (S.left input.old) (S.left input.new))) }
-    ensures later { (S.faults input.old ≤ S.faults input.new)
-        × (T.failed out.old ≤ T.failed out.new) }
+    // how many reads and writes failed, and when the input is too long
+    ensures reads { S.faults input.new ≡ reads_failed result (S.faults input.old) }
+    ensures writes { T.failed out.new ≡ writes_failed result (T.failed out.old) }
+    ensures too_long { IsErrOf result LinesFault.TooLong
+        → TookAll budget (S.left input.old) (S.left input.new) }
 {
     let mut reader = LineReader::build(alloc, budget)?;
     let mut crew: Crew<Publisher<Timetable, H>, Viewer<Timetable, H>> = Crew::build(
@@ -138,13 +135,11 @@ pub fn write_windows<
         → AppendsServedFront timetable.network directory timetable.state
         (lines_of true bytes) (K.written out.old) (K.written out.new)) }
 
-    // faults have causes, and their counts do not fall
-    ensures fault { IfErr result (HasLinesFaultCause
-        (Rose (S.faults input.old) (S.faults input.new))
-        (Rose (K.faults out.old) (K.faults out.new))
-        (TookAll budget (S.left input.old) (S.left input.new))) }
-    ensures later { (S.faults input.old ≤ S.faults input.new)
-        × (K.faults out.old ≤ K.faults out.new) }
+    // how many reads and writes failed, and when the input is too long
+    ensures reads { S.faults input.new ≡ reads_failed result (S.faults input.old) }
+    ensures writes { K.faults out.new ≡ writes_failed result (K.faults out.old) }
+    ensures too_long { IsErrOf result LinesFault.TooLong
+        → TookAll budget (S.left input.old) (S.left input.new) }
 {
     receive_windows::<H, WriteTexts, R, S, K, G>(
         rt, alloc, history, timetable, directory, trains, workers, input, out, gate, budget,

@@ -11,10 +11,9 @@ use std::alloc::Global;
 
 /// How an output receives the replies to a window, all at once.
 pub(crate) trait ReceiveReplies<K> {
-    ghost use Rattle.std.specs.Prelude.{ℕ, ◌≤◌, List, OnOk, IfErr};
+    ghost use Rattle.std.specs.Prelude.{ℕ, ◌≡◌, List, OnOk, IfErr};
     ghost use Rattle.delay_report.specs.declared.replies.Reply.{Reply as AReply};
-    ghost use Rattle.information_service.specs.Causes.{HasLinesFaultCause};
-    ghost use Rattle.mt_io.specs.Causes.{Rose};
+    ghost use Rattle.information_service.specs.Causes.{IsNotOfInput, writes_failed};
     ghost use Rattle.schedule_build.specs.Directory.{Names};
 
     /// The output was as the first, received these replies, by these names, and is as the second.
@@ -36,7 +35,6 @@ pub(crate) trait ReceiveReplies<K> {
     ) -> Result<(), LinesFault>
         ensures ok { OnOk result (receives out.old out.new directory.now replies.now) }
         ensures front { IfErr result (λ f. begins out.old out.new directory.now replies.now) }
-        ensures fault { IfErr result (HasLinesFaultCause ⊥ (Rose (failed out.old) (failed out.new))
-            ⊥) }
-        ensures later { failed out.old ≤ failed out.new };
+        ensures fault { IfErr result IsNotOfInput }
+        ensures writes { failed out.new ≡ writes_failed result (failed out.old) };
 }

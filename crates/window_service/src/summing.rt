@@ -1,9 +1,8 @@
 //! The sums over the replies to all windows of the input.
 
-ghost use Rattle.std.specs.Prelude.{◌≡◌, ◌≤◌, List, ℕ, Some, true, IfOk, IfErr};
-ghost use Rattle.mt_io.specs.Causes.{Rose};
+ghost use Rattle.std.specs.Prelude.{◌≡◌, ◌≤◌, List, ℕ, Some, true, IfOk, IsErrOf};
 ghost use Rattle.mt_io.specs.Lines.{lines_of};
-ghost use Rattle.information_service.specs.Causes.{HasLinesFaultCause, TookAll};
+ghost use Rattle.information_service.specs.Causes.{TookAll, reads_failed};
 ghost use Rattle.schedule_build.specs.InStep.{AreInStep};
 ghost use Rattle.window_service.specs.Summed.{AreSummed};
 
@@ -78,11 +77,11 @@ pub fn sum_windows<
     ensures ok { IfOk result (λ sums. (bytes : List ℕ) → S.left input.old ≡ Some bytes
         → AreSummed timetable.network directory timetable.state (lines_of true bytes) sums) }
 
-    // faults have causes, and their count does not fall
-    ensures fault { IfErr result (HasLinesFaultCause
-        (Rose (S.faults input.old) (S.faults input.new)) ⊥
-        (TookAll budget (S.left input.old) (S.left input.new))) }
-    ensures later { S.faults input.old ≤ S.faults input.new }
+    // how many reads failed, when the input is too long, and that no write failed
+    ensures reads { S.faults input.new ≡ reads_failed result (S.faults input.old) }
+    ensures too_long { IsErrOf result LinesFault.TooLong
+        → TookAll budget (S.left input.old) (S.left input.new) }
+    ensures no_write { ¬ (IsErrOf result LinesFault.WriteFault) }
 {
     let mut sums = ReplySums::none();
     receive_windows::<H, AddReplies, R, S, ReplySums, G>(

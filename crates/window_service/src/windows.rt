@@ -1,11 +1,10 @@
 //! The windows of the input, each answered as a whole.
 
-ghost use Rattle.std.specs.Prelude.{◌≡◌, ◌≤◌, ◌+◌, ◌<◌, ◌^◌, [], List, Some, true, OnOk, IfErr, length};
+ghost use Rattle.std.specs.Prelude.{◌≡◌, ◌+◌, ◌<◌, ◌^◌, [], List, Some, true, OnOk, IfErr, IsErrOf, length};
 ghost use Rattle.delay_model.specs.declared.network.Network.{Network};
 ghost use Rattle.delay_model.specs.declared.state.State.{State};
-ghost use Rattle.information_service.specs.Causes.{HasLinesFaultCause, WhereLinesStop, TookAll};
+ghost use Rattle.information_service.specs.Causes.{IsNotOfInput, WhereLinesStop, TookAll, reads_failed, writes_failed};
 ghost use Rattle.information_service.specs.ServiceState.{service_after};
-ghost use Rattle.mt_io.specs.Causes.{Rose};
 ghost use Rattle.mt_io.specs.Lines.{Line};
 ghost use Rattle.mt_io.specs.Runs.{fresh};
 ghost use Rattle.schedule_build.specs.Directory.{Names};
@@ -61,10 +60,9 @@ fn answer_window<
         → IsBegun T.begins nw names st before window out.old out.new) }
     ensures ready { OnOk result (IsReady H.opening crew.new) }
 
-    // faults have causes, and their count does not fall
-    ensures fault { IfErr result (HasLinesFaultCause ⊥
-        (Rose (T.failed out.old) (T.failed out.new)) ⊥) }
-    ensures later { T.failed out.old ≤ T.failed out.new }
+    // no fault is of the input, and how many writes failed
+    ensures fault { IfErr result IsNotOfInput }
+    ensures writes { T.failed out.new ≡ writes_failed result (T.failed out.old) }
 {
     let replies = crew.run_window(rt, alloc, lines, first, gate)?;
     T::receive(alloc, &crew.directory, replies.as_slice(), out)
@@ -115,13 +113,11 @@ pub(crate) fn answer_windows<
         → HasBegun T.receives T.begins t.network crew.old.directory t.state reader.new
         (S.left input.old) (S.left input.new) out.old out.new) }
 
-    // faults have causes, and their counts do not fall
-    ensures fault { IfErr result (HasLinesFaultCause
-        (Rose (S.faults input.old) (S.faults input.new))
-        (Rose (T.failed out.old) (T.failed out.new))
-        (TookAll reader.old.budget (S.left input.old) (S.left input.new))) }
-    ensures later { (S.faults input.old ≤ S.faults input.new)
-        × (T.failed out.old ≤ T.failed out.new) }
+    // how many reads and writes failed, and when the input is too long
+    ensures reads { S.faults input.new ≡ reads_failed result (S.faults input.old) }
+    ensures writes { T.failed out.new ≡ writes_failed result (T.failed out.old) }
+    ensures too_long { IsErrOf result LinesFault.TooLong
+        → TookAll reader.old.budget (S.left input.old) (S.left input.new) }
 {
     let mut window = Window::build(alloc)?;
     let mut first = 0;

@@ -1,10 +1,9 @@
 //! The replies to a window as texts, written at once.
 
-ghost use Rattle.std.specs.Prelude.{◌≤◌, OnOk, IfErr, IfOk, ◌≡◌};
+ghost use Rattle.std.specs.Prelude.{OnOk, IfErr, IfOk, ◌≡◌};
 ghost use Rattle.std.specs.Io.KnownBytes.{Appends};
-ghost use Rattle.information_service.specs.Causes.{HasLinesFaultCause};
+ghost use Rattle.information_service.specs.Causes.{IsNotOfInput, writes_failed};
 ghost use Rattle.information_service.specs.Fronts.{AppendsFront};
-ghost use Rattle.mt_io.specs.Causes.{Rose};
 ghost use Rattle.query_crew.specs.Served.{text_of_replies};
 
 use crate::receiving::ReceiveReplies;
@@ -42,9 +41,8 @@ fn write_replies<K: Sink>(
         (text_of_replies directory.now replies.now)) }
     ensures front { IfErr result (λ f. AppendsFront (K.written out.old) (K.written out.new)
         (text_of_replies directory.now replies.now)) }
-    ensures fault { IfErr result (HasLinesFaultCause ⊥
-        (Rose (K.faults out.old) (K.faults out.new)) ⊥) }
-    ensures later { K.faults out.old ≤ K.faults out.new }
+    ensures fault { IfErr result IsNotOfInput }
+    ensures writes { K.faults out.new ≡ writes_failed result (K.faults out.old) }
 {
     let text = text_of_replies(alloc, directory, replies)?;
     put(out, text.as_slice())?;

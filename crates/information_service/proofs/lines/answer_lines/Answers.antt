@@ -1,5 +1,6 @@
-use Rattle.information_service.proofs.Words.{◌≡◌, ◌<◌, ◌+◌, List, ℕ, [], ◌∷◌, ◌++◌, length, refl, sym, ap, subst, ◌∙◌, arith, Appends, text_of_reply, Line, Reader, GivesNext, next_lines, AreAnswered, AppendsFront, Begun, IsReplyTo, ServiceState, after_line}
+use Rattle.information_service.proofs.Words.{◌≡◌, ◌≢◌, ◌<◌, ◌+◌, List, ℕ, [], ◌∷◌, ◌++◌, length, refl, sym, ap, subst, ◌∙◌, arith, Appends, text_of_reply, Line, Reader, GivesNext, next_lines, AreAnswered, AppendsFront, Begun, IsReplyTo, ServiceState, after_line}
 use Rattle.std.proofs.lemmas.List.{length-append}
+use Rattle.mt_io.specs.Causes.{counted}
 use Rattle.mt_io.specs.Lines.{short, long}
 use Rattle.mt_io.specs.declared.lines.Next.TheVariants as next
 use Rattle.mt_io.proofs.Runs.{stops}
@@ -15,8 +16,8 @@ loop-number-init g c =
       answered = ([], [], nothing_answered c.args.service.now c.args.reader.now.budget c.args.reader.now (g.S.Source.left c.args.input.now) (g.K.Sink.written c.args.out.now) c.requires.reader c.requires.count, refl);
       count = omega (arith, c.requires.count);
       budget = refl;
-      read = omega arith;
-      write = omega arith;
+      read = refl;
+      write = refl;
     }
 
 pub returns-in-End-clause-all : goal.returns-in-End-clause-all
@@ -34,8 +35,9 @@ returns-in-ReadFault g c =
       all = tt;
       stopped = (got.0, a.1, stops got.0 a.1 c.next.follows.lender-at-none got.1.taken.lines_so_far got.2.ended got.2.none, got.1);
       begun = (got.0, a.1, begun_by got.1);
-      fault = omega (arith, inv.read, c.next.ensures.read_fault c.in-ReadFault.is);
-      later = (omega (arith, inv.read, c.next.ensures.later), inv.write);
+      reads = c.next.ensures.read_fault c.in-ReadFault.is ∙ ap counted inv.read;
+      writes = inv.write;
+      too_long = grind arith;
     }
 
 pub returns-in-Budget : goal.returns-in-Budget
@@ -47,8 +49,9 @@ returns-in-Budget g c =
       all = tt;
       stopped = (got.0, a.1, stops got.0 a.1 c.next.follows.lender-at-none got.1.taken.lines_so_far got.2.ended got.2.none, got.1);
       begun = (got.0, a.1, begun_by got.1);
-      fault = (got.0, got.1.taken.source, sym got.1.taken.lines_so_far.taken ∙ got.2.taken ∙ c.next.follows.holds-at-none.0.1.budget ∙ inv.budget);
-      later = (omega (arith, inv.read, c.next.ensures.later), inv.write);
+      reads = omega (arith, inv.read, c.next.ensures.answered (λ is. grind (arith, is, c.in-Budget.is)));
+      writes = inv.write;
+      too_long = λ is. (got.0, got.1.taken.source, sym got.1.taken.lines_so_far.taken ∙ got.2.taken ∙ c.next.follows.holds-at-none.0.1.budget ∙ inv.budget);
     }
 
 pub loop-number-preserved : goal.loop-number-preserved
@@ -70,6 +73,10 @@ loop-number-preserved g c =
     let more = one_line_more after x c.loop-number.number c.match-next.reply a.2 (λ ended. ap g.S.Source.left (c.next.ensures.ended ended))
     (subst (GivesNext c.loop-number.reader now l1 l2) is c.next.follows.holds-at-none.0) a.3 says stands wrote in
     (more.0, a.1 ++ x ∷ [], more.1, omega (arith, a.3, length-append a.1 (x ∷ []))) in
+    let no_fault : c.next.result ≢ next.ReadFault = elim c.match-next.branch [
+      | in-Line+in_ok-reply-in-Line w ↦ (λ is. grind (arith, is, w.in-Line.is))
+      | in-LongLine w ↦ (λ is. grind (arith, is, w.in-LongLine.is))
+    ] in
     let few : (x : Line) → after ≡ after_line before x → after.count < c.loop-number.number + 1 = λ x is. omega (arith, counts-one before after x is, inv.count) in
     rw same (record {
       answered = elim c.match-next.branch [
@@ -81,8 +88,8 @@ loop-number-preserved g c =
         | in-LongLine w ↦ few long w.service-is
       ];
       budget = c.next.follows.holds-at-none.0.1.budget ∙ inv.budget;
-      read = omega (arith, inv.read, c.next.ensures.later);
-      write = omega (arith, inv.write, c.write_reply.ensures.later);
+      read = omega (arith, inv.read, c.next.ensures.answered no_fault);
+      write = omega (arith, inv.write, c.in_ok-write_reply.ensures.writes);
     })
 
 pub returns-in_err-reply-in-Line-clause-begun : goal.returns-in_err-reply-in-Line-clause-begun

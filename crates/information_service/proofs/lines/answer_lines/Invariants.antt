@@ -1,4 +1,4 @@
-use Rattle.information_service.proofs.Words.{◌≡◌, ◌≤◌, ◌<◌, ◌+◌, List, ℕ, length, Line, AreAnswered}
+use Rattle.information_service.proofs.Words.{◌≡◌, ◌<◌, ◌+◌, List, ℕ, length, Line, AreAnswered}
 use Rattle.information_service.proofs.lines.answer_lines.Given as goal
 
 abbrev pub invariant-loop-number : goal.invariant-loop-number
@@ -7,6 +7,6 @@ invariant-loop-number g l = record {
       × (l.number ≡ length lines + 1);
   count : l.service.count < l.number;
   budget : l.reader.budget ≡ l.initial.reader.budget;
-  read : g.S.Source.faults l.initial.input ≤ g.S.Source.faults l.input;
-  write : g.K.Sink.faults l.initial.out ≤ g.K.Sink.faults l.out;
+  read : g.S.Source.faults l.input ≡ g.S.Source.faults l.initial.input;
+  write : g.K.Sink.faults l.out ≡ g.K.Sink.faults l.initial.out;
 }

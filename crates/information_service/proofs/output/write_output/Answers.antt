@@ -1,4 +1,4 @@
-use Rattle.information_service.proofs.Words.{ℕ, List, [], arith, ◌++◌, true, false, subst, sym, refl, inl, inr, Appends-trans, Consumes, table, Line, lines_of, WhereLinesStop, AppendsReplies, ServiceState}
+use Rattle.information_service.proofs.Words.{ℕ, List, [], ◌++◌, true, false, subst, sym, refl, inl, inr, Appends-trans, Consumes, table, Line, lines_of, WhereLinesStop, AppendsReplies, ServiceState}
 use Rattle.std.proofs.lemmas.Result.{IfErr-weaker, on_ok_weaker}
 use Rattle.information_service.proofs.Fronts.{front_none, front_after, output_front}
 use Rattle.information_service.proofs.Ends.{whole_output, handed_on, where_also, each_fault}
@@ -56,14 +56,3 @@ returns-clause-front g c =
     IfErr-weaker c.write_table.result _ _ (λ f front. λ bytes told.
     inr (shown ++ rows, whole_output bytes all.2 all.3 told, front_after w0 w1 w2 shown rows all.3.output.written front))
     c.write_table.ensures.front
-
-pub returns-in_err-reader-clause-later : goal.returns-in_err-reader-clause-later
-returns-in_err-reader-clause-later g c = (omega arith, omega arith)
-
-pub returns-in_err-answer_lines-clause-later : goal.returns-in_err-answer_lines-clause-later
-returns-in_err-answer_lines-clause-later g c = c.in_err-answer_lines.ensures.later
-
-pub returns-clause-later : goal.returns-clause-later
-returns-clause-later g c =
-    let answered = c.in_ok-answer_lines.ensures.later in
-    (answered.0, omega (arith, answered.1, c.write_table.ensures.later))

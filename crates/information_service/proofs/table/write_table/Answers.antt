@@ -19,7 +19,7 @@ unfolding rows_from
 loop-train-init g c =
     record {
       rows = subst (Appends (g.K.Sink.written c.args.out.now) (g.K.Sink.written c.put.new.sink)) (c.times_header.ensures ∙ sym (append-nil header)) c.in_ok-put.ensures.ok;
-      write = c.put.ensures.cause.later;
+      write = c.in_ok-put.ensures.cause.answered;
     }
 
 pub loop-train-preserved : goal.loop-train-preserved
@@ -34,7 +34,7 @@ loop-train-preserved g c =
     c.as_slice.ensures.value ∙ c.in_ok-rows.ensures ∙ ap (rows_of_train i.directory i.timetable.network i.timetable.state) c.new.ensures ∙ ap (λ (s : ServiceState). row s n) c.service.view_is in
     record {
       rows = subst (Appends w0 w2) (one-more t n) (Appends-trans w0 w1 w2 (shown t n) (row t n) c.loop-train.invariant.rows (subst (Appends w1 w2) row_is c.in_ok-put-2.ensures.ok));
-      write = omega (arith, c.loop-train.invariant.write, c.put-in-loop-train.ensures.cause.later);
+      write = omega (arith, c.loop-train.invariant.write, c.in_ok-put-2.ensures.cause.answered);
     }
 
 pub returns-clause-ok : goal.returns-clause-ok

@@ -6,7 +6,7 @@ use Rattle.query_crew.proofs.reading.read_window.Goals as goal
 pub lines-init : goal.lines-init
 lines-init g c = record {
   begun = ([], begun-none c.args.directory.now c.args.reader.now (g.S.Source.left c.args.input.now) c.clear.new.self c.clear.ensures);
-  later = omega arith;
+  reads = refl;
   ended = λ is. refl;
 }
 
@@ -34,7 +34,7 @@ lines-preserved g c =
     let same = c.in_ok-line.ensures.ended in
     record {
       begun = (b.0 ++ one.line ∷ [], rw c.push.ensures (begun-more b.1 got.1 (λ is. ap g.S.Source.left (same is)) c.in-Line.line one few (sym c.is_flush-ends.ensures ∙ c.if-ends.false)));
-      later = omega (arith, inv.later, c.in_ok-line.ensures.later);
+      reads = (rw c.in-Line.is at c.in_ok-line.ensures.reads) ∙ inv.reads;
       ended = λ is. same (b.1.taken.1.still_ended is).0 ∙ inv.ended is;
     }
 

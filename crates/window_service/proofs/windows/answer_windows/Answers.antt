@@ -1,10 +1,12 @@
 use Rattle.window_service.proofs.Words.{◌≡◌, ◌∙◌, ◌∷◌, ◌++◌, length, ap, sym, refl, arith, [], List, ℕ, Option, true, each_fault, handed_on, on_ok_weaker, IfErr-weaker}
 use Rattle.std.proofs.Common.{Bool}
 use Rattle.std.proofs.lemmas.List.{length-map}
+use Rattle.information_service.specs.Causes.{writes_failed}
 use Rattle.information_service.specs.Lines.{said_by}
+use Rattle.mt_io.specs.Causes.{counted}
 use Rattle.query_crew.specs.WindowLines.{window_line}
 use Rattle.window_service.proofs.Answered.{none-read, none-answered, read-more, answered-more, all-taken, ended-all, stopped, begun-before, begun-more, begun-last, begun-so-far}
-use Rattle.window_service.proofs.Inputs.{never-stops, rose-since}
+use Rattle.window_service.proofs.Inputs.{never-stops, no-more-reads}
 use Rattle.window_service.proofs.windows.answer_windows.Goals as goal
 
 -- once the end was read, the same is left
@@ -21,8 +23,8 @@ windows-init g c = record {
   );
   ready = c.requires.ready;
   budget = refl;
-  read = omega arith;
-  write = omega arith;
+  read = refl;
+  write = refl;
 }
 
 pub windows-preserved : goal.windows-preserved
@@ -44,8 +46,8 @@ windows-preserved g c =
       );
       ready = c.in_ok-answer_window-in-More.ensures.ready;
       budget = got.1.1.budget ∙ inv.budget;
-      read = omega (arith, inv.read, c.in_ok-end.ensures.later);
-      write = omega (arith, inv.write, c.answer_window.ensures.later);
+      read = omega (arith, inv.read, rw c.in-More.is at c.in_ok-end.ensures.reads);
+      write = omega (arith, inv.write, c.in_ok-answer_window-in-More.ensures.writes);
     }
 
 pub returns-in_err-window-clause-begun : goal.returns-in_err-window-clause-begun
@@ -66,13 +68,14 @@ returns-in-ReadFault g c =
     let got = c.in_ok-end.ensures.taken in
     let w = rw c.in-ReadFault.is at got.2 in
     let same = ended-same g.S.Source.left c.in_ok-end.ensures.ended in
-    let told = rw c.in-ReadFault.is at c.in_ok-end.ensures.read_fault in
+    let told = rw c.in-ReadFault.is at c.in_ok-end.ensures.reads in
     record {
       all = tt;
       stopped = λ t is. stopped run.2 got.1 same (run.3 t is) w.ended.0 w.ended.1.ended w.ended.1.none;
       begun = λ t is. begun-before run.2 got.1 same (run.3 t is);
-      fault = omega (arith, inv.read, told refl);
-      later = (omega (arith, inv.read, c.in_ok-end.ensures.later), inv.write);
+      reads = told ∙ ap counted inv.read;
+      writes = inv.write;
+      too_long = grind arith;
     }
 
 pub returns-in-Budget : goal.returns-in-Budget
@@ -87,14 +90,15 @@ returns-in-Budget g c =
       all = tt;
       stopped = λ t is. stopped run.2 got.1 same (run.3 t is) w.ended.0 w.ended.1.ended w.ended.1.none;
       begun = λ t is. begun-before run.2 got.1 same (run.3 t is);
-      fault = (all.0, all.1.source, sym all.1.lines_so_far.taken ∙ w.ended.1.taken ∙ got.1.1.budget ∙ inv.budget);
-      later = (omega (arith, inv.read, c.in_ok-end.ensures.later), inv.write);
+      reads = (rw c.in-Budget.is at c.in_ok-end.ensures.reads) ∙ inv.read;
+      writes = inv.write;
+      too_long = λ is. (all.0, all.1.source, sym all.1.lines_so_far.taken ∙ w.ended.1.taken ∙ got.1.1.budget ∙ inv.budget);
     }
 
 pub returns-in_err-answer_window-in-More-clause-stopped : goal.returns-in_err-answer_window-in-More-clause-stopped
 returns-in_err-answer_window-in-More-clause-stopped g c =
     let f = c.in_err-answer_window-in-More.field-0.0 in
-    handed_on c.from_residual-in_err-answer_window-in-More.result f _ c.from_residual-in_err-answer_window-in-More.ensures.1 (never-stops _ _ f c.in_err-answer_window-in-More.ensures.fault)
+    handed_on c.from_residual-in_err-answer_window-in-More.result f _ c.from_residual-in_err-answer_window-in-More.ensures.1 (never-stops _ f c.in_err-answer_window-in-More.ensures.fault)
 
 pub returns-in_err-answer_window-in-More-clause-begun : goal.returns-in_err-answer_window-in-More-clause-begun
 returns-in_err-answer_window-in-More-clause-begun g c =
@@ -105,12 +109,6 @@ returns-in_err-answer_window-in-More-clause-begun g c =
     let a = run.3 t is in
     begun-more run.2 got.1 (ended-same g.S.Source.left c.in_ok-end.ensures.ended) a w.ended.0
     (c.in_err-answer_window-in-More.ensures.begun t.network c.args.crew.now.directory t.state _ got.0 a.stands run.2.counted (c.lines.ensures.lines ∙ w.shown)))
-
-pub returns-in_err-answer_window-in-More-clause-fault : goal.returns-in_err-answer_window-in-More-clause-fault
-returns-in_err-answer_window-in-More-clause-fault g c =
-    let f = c.in_err-answer_window-in-More.field-0.0 in
-    handed_on c.from_residual-in_err-answer_window-in-More.result f _ c.from_residual-in_err-answer_window-in-More.ensures.1
-    (rose-since _ _ _ _ _ f c.windows.invariant.write c.in_err-answer_window-in-More.ensures.fault)
 
 pub returns-in-End : goal.returns-in-End
 returns-in-End g c =
@@ -126,12 +124,13 @@ returns-in-End g c =
       all = on_ok_weaker run_is.result (λ one t is.
           let a = run.3 t is in
           ended-all run.2 got.1 same a w.ended.0 w.ended.1 (one t.network names t.state _ got.0 a.stands run.2.counted lines_are)) run_is.ensures.answered;
-      stopped = IfErr-weaker run_is.result _ _ (λ f cause. never-stops _ _ f cause) run_is.ensures.fault;
+      stopped = IfErr-weaker run_is.result _ _ (λ f none. never-stops _ f none) run_is.ensures.fault;
       begun = IfErr-weaker run_is.result _ _ (λ f b t is.
           let a = run.3 t is in
           begun-last run.2 got.1 same a w.ended.0 w.ended.1 (b t.network names t.state _ got.0 a.stands run.2.counted lines_are)) run_is.ensures.begun;
-      fault = IfErr-weaker run_is.result _ _ (λ f cause. rose-since _ _ _ _ _ f inv.write cause) run_is.ensures.fault;
-      later = (omega (arith, inv.read, c.in_ok-end.ensures.later), omega (arith, inv.write, run_is.ensures.later));
+      reads = (rw c.in-End.is at c.in_ok-end.ensures.reads) ∙ inv.read ∙ sym (no-more-reads run_is.result _ run_is.ensures.fault);
+      writes = run_is.ensures.writes ∙ ap (writes_failed run_is.result) inv.write;
+      too_long = λ is. absurd (rw is at run_is.ensures.fault);
     }
 
 pub returns-clause-begun : goal.returns-clause-begun

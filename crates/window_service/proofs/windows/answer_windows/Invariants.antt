@@ -1,4 +1,4 @@
-use Rattle.window_service.proofs.Words.{◌≡◌, ◌≤◌, List, ℕ, Some, Line, TimetableState}
+use Rattle.window_service.proofs.Words.{◌≡◌, List, ℕ, Some, Line, TimetableState}
 use Rattle.mt_io.specs.Reader.{work}
 use Rattle.query_crew.specs.Crews.{IsReady}
 use Rattle.window_service.proofs.Answered.{AreRead, AreAnswered}
@@ -13,8 +13,8 @@ invariant-windows g l =
           × ((t : TimetableState) → o ≡ Some t → AreAnswered g.T.ReceiveReplies.receives o t.network l.initial.crew.directory t.state ws l.crew.publisher l.crew.directory l.initial.out l.out);
       ready : IsReady o l.crew;
       budget : l.reader.budget ≡ l.initial.reader.budget;
-      read : g.S.Source.faults l.initial.input ≤ g.S.Source.faults l.input;
-      write : g.T.ReceiveReplies.failed l.initial.out ≤ g.T.ReceiveReplies.failed l.out;
+      read : g.S.Source.faults l.input ≡ g.S.Source.faults l.initial.input;
+      write : g.T.ReceiveReplies.failed l.out ≡ g.T.ReceiveReplies.failed l.initial.out;
     }
 
 abbrev pub decreases-windows : goal.decreases-windows

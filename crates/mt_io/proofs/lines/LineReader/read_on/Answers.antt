@@ -44,7 +44,7 @@ loop-self-preserved g c =
     record {
       gives = (so_far.0 ++ fill.0, gives_held a b c.take_held.new.self (left c.args.source.now) (left c.fill.new.source) (so_far.0 ++ fill.0) [] filled held.counts (λ rest ended can. held.none.1 rest ended));
       waits = held.none.0;
-      later = omega (arith, c.loop-self.invariant.later, c.in-Ok.ensures.cause.later);
+      faults = c.in-Ok.ensures.cause.answered ∙ c.loop-self.invariant.faults;
       work = omega (arith, held.work, work_filled c.loop-self.self b (left c.loop-self.source) (left c.fill.new.source) fill.0 fill.1, c.loop-self.invariant.work);
       ended = λ is. open_ended c.loop-self.self.ended not_yet (so_far.1.still_ended is).0;
       spent = λ is. absurd (omega (arith, is, so_far.1.taken, so_far.1.budget, taken, budget, c.if-self-2.false, c.self.invariant));

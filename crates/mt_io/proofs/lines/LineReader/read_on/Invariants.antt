@@ -7,7 +7,7 @@ abbrev pub invariant-loop-self : goal.invariant-loop-self
 invariant-loop-self g l = record {
   gives : GivesNext l.initial.self l.self (g.S.Source.left l.initial.source) (g.S.Source.left l.source) [];
   waits : Waits l.self;
-  later : g.S.Source.faults l.initial.source ≤ g.S.Source.faults l.source;
+  faults : g.S.Source.faults l.source ≡ g.S.Source.faults l.initial.source;
   work : work l.self ≤ work l.initial.self;
   ended : l.initial.self.ended ≡ true → l.source ≡ l.initial.source;
   spent : l.initial.self.taken ≡ l.initial.self.budget → l.source ≡ l.initial.source;
