@@ -1,11 +1,11 @@
 -- The edges that are found at an event are those of the model.
-use Rattle.edge_rules.proofs.Words.{◌≡◌, ℕ, Bool, map, filter, get_or, suc, refl, true, false, List, [], ◌∷◌, ◌++◌, Option, Some, None, flat_map, subst, arith, All, ap, IsPermutation, filter-append, All-map, All-filter, All-cons, All-nil, All-contains, Contains-append_right, IsPermutation-append_right, IsPermutation-sym, All-permutation, slice_get_within, get_or_from_slice_get, Node, Network, Call, Train, State, Event, is_stop, is_same, live_events, events, events_at, event_named, arrival_of, departure_of, events-from_each, Indexed, outgoing, edges_to, edges_from, along_to, along_from, AreAtStops, IsAtStop, has_event, Entry, planned_at, kept_at, AreNames, HaveEvents, HasOwnLabels, IsConsistent, Inside, IsIndexOf, entry_of, GraphState, may_change, transfer_between, transfers_to, Shift, Into, From, Changing, WaitsAt, option_map, option_map_or, Edge, train_edges}
+use Rattle.edge_rules.proofs.Words.{◌≡◌, node_of, filter_passes, ℕ, map, filter, get_or, suc, refl, true, false, List, [], ◌∷◌, ◌++◌, Option, Some, None, flat_map, subst, arith, All, IsPermutation, filter-append, All-map, All-filter, All-cons, All-nil, All-contains, Contains-append_right, IsPermutation-append_right, IsPermutation-sym, All-permutation, slice_get_within, get_or_from_slice_get, Node, Network, Call, Train, State, Event, is_stop, is_same, live_events, events, events_at, event_named, arrival_of, departure_of, events-from_each, Indexed, outgoing, edges_to, edges_from, along_to, along_from, AreAtStops, IsAtStop, planned_at, kept_at, HasEvent, HaveEvents, HasOwnLabels, IsConsistent, Inside, IsIndexOf, entry_of, GraphState, may_change, transfer_between, transfers_to, Shift, Into, From, Changing, WaitsAt, option_map_or, Edge, train_edges}
 use Rattle.edge_rules.specs.Inside.{seen}
 use Rattle.edge_rules.proofs.Caps.{there}
 use Rattle.edge_rules.proofs.FoundLemmas.{found-into, found-out, found-changing}
 use Rattle.edge_rules.proofs.ShortWaits.{AreWithin}
 use Rattle.delay_model.proofs.Ends.{train_edges-each}
-use Rattle.edge_rules.proofs.Neighbours.{each-named, named-there}
+use Rattle.edge_rules.proofs.Neighbours.{each-named}
 use Rattle.edge_rules.proofs.TransferLemmas.{edges-to, edges-from, filter-pieces, filter-whole}
 
 -- the events of calls at stops are at stops
@@ -58,24 +58,19 @@ module _ (g : GraphState) (index : Indexed) (n : Node) (v : Event) (labels : All
       rw (edges-from g n v labels named, filter-append p along (flat_map (transfer_between g v) (events g.state)), filter-whole p along (along-changes g n shift), filter-pieces p (transfer_between g v) (events g.state))
       (IsPermutation-append_right _ _ _ (found-changing g index.entries is.entries (each-named g.state labels) (all-at_stops g.network g.state stops) labels shift v short))
 
--- the names of entries of events are those of events
-entry-there : (st : State) (e : Entry) → option_map (λ (v : Event). v.stop) (event_named st e.node) ≡ Some e.stop → has_event st e.node ≡ true
-entry-there st e h = there-by (event_named st e.node) refl h where
-  there-by : (o : Option Event) → event_named st e.node ≡ o → option_map (λ (v : Event). v.stop) o ≡ Some e.stop → has_event st e.node ≡ true
-  there-by None is h = absurd (cc)
-  there-by (Some v) is h = named-there st e.node v is
+-- the live events have their entries
+live-entry : (st : State) (v : Event) → event_named st (node_of v.key) ≡ Some v → v.live ≡ true → HasEvent st (entry_of v)
+live-entry st v named live = record { event = v; named = named; entry = refl; live = live }
 
-pub names-in : (st : State) (es : List Entry) (p : Entry → Bool) → HaveEvents st es → AreNames st (map (λ (e : Entry). e.node) (filter p es))
-names-in st es p h = All-map (λ n. has_event st n ≡ true) (λ (e : Entry). e.node) (filter p es) (All-filter p (λ e. has_event st e.node ≡ true) es (λ i d l. entry-there st (get_or es i d) (h i d l)))
-
--- the entries of the index are those of events
+-- the entries of the index are those of live events
 pub index-events : (st : State) (index : Indexed) → All HasOwnLabels st.trains → IsIndexOf st index → HaveEvents st index.entries
 index-events st index labels is =
-    let P : Entry → Type 0 = λ e. option_map (λ (v : Event). v.stop) (event_named st e.node) ≡ Some e.stop in
-    let named = each-named st labels in
-    let all : All (λ v. P (entry_of v)) (events st) = λ i d l. ap (option_map (λ (v : Event). v.stop)) (named i d l) in
     let live = live_events (events st) in
-    All-permutation P (map entry_of live) index.entries (IsPermutation-sym index.entries (map entry_of live) is.entries) (All-map P entry_of live (All-filter (λ (v : Event). v.live) (λ v. P (entry_of v)) (events st) all))
+    let named = each-named st labels in
+    let lives : All (λ v. v.live ≡ true) live = filter_passes (λ (v : Event). v.live) (events st) in
+    let names : All (λ v. event_named st (node_of v.key) ≡ Some v) live = All-filter (λ (v : Event). v.live) (λ v. event_named st (node_of v.key) ≡ Some v) (events st) named in
+    All-permutation (HasEvent st) (map entry_of live) index.entries (IsPermutation-sym index.entries (map entry_of live) is.entries)
+    (All-map (HasEvent st) entry_of live (λ i d l. live-entry st (get_or live i d) (names i d l) (lives i d l)))
 
 -- what holds of a graph as it is seen
 pub record Holds (a : Inside) (g : GraphState) : Type 0 where

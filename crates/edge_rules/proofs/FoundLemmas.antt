@@ -1,5 +1,5 @@
 -- The edges between trains that are found at an event are those of all pairs of events.
-use Rattle.edge_rules.proofs.Words.{◌≡◌, ℕ, ◌+◌, ◌-◌, ◌<◌, ◌≤◌, Bool, true, false, ◌&&◌, inl, inr, cond, List, [], ◌++◌, flat_map, map, filter, ap, length, get_or, Option, Some, None, slice_get, refl, sym, ◌∙◌, subst, arith, All, Contains, AllPairs, range_with_len, filter_map, IsPermutation, option_map, option_map_or, and_parts, cases_Bool, nat_tests, Entry, StopRow, Node, node_of, node_cmp, is_same_node, same_node-is, same_node-itself, Less, slice_get_within, filter-append, IsPermutation-trans, IsPermutation-sym, Override, Network, Event, Edge, is_stop, events, event_named, live_events, transfer, override_of, wait_between, Change, is_in_range, into-each, from-each, WaitsAt, may_change, first_near, last_near, tables_in, planned_by, planned_with, planned_at, kept_at, of_name, Shift, Into, From, Changing, HasOwnLabels, entry_of, GraphState, transfer_between, transfers_to}
+use Rattle.edge_rules.proofs.Words.{◌≡◌, ℕ, ◌+◌, ◌-◌, ◌<◌, ◌≤◌, Bool, true, false, ◌&&◌, inl, inr, cond, List, [], ◌++◌, flat_map, map, filter, ap, length, get_or, Option, Some, None, slice_get, refl, sym, ◌∙◌, subst, arith, All, Contains, AllPairs, range_with_len, filter_map, IsPermutation, option_map, option_map_or, and_parts, cases_Bool, nat_tests, Entry, StopRow, Node, node_of, node_cmp, is_same_node, same_node-is, same_node-itself, Less, slice_get_within, filter-append, IsPermutation-trans, IsPermutation-sym, Override, Network, Event, Edge, is_stop, events, event_named, live_events, transfer, override_of, wait_between, Change, is_in_range, into-each, from-each, WaitsAt, may_change, first_near, last_near, tables_in, planned_by, planned_with, planned_at, kept_at, of_entry, of_name, Shift, Into, From, Changing, HasOwnLabels, entry_of, GraphState, transfer_between, transfers_to}
 use Rattle.std.proofs.Common.{◌↔◌, is_none}
 use Rattle.mt_base.specs.Places.{is_platform}
 use Rattle.std.proofs.lemmas.List.Elements.{Contains-get_or}
@@ -7,7 +7,7 @@ use Rattle.std.proofs.lemmas.List.Sorted.{IsPermutation-append}
 use Rattle.delay_model.specs.declared.overrides.Override.TheVariants.{Keep, Drop}
 use Rattle.delay_model.specs.Edges.{may_connect, change_between, is_planned}
 use Rattle.change_times.specs.Reach.{change_from, change_to, reached, reached_back}
-use Rattle.station_index.specs.Indexed.{nodes_in}
+use Rattle.station_index.specs.Indexed.{entries_in}
 use Rattle.train_nodes.specs.Keeps.{kept_into, kept_from}
 use Rattle.train_nodes.proofs.KeepLemmas.{into-rises, from-rises}
 use Rattle.delay_model.specs.declared.state.EdgeKind.TheVariants.{Planned}
@@ -135,12 +135,12 @@ module _ (g : GraphState) (es : List Entry) (index : IsPermutation es (map entry
       (found-planned g.state es index named change (length g.network.stops) (λ a c. grind arith) near (λ c e. grind (arith, nat_tests)) piece within))
 
   -- the edges from an event by these pieces, which are found in these ranges
-  planned-from : (u : Event) (first last : ℕ → ℕ) (piece : ℕ → Event → List Edge) (wanted : Event → List Edge) → ((v : Event) → cond v.live (option_map_or (λ (c : Change). cond (is_in_range c.stop true (first c.seconds) (last c.seconds) (entry_of v)) (piece c.seconds v) []) (option_map (λ s. record { stop = v.stop; seconds = s }) (change_between g.network u v)) []) [] ≡ wanted v) → IsPermutation (flat_map (λ (c : Change). flat_map (of_name g.state (piece c.seconds)) (nodes_in c.stop true (first c.seconds) (last c.seconds) es)) (reached (tables_in g.network) u.stop)) (flat_map wanted all)
+  planned-from : (u : Event) (first last : ℕ → ℕ) (piece : ℕ → Event → List Edge) (wanted : Event → List Edge) → ((v : Event) → cond v.live (option_map_or (λ (c : Change). cond (is_in_range c.stop true (first c.seconds) (last c.seconds) (entry_of v)) (piece c.seconds v) []) (option_map (λ s. record { stop = v.stop; seconds = s }) (change_between g.network u v)) []) [] ≡ wanted v) → IsPermutation (flat_map (λ (c : Change). flat_map (of_entry g.state (piece c.seconds)) (entries_in c.stop true (first c.seconds) (last c.seconds) es)) (reached (tables_in g.network) u.stop)) (flat_map wanted all)
   unfolding reached
   planned-from u first last piece wanted is =
       let near : Change → Entry → Bool = λ c. is_in_range c.stop true (first c.seconds) (last c.seconds) in
       let change = change_to (tables_in g.network) u.stop in
-      subst (IsPermutation (flat_map (λ (c : Change). flat_map (of_name g.state (piece c.seconds)) (nodes_in c.stop true (first c.seconds) (last c.seconds) es)) (reached (tables_in g.network) u.stop)))
+      subst (IsPermutation (flat_map (λ (c : Change). flat_map (of_entry g.state (piece c.seconds)) (entries_in c.stop true (first c.seconds) (last c.seconds) es)) (reached (tables_in g.network) u.stop)))
       (pieces-same (λ v. cond v.live (option_map_or (λ (c : Change). cond (near c (entry_of v)) (piece c.seconds v) []) (change v.stop) []) []) wanted all (λ i d l. let v = get_or all i d in rw (stops i d l) (is v)))
       (found-planned g.state es index named change (length g.network.stops) (λ a c. grind arith) near (λ c e. grind (arith, nat_tests)) piece within)
 

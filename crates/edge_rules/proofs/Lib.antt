@@ -14,6 +14,7 @@ pub mod TrainByTrain
 pub mod FoundLemmas
 pub mod Reordered
 pub mod Taken
+pub mod Unreported
 pub mod EdgesFound
 pub mod NoneFound
 pub mod ShortWaits

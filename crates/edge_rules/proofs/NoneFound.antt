@@ -1,15 +1,15 @@
 -- Where no edge between trains is found.
-use Rattle.edge_rules.proofs.Words.{◌≡◌, ◌<◌, ℕ, Bool, cond, filter, map, inl, inr, true, false, not, nat_eq, List, [], ◌∷◌, flat_map, length, get_or, Option, Some, None, refl, ◌∙◌, ap, arith, Contains, option_map, option_map_or, nat_tests, Node, Entry, RuleRow, node_of, Network, Override, State, Event, Edge, wait_between, transfer, event_named, connection, wait, into-each, from-each, eqb-true, first_near, last_near, HaveEvents, planned_with, planned_by, planned_at, kept_with, kept_at, of_name, tables_in, GraphState, Into, From, Changing, WaitsAt, Change, is_in_range, cases_Bool}
+use Rattle.edge_rules.proofs.Words.{◌≡◌, ◌<◌, ℕ, Bool, cond, inl, inr, true, false, not, nat_eq, List, [], ◌∷◌, flat_map, length, get_or, Option, Some, None, refl, ◌∙◌, ap, arith, Contains, option_map_or, nat_tests, Node, Entry, RuleRow, node_of, Network, Override, State, Event, Edge, wait_between, transfer, event_named, connection, wait, into-each, from-each, eqb-true, first_near, last_near, HasEvent, HaveEvents, of_entry, planned_with, planned_by, planned_at, kept_with, kept_at, of_name, tables_in, GraphState, Into, From, Changing, WaitsAt, Change, is_in_range, cases_Bool}
 use mathlib.Core.Bool.{beq}
 use Rattle.std.specs.FinMap as finmap
 use Rattle.std.specs.FinMap.{FinMap, get-empty, empty_of_len}
 use Rattle.delay_model.specs.Overrides.{connection_cmp}
 use Rattle.train_nodes.specs.Calls.{has_call}
-use Rattle.edge_rules.specs.Found.{are_into, can_be_at, kept_names, joined_stops, names_near}
+use Rattle.edge_rules.specs.Found.{are_into, can_be_at, kept_names, joined_stops, entries_near}
 use Rattle.edge_rules.specs.declared.wanted.Wanted.{Wanted}
 use Rattle.edge_rules.proofs.Neighbours.{named-there}
 use Rattle.edge_rules.proofs.InLine.{filter-none}
-use Rattle.edge_rules.proofs.PieceLemmas.{pieces-filter, pieces-map, pieces-none}
+use Rattle.edge_rules.proofs.PieceLemmas.{pieces-filter, pieces-none}
 
 -- what no event makes no name makes
 of-none : (f : Event → List Edge) → ((u : Event) → f u ≡ []) → (o : Option Event) → option_map_or f o [] ≡ []
@@ -19,11 +19,14 @@ of-none f none (Some u) = none u
 names-none : (st : State) (f : Event → List Edge) → ((u : Event) → f u ≡ []) → (ns : List Node) → flat_map (of_name st f) ns ≡ []
 names-none st f none ns = pieces-none (of_name st f) ns (λ i d l. of-none f none (event_named st (get_or ns i d)))
 
+entries-none : (st : State) (f : Event → List Edge) → ((u : Event) → f u ≡ []) → (es : List Entry) → flat_map (of_entry st f) es ≡ []
+entries-none st f none es = pieces-none (of_entry st f) es (λ i d l. of-none f none (event_named st (get_or es i d).node))
+
 planned-none : (g : GraphState) (es : List Entry) (wanted : Wanted) (v : Event) → ((w : ℕ) (u : Event) → planned_with g wanted v w u ≡ []) → planned_at g es wanted v ≡ []
 planned-none g es wanted v none =
     let cs = joined_stops (tables_in g.network) (are_into wanted) v.stop in
     pieces-none (planned_by g es wanted v) cs (λ i d l.
-    let c = get_or cs i d in names-none g.state (planned_with g wanted v c.seconds) (none c.seconds) (names_near g.network.opts.window es wanted v.key.time c))
+    let c = get_or cs i d in entries-none g.state (planned_with g wanted v c.seconds) (none c.seconds) (entries_near g.network.opts.window es wanted v.key.time c))
 
 -- edges between trains lead to departures and leave arrivals, and change nothing by a time that is not after the schedule
 pub planned-cannot : (g : GraphState) (es : List Entry) (wanted : Wanted) (v : Event) → can_be_at wanted v ≡ false → planned_at g es wanted v ≡ []
@@ -50,24 +53,23 @@ planned-unwaited g es wanted v c h from none =
     let window = g.network.opts.window in
     let f = planned_with g wanted v c.seconds in
     let p = is_in_range c.stop (not (are_into wanted)) (first_near window wanted v.key.time c.seconds) (last_near window wanted v.key.time c.seconds) in
-    pieces-map (of_name g.state f) (λ (e : Entry). e.node) (filter p es)
-    ∙ pieces-filter (λ (e : Entry). of_name g.state f e.node) p es
-    ∙ pieces-none (λ (e : Entry). cond (p e) (of_name g.state f e.node) []) es (λ i d l. let e = get_or es i d in one e (event_named g.state e.node) (h i d l)) where
-      one : (e : Entry) (o : Option Event) → option_map (λ (u : Event). u.stop) o ≡ Some e.stop → cond (is_in_range c.stop (not (are_into wanted)) (first_near g.network.opts.window wanted v.key.time c.seconds) (last_near g.network.opts.window wanted v.key.time c.seconds) e) (option_map_or (planned_with g wanted v c.seconds) o []) [] ≡ []
-      one e None is = absurd (cc)
-      one e (Some u) is =
+    pieces-filter (of_entry g.state f) p es
+    ∙ pieces-none (λ e. cond (p e) (of_entry g.state f e) []) es (λ i d l. let e = get_or es i d in one e (h i d l)) where
+      one : (e : Entry) → HasEvent g.state e → cond (is_in_range c.stop (not (are_into wanted)) (first_near g.network.opts.window wanted v.key.time c.seconds) (last_near g.network.opts.window wanted v.key.time c.seconds) e) (of_entry g.state (planned_with g wanted v c.seconds) e) [] ≡ []
+      one e has =
           elim (cases_Bool (is_in_range c.stop (not (are_into wanted)) (first_near g.network.opts.window wanted v.key.time c.seconds) (last_near g.network.opts.window wanted v.key.time c.seconds) e)) [
             | inl hit ↦
-                let at : u.stop ≡ c.stop = grind (arith, nat_tests) in
-                rw hit (no-wait-piece g wanted v c.seconds u (λ into. absurd (cc)) (λ _. rw at (none v.route u.route)))
+                let same : has.event.stop ≡ e.stop = ap (λ (e : Entry). e.stop) has.entry in
+                let near : e.stop ≡ c.stop = grind (arith, nat_tests) in
+                rw (hit, has.named) (no-wait-piece g wanted v c.seconds has.event (λ into. absurd (cc)) (λ _. rw (same, near) (none v.route has.event.route)))
             | inr miss ↦ rw miss refl
           ]
 
 -- where the range that is searched is empty
-pub names-none_near : (window : ℕ) (es : List Entry) (wanted : Wanted) (time : ℕ) (c : Change) → last_near window wanted time c.seconds < first_near window wanted time c.seconds → names_near window es wanted time c ≡ []
-names-none_near window es wanted time c empty =
+pub entries-none_near : (window : ℕ) (es : List Entry) (wanted : Wanted) (time : ℕ) (c : Change) → last_near window wanted time c.seconds < first_near window wanted time c.seconds → entries_near window es wanted time c ≡ []
+entries-none_near window es wanted time c empty =
     let p = is_in_range c.stop (not (are_into wanted)) (first_near window wanted time c.seconds) (last_near window wanted time c.seconds) in
-    ap (map (λ (e : Entry). e.node)) (filter-none p es (λ i d l. past (get_or es i d) (first_near window wanted time c.seconds) (last_near window wanted time c.seconds) empty)) where
+    filter-none p es (λ i d l. past (get_or es i d) (first_near window wanted time c.seconds) (last_near window wanted time c.seconds) empty) where
       past : (e : Entry) (first last : ℕ) → last < first → is_in_range c.stop (not (are_into wanted)) first last e ≡ false
       past e first last empty = grind (arith, nat_tests)
 

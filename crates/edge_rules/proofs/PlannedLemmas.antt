@@ -1,5 +1,5 @@
 -- Pieces of events that are found by changes and by an index are those of all events.
-use Rattle.edge_rules.proofs.Words.{◌≡◌, ℕ, ◌<◌, Bool, true, cond, List, [], flat_map, map, filter, filter_map, get_or, Option, Some, None, refl, sym, ◌∙◌, ap, subst, arith, All, range_with_len, IsPermutation, option_map_or, IsPermutation-trans, Entry, node_of, State, Event, Edge, events, event_named, live_events, Change, of_name, entry_of}
+use Rattle.edge_rules.proofs.Words.{◌≡◌, ℕ, ◌<◌, Bool, true, cond, List, [], flat_map, map, filter, filter_map, get_or, Option, Some, None, refl, sym, ◌∙◌, ap, subst, arith, All, range_with_len, IsPermutation, option_map_or, IsPermutation-trans, Entry, node_of, State, Event, Edge, events, event_named, live_events, Change, of_entry, entry_of}
 use Rattle.edge_rules.proofs.PieceLemmas.{pieces-permuted, pieces-filter, pieces-map, pieces-filter_map, pieces-same, pieces-turned, one-of-range}
 
 module _ (st : State) (entries : List Entry) (index : IsPermutation entries (map entry_of (live_events (events st)))) (named : All (λ u. event_named st (node_of u.key) ≡ Some u) (events st)) where
@@ -9,7 +9,7 @@ module _ (st : State) (entries : List Entry) (index : IsPermutation entries (map
     changes = filter_map change (range_with_len 0 n)
 
     abbrev at : Change → Entry → List Edge
-    at c e = cond (near c e) (of_name st (f c.seconds) e.node) []
+    at c e = cond (near c e) (of_entry st (f c.seconds) e) []
 
     -- the piece of an event by the change at its own stop
     abbrev pub own_piece : Event → List Edge
@@ -25,13 +25,13 @@ module _ (st : State) (entries : List Entry) (index : IsPermutation entries (map
         ∙ one-of-range (λ a. option_map_or (λ c. at c (entry_of u)) (change a) []) u.stop (λ a differ. other-stop u a (change a) refl differ) n within
         ∙ rw is refl
 
-    pub found-planned : All (λ u. u.stop < n) (events st) → IsPermutation (flat_map (λ c. flat_map (of_name st (f c.seconds)) (map (λ (e : Entry). e.node) (filter (near c) entries))) changes) (flat_map (λ u. cond u.live (own_piece u) []) (events st))
+    pub found-planned : All (λ u. u.stop < n) (events st) → IsPermutation (flat_map (λ c. flat_map (of_entry st (f c.seconds)) (filter (near c) entries)) changes) (flat_map (λ u. cond u.live (own_piece u) []) (events st))
     found-planned within =
         let live = live_events (events st) in
         let by_entry : Entry → List Edge = λ e. flat_map (λ c. at c e) changes in
-        let by_change = pieces-same (λ c. flat_map (of_name st (f c.seconds)) (map (λ (e : Entry). e.node) (filter (near c) entries))) (λ c. flat_map (at c) entries) changes (λ i d l.
+        let by_change = pieces-same (λ c. flat_map (of_entry st (f c.seconds)) (filter (near c) entries)) (λ c. flat_map (at c) entries) changes (λ i d l.
         let c = get_or changes i d in
-        pieces-map (of_name st (f c.seconds)) (λ (e : Entry). e.node) (filter (near c) entries) ∙ pieces-filter (λ e. of_name st (f c.seconds) e.node) (near c) entries) in
+        pieces-filter (of_entry st (f c.seconds)) (near c) entries) in
         let by_event =
         pieces-map by_entry entry_of live
         ∙ pieces-filter (λ u. by_entry (entry_of u)) (λ (u : Event). u.live) (events st)

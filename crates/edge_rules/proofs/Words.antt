@@ -24,7 +24,7 @@ pub use Rattle.edge_rules.specs.AtEvent.{along_from, along_to, edges_from, edges
 unfoldable pub use Rattle.edge_rules.specs.AtEvent.{outgoing}
 pub use Rattle.edge_rules.specs.AtStops.{AreAtStops, IsAtStop}
 pub use Rattle.edge_rules.specs.Deciding.{may_change}
-pub use Rattle.edge_rules.specs.Found.{AreNames, HaveEvents, first_near, kept_at, kept_with, last_near, of_name, planned_at, planned_by, planned_with, tables_in, waits_at}
+pub use Rattle.edge_rules.specs.Found.{HasEvent, HaveEvents, first_near, kept_at, kept_with, last_near, of_entry, of_name, planned_at, planned_by, planned_with, tables_in, unreported, waits_at}
 pub use Rattle.edge_rules.specs.GraphState.{GraphState}
 pub use Rattle.edge_rules.specs.Indexing.{AreNew, AreThere, IsIndexOf, entries_of, entry_of, new_entries, with_entries, without_entries}
 pub use Rattle.edge_rules.specs.Inside.{HasOwnLabels, IsConsistent, network_of}
@@ -51,7 +51,7 @@ pub use Rattle.std.proofs.Math.Logic.{◌≢◌}
 pub use Rattle.std.proofs.lemmas.Bool.{and_parts, cases_Bool, cases_lt, cond-true, cond_both, eqb-true}
 pub use Rattle.std.proofs.lemmas.Bool.Decides.{nat_tests}
 pub use Rattle.std.proofs.lemmas.List.{length-append}
-pub use Rattle.std.proofs.lemmas.List.Elements.{All-append, All-cons, All-contains, All-filter, All-head, All-nil, All-tail, All-weaker, Contains-append_right, filter-append}
+pub use Rattle.std.proofs.lemmas.List.Elements.{All-append, All-cons, All-contains, All-filter, All-head, All-nil, All-tail, All-weaker, Contains-append_right, filter-append, filter_passes}
 pub use Rattle.std.proofs.lemmas.List.Kept.{AllPairs-filter}
 pub use Rattle.std.proofs.lemmas.List.Sorted.{All-permutation, IsPermutation-append_right, IsPermutation-keeps, IsPermutation-refl, IsPermutation-sym, IsPermutation-trans}
 pub use Rattle.std.proofs.lemmas.Option.{get_or_from_slice_get, slice_get_within}

@@ -2,7 +2,7 @@
 -- of events, and the kept ones by what was chosen.
 use Rattle.std.specs.Prelude.{All, ℕ, ◌≡◌, ◌+◌, ◌-◌, min, max, List, [], true, false, Bool, not}
 use Rattle.std.specs.Prelude.{◌&&◌, nat_lt, is_none, if◌then◌else◌, Some, None, filter, flat_map}
-use Rattle.std.specs.Option.{option_map, option_map_or}
+use Rattle.std.specs.Option.{option_map_or}
 use Rattle.mt_base.specs.declared.keys.Node.{Node}
 use Rattle.mt_base.specs.declared.index_entries.Entry.{Entry}
 use Rattle.mt_base.specs.Order.{node_of}
@@ -19,12 +19,12 @@ use Rattle.delay_model.specs.Events.{event_named}
 use Rattle.change_times.specs.declared.change.Change.{Change}
 use Rattle.change_times.specs.ChangeTables.{ChangeTables}
 use Rattle.change_times.specs.Reach.{reached, reached_back}
-use Rattle.train_nodes.specs.Calls.{has_event}
 use Rattle.train_nodes.specs.Keeps.{kept_into, kept_from}
-use Rattle.station_index.specs.Indexed.{nodes_in}
+use Rattle.station_index.specs.Indexed.{entries_in}
 use Rattle.waiting_rules.specs.WaitTable.{WaitsAt, wait_table}
 use Rattle.edge_rules.specs.Deciding.{may_change}
 use Rattle.edge_rules.specs.GraphState.{GraphState}
+use Rattle.edge_rules.specs.Indexing.{entry_of}
 use Rattle.edge_rules.specs.declared.wanted.Wanted.{Wanted}
 use Rattle.edge_rules.specs.declared.wanted.Wanted.TheVariants.{Into, From, Changing}
 
@@ -65,10 +65,10 @@ last_near window From time w = time + w + window
 last_near window (Changing shift) time w =
     min (time + w + window) (max shift.was shift.is + w - 1)
 
--- the arrivals at a stop that are in time for a change to a departure at a time, or the departures
--- that are in time for a change from an arrival
-abbrev pub names_near : ℕ → List Entry → Wanted → ℕ → Change → List Node
-names_near window es wanted time c = nodes_in c.stop (not (are_into wanted))
+-- the entries of the arrivals at a stop that are in time for a change to a departure at a time, or
+-- of the departures that are in time for a change from an arrival
+abbrev pub entries_near : ℕ → List Entry → Wanted → ℕ → Change → List Entry
+entries_near window es wanted time c = entries_in c.stop (not (are_into wanted))
     (first_near window wanted time c.seconds) (last_near window wanted time c.seconds) es
 
 -- the edge that is planned from u to v by a change of w seconds, where nothing was chosen for it
@@ -92,10 +92,14 @@ kept_with g into v u = if into then transfer g.network (Some Keep) u v
 abbrev pub of_name : State → (Event → List Edge) → Node → List Edge
 of_name st f n = option_map_or f (event_named st n) []
 
+-- the edges that the event of an entry makes, if it is there
+abbrev pub of_entry : State → (Event → List Edge) → Entry → List Edge
+of_entry st f e = of_name st f e.node
+
 -- the planned edges to v, or from v, by a change from or to one stop
 abbrev pub planned_by : GraphState → List Entry → Wanted → Event → Change → List Edge
-planned_by g es wanted v c = flat_map (of_name g.state (planned_with g wanted v c.seconds))
-    (names_near g.network.opts.window es wanted v.key.time c)
+planned_by g es wanted v c = flat_map (of_entry g.state (planned_with g wanted v c.seconds))
+    (entries_near g.network.opts.window es wanted v.key.time c)
 
 -- the planned edges to v, or from v
 abbrev pub planned_at : GraphState → List Entry → Wanted → Event → List Edge
@@ -111,13 +115,20 @@ abbrev pub kept_at : GraphState → Bool → Event → List Edge
 kept_at g into v = flat_map (of_name g.state (kept_with g into v))
     (kept_names g.state into (node_of v.key))
 
--- each of these names is that of an event
-abbrev pub AreNames : State → List Node → Type 0
-AreNames st ns = All (λ n. has_event st n ≡ true) ns
+-- the entry is that of a live event
+pub record HasEvent (st : State) (e : Entry) : Type 0 where
+  pub event : Event
+  pub named : event_named st e.node ≡ Some event
+  pub entry : entry_of event ≡ e
+  pub live : event.live ≡ true
 
--- each of these entries is that of an event at its stop
+-- each of these entries is that of a live event
 abbrev pub HaveEvents : State → List Entry → Type 0
-HaveEvents st es = All (λ e. option_map (λ v. v.stop) (event_named st e.node) ≡ Some e.stop) es
+HaveEvents st es = All (HasEvent st) es
+
+-- an event without what was reported of it
+abbrev pub unreported : Event → Event
+unreported v = record v { forecast = None; report = None }
 
 -- how long the train of a departure waits, by the routes of late feeders
 abbrev pub waits_at : GraphState → Event → WaitsAt

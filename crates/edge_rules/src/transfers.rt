@@ -1,20 +1,22 @@
 //! The edges between trains at an event, found one after another: the planned ones in the index of
 //! events, and the kept ones by what was chosen.
 
-ghost use Rattle.std.specs.Prelude.{◌≡◌, [], IsTrue, flat_map, unwrap_or};
-ghost use Rattle.std.specs.Option.{option_to_list};
+ghost use Rattle.std.specs.Prelude.{◌≡◌, [], Some, flat_map, unwrap_or};
+ghost use Rattle.std.specs.Option.{option_map, option_to_list};
 ghost use Rattle.std.specs.Iterator.{YieldsFirst, item_count};
-ghost use Rattle.train_nodes.specs.Calls.{has_event};
-ghost use Rattle.edge_rules.specs.Found.{AreNames, AreWaitsAt, HaveEvents, first_near};
-ghost use Rattle.edge_rules.specs.Found.{joined_stops, kept_at, kept_with, last_near, of_name};
-ghost use Rattle.edge_rules.specs.Found.{planned_at, planned_by, planned_with, waits_at};
+ghost use Rattle.delay_model.specs.Events.{event_named};
+ghost use Rattle.edge_rules.specs.Found.{AreWaitsAt, HasEvent, HaveEvents, first_near};
+ghost use Rattle.edge_rules.specs.Found.{joined_stops, kept_at, kept_with, last_near, of_entry};
+ghost use Rattle.edge_rules.specs.Found.{of_name, planned_at, planned_by, planned_with};
+ghost use Rattle.edge_rules.specs.Found.{unreported, waits_at};
 ghost use Rattle.edge_rules.specs.declared.wanted.Wanted.TheVariants as Wants;
 
 use crate::graph::Graph;
 use crate::wanted::Wanted;
 use change_times::{Change, Changes};
 use delay_model::state::{Edge, Event};
-use mt_base::keys::Node;
+use mt_base::index_entries::Entry;
+use mt_base::keys::{Key, Node};
 use mt_base::numbers::{StopNo, Time};
 use station_index::{Range, StationIndex};
 use std::marker::Model;
@@ -32,18 +34,18 @@ pub(crate) struct PlannedEdges<'a> {
     changes: &'a [Change],
     /// How long the change takes that joins the stop that is looked at, in seconds.
     seconds: u32,
-    /// The events at that stop that are still to come, if a stop is looked at.
+    /// The entries of that stop that are still to come, if a stop is looked at.
     near: Option<Range<'a>>,
 }
 
 impl<'a> Model for PlannedEdges<'a> {
     ghost use Rattle.std.specs.Prelude.{List, [], ◌++◌, flat_map, unwrap_or};
     ghost use Rattle.delay_model.specs.declared.state.Edge.{Edge};
-    ghost use Rattle.edge_rules.specs.Found.{of_name, planned_by, planned_with};
+    ghost use Rattle.edge_rules.specs.Found.{of_entry, planned_by, planned_with};
 
     ghost Value = { List Edge };
 
-    ghost view = { λ a. flat_map (of_name a.graph.now.state (planned_with a.graph.now a.wanted a.at
+    ghost view = { λ a. flat_map (of_entry a.graph.now.state (planned_with a.graph.now a.wanted a.at
         a.seconds)) (unwrap_or a.near [])
         ++ flat_map (planned_by a.graph.now a.index.now.entries a.wanted a.at) a.changes.now };
 
@@ -71,7 +73,7 @@ impl<'a> Iterator for PlannedEdges<'a> {
             let change = self.changes[0];
             self.changes = &self.changes[1..];
             self.seconds = change.seconds;
-            self.near = names_near(self.graph, self.index, &self.wanted, &self.at, &change);
+            self.near = entries_near(self.graph, self.index, &self.wanted, &self.at, &change);
             edge = next_planned(
                 self.graph,
                 &self.wanted,
@@ -190,51 +192,75 @@ pub(crate) fn kept_edges<'a>(graph: &'a Graph, into: bool, at: &Event) -> Option
     })
 }
 
-/// The first planned edge between an event and those of these names, which takes the names up to
-/// that one.
+/// The first planned edge between an event and those of these entries, which takes the entries up
+/// to that one.
 fn next_planned(
     graph: &Graph,
     wanted: &Wanted<'_>,
     at: &Event,
     seconds: u32,
-    names: &mut Option<Range<'_>>,
+    entries: &mut Option<Range<'_>>,
 ) -> Option<Edge>
     requires waits { AreWaitsAt graph.now at.now wanted.now }
-    requires there { AreNames graph.now.state (unwrap_or names.old []) }
-    ensures first { YieldsFirst (flat_map (of_name graph.now.state
+    requires there { HaveEvents graph.now.state (unwrap_or entries.old []) }
+    ensures first { YieldsFirst (flat_map (of_entry graph.now.state
         (planned_with graph.now wanted.now at.now seconds)))
-        (unwrap_or names.old []) result (unwrap_or names.new []) }
-    ensures left { AreNames graph.now.state (unwrap_or names.new []) }
+        (unwrap_or entries.old []) result (unwrap_or entries.new []) }
+    ensures left { HaveEvents graph.now.state (unwrap_or entries.new []) }
 {
-    let Some(names) = names else {
+    let Some(entries) = entries else {
         return None;
     };
-    while let Some(name) = names.next() {
-        if let Some(edge) = planned_edge(graph, wanted, at, seconds, name) {
+    while let Some(entry) = entries.next() {
+        if let Some(edge) = planned_edge(graph, wanted, at, seconds, &entry) {
             return Some(edge);
         }
     }
     None
 }
 
-/// The planned edge between an event and that of a name, if there is one and it is wanted.
+/// The planned edge between an event and that of an entry, if there is one and it is wanted.
 fn planned_edge(
     graph: &Graph,
     wanted: &Wanted<'_>,
     at: &Event,
     seconds: u32,
-    name: Node,
+    entry: &Entry,
 ) -> Option<Edge>
     requires waits { AreWaitsAt graph.now at.now wanted.now }
-    requires there { IsTrue (has_event graph.now.state name) }
-    ensures { option_to_list result
-        ≡ of_name graph.now.state (planned_with graph.now wanted.now at.now seconds) name }
+    requires there { HasEvent graph.now.state entry.now }
+    ensures { option_to_list result ≡ of_entry graph.now.state
+        (planned_with graph.now wanted.now at.now seconds) entry.now }
 {
-    let other = graph.trains().event(name);
+    let other = event_of(graph, entry);
     match wanted {
         Wanted::Into(_) => graph.planned(wanted, seconds, &other, at),
         Wanted::From => graph.planned(wanted, seconds, at, &other),
         Wanted::Changing(shift) => shift.changing(graph.planned(wanted, seconds, at, &other)),
+    }
+}
+
+/// The event of an entry as far as planned edges need it: without what was reported of it, which
+/// stands with its call. The entry and the route of the train tell the rest, and the call, which
+/// lies far from others of the stop, is not read.
+#[inline(always)]
+fn event_of(graph: &Graph, entry: &Entry) -> Event
+    requires { HasEvent graph.now.state entry.now }
+    ensures { option_map unreported (event_named graph.now.state entry.now.node) ≡ Some result }
+{
+    let Node { train, label, dep } = entry.node;
+    Event {
+        key: Key {
+            time: entry.time,
+            train,
+            label,
+            dep,
+        },
+        stop: entry.stop,
+        route: graph.trains().route(train),
+        live: true,
+        forecast: None,
+        report: None,
     }
 }
 
@@ -275,9 +301,10 @@ fn joined_stops<'a>(changes: &'a Changes, into: bool, stop: StopNo) -> &'a [Chan
     }
 }
 
-/// The events at the other end of a change by which those edges lead that are wanted at an event:
-/// arrivals for edges to it, departures for edges from it. None only if there are no such edges.
-fn names_near<'a>(
+/// The entries of the events at the other end of a change by which those edges lead that are wanted
+/// at an event: arrivals for edges to it, departures for edges from it. None only if there are no
+/// such edges.
+fn entries_near<'a>(
     graph: &Graph,
     index: &'a StationIndex,
     wanted: &Wanted<'_>,
@@ -285,10 +312,10 @@ fn names_near<'a>(
     change: &Change,
 ) -> Option<Range<'a>>
     requires { HaveEvents graph.now.state index.now.entries }
-    ensures edges { flat_map (of_name graph.now.state (planned_with graph.now wanted.now at.now
+    ensures edges { flat_map (of_entry graph.now.state (planned_with graph.now wanted.now at.now
         change.now.seconds)) (unwrap_or result [])
         ≡ planned_by graph.now index.now.entries wanted.now at.now change.now }
-    ensures there { AreNames graph.now.state (unwrap_or result []) }
+    ensures there { HaveEvents graph.now.state (unwrap_or result []) }
 {
     let (first, last) = times_near(graph.window(), wanted, at.key.time, change.seconds);
     if first > last {

@@ -1,5 +1,5 @@
 -- An index of events by stop and time, as the list of its entries.
-use Rattle.std.specs.Prelude.{◌≡◌, ℕ, List, [], ◌∷◌, Bool, true, not, map, filter, refl}
+use Rattle.std.specs.Prelude.{◌≡◌, ℕ, List, [], ◌∷◌, Bool, true, not, filter, refl}
 use Rattle.std.specs.Prelude.{◌&&◌, if◌then◌else◌, nat_eq, nat_le}
 use mathlib.Core.Bool.{beq}
 use Rattle.std.specs.Coded.{Coded, code_by, coded×, coded_ℕ, coded_bool, coded_list}
@@ -41,9 +41,9 @@ abbrev pub is_in_range : ℕ → Bool → ℕ → ℕ → Entry → Bool
 is_in_range stop dep lo hi e = nat_eq e.stop stop && (beq e.dep dep
     && (nat_le lo e.time && nat_le e.time hi))
 
--- the events of the entries in a range
-abbrev pub nodes_in : ℕ → Bool → ℕ → ℕ → List Entry → List Node
-nodes_in stop dep lo hi es = map (λ e. e.node) (filter (is_in_range stop dep lo hi) es)
+-- the entries in a range
+abbrev pub entries_in : ℕ → Bool → ℕ → ℕ → List Entry → List Entry
+entries_in stop dep lo hi es = filter (is_in_range stop dep lo hi) es
 
 -- an entry as its stop, its kind, its time and its event
 abbrev pub coded_entry : Coded Entry

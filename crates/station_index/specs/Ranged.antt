@@ -1,6 +1,5 @@
 -- How a range is seen, and what holds of it.
 use Rattle.std.specs.Prelude.{◌≡◌, List, map, length}
-use Rattle.mt_base.specs.declared.keys.Node.{Node}
 use Rattle.mt_base.specs.declared.index_entries.Entry.{Entry}
 use Rattle.station_index.specs.declared.range.Range.TheInside.{Inside}
 use Rattle.station_index.specs.Indexed.{AreInOrder}
@@ -11,9 +10,9 @@ use Rattle.station_index.specs.Slots.{entry_of}
 abbrev pub loaded_left : Inside → List Entry
 loaded_left s = map (entry_of s.stop s.dep) s.loaded.now
 
--- the events of the live loaded entries and of the added ones, in their order
-abbrev pub nodes_left : Inside → List Node
-nodes_left s = map (λ e. e.node) (merged (kept (loaded_left s) s.live.now) s.added.now)
+-- the live loaded entries and the added ones, in their order
+abbrev pub entries_left : Inside → List Entry
+entries_left s = merged (kept (loaded_left s) s.live.now) s.added.now
 
 -- both lists are in order, and each loaded entry has its flag
 pub record IsRange (s : Inside) : Type 0 where

@@ -3,8 +3,8 @@
 ghost use Rattle.std.specs.Prelude.{◌≡◌, ◌≢◌, ◌-◌, ◌<◌, ◌^◌, All, Contains, IfOk, length};
 ghost use Rattle.std.specs.List.{AllPairs};
 ghost use Rattle.std.specs.List.Sorted.{IsPermutation};
-ghost use Rattle.station_index.specs.Indexed.{AreInOrder, entry_at, nodes_in, with_entry};
-ghost use Rattle.station_index.specs.Indexed.{without_entry};
+ghost use Rattle.station_index.specs.Indexed.{AreInOrder, entries_in, entry_at};
+ghost use Rattle.station_index.specs.Indexed.{with_entry, without_entry};
 
 use crate::entries::{put, take_out};
 use crate::ever_added::{added_part, none_added, note_added};
@@ -113,10 +113,10 @@ impl StationIndex {
         take_out(&mut self.added, &entry);
     }
 
-    /// The arrivals (`dep` false) or the departures (`dep` true) at a stop that are scheduled from
-    /// `lo` to `hi`, both included, in seconds from the base of day 0.
+    /// The entries of the arrivals (`dep` false) or of the departures (`dep` true) at a stop that
+    /// are scheduled from `lo` to `hi`, both included, in seconds from the base of day 0.
     pub fn range(&self, stop: StopNo, dep: bool, lo: u64, hi: u64) -> Range<'_>
-        ensures { result ≡ nodes_in stop dep lo hi self.now.entries }
+        ensures { result ≡ entries_in stop dep lo hi self.now.entries }
     {
         let (first, events) = self.loaded.part(stop, dep, lo, hi);
         Range {

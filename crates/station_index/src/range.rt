@@ -1,4 +1,4 @@
-//! Events of a stop in a range of times, one after another.
+//! The entries of a stop in a range of times, one after another.
 
 ghost use Rattle.std.specs.Prelude.{◌≡◌, ℕ, ◌<◌, ◌≤◌, true, false, length, slice_index_or};
 ghost use Rattle.std.specs.Iterator.{YieldsFirst, item_count};
@@ -6,12 +6,12 @@ ghost use Rattle.station_index.specs.Merged.{comes_first};
 
 use crate::loaded_event::{LoadedEvent, entry_of};
 use mt_base::index_entries::Entry;
-use mt_base::keys::Node;
 use mt_base::numbers::StopNo;
 use std::marker::Model;
 
-/// The arrivals or the departures at a stop that are scheduled in a range of times, in the order
-/// of their times and then by event. It is seen as the list of those still to come.
+/// The entries of the arrivals or of the departures at a stop that are scheduled in a range of
+/// times, in their order: by time and then by event. It is seen as the list of those still to
+/// come.
 #[derive(Drop)]
 pub struct Range<'a> {
     /// The stop of these events.
@@ -28,25 +28,25 @@ pub struct Range<'a> {
 
 impl<'a> Model for Range<'a> {
     ghost use Rattle.std.specs.Prelude.{List};
-    ghost use Rattle.mt_base.specs.declared.keys.Node.{Node};
+    ghost use Rattle.mt_base.specs.declared.index_entries.Entry.{Entry};
 
-    ghost Value = { List Node };
+    ghost Value = { List Entry };
 
-    ghost use Rattle.station_index.specs.Ranged.{IsRange, nodes_left};
+    ghost use Rattle.station_index.specs.Ranged.{IsRange, entries_left};
 
-    ghost view = { nodes_left };
+    ghost view = { entries_left };
 
     ghost invariant = { IsRange };
 }
 
 impl<'a> Iterator for Range<'a> {
-    type Item = Node;
+    type Item = Entry;
 
     ghost next_gives = { YieldsFirst (λ s. s) };
 
     ghost remaining = { item_count (λ s. s) };
 
-    fn next(&mut self) -> Option<Node> {
+    fn next(&mut self) -> Option<Entry> {
         let dead = dead_at_front(self.live);
         self.loaded = &self.loaded[dead..];
         self.live = &self.live[dead..];
@@ -55,12 +55,12 @@ impl<'a> Iterator for Range<'a> {
             if comes_first(&entry, self.added) {
                 self.loaded = later;
                 self.live = &self.live[1..];
-                return Some(entry.node);
+                return Some(entry);
             }
         }
         let (entry, later) = self.added.split_first()?;
         self.added = later;
-        Some(entry.node)
+        Some(*entry)
     }
 }
 

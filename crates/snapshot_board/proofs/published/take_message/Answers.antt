@@ -1,4 +1,4 @@
-use Rattle.std.proofs.Common.{◌≡◌, ◌∙◌, ◌++◌, ◌∷◌, [], ap, subst, Some}
+use Rattle.std.proofs.Common.{◌≡◌, ◌∙◌, subst, Some}
 use Rattle.snapshot_board.specs.States.{meaning_after}
 use Rattle.snapshot_board.proofs.StateLemmas.{known, follows_other}
 use Rattle.snapshot_board.proofs.published.take_message.Goals as goal

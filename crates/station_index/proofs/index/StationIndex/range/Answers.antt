@@ -1,4 +1,4 @@
-use Rattle.station_index.proofs.Words.{◌+◌, ◌-◌, ◌≡◌, ◌≤◌, arith, ap, sym, map, length, drop, ◌∙◌, length-drop, length-take-le, filter, is_in_range, kept, merged}
+use Rattle.station_index.proofs.Words.{◌+◌, ◌-◌, ◌≡◌, ◌≤◌, arith, ap, sym, length, drop, ◌∙◌, length-drop, length-take-le, filter, is_in_range, kept, merged}
 use Rattle.station_index.proofs.OrderLemmas.{filter-ascends}
 use Rattle.station_index.proofs.MergeLemmas.{filter-merged}
 use Rattle.station_index.proofs.PlaceLemmas.{AreInOrder-drop, AreInOrder-take, range-kept}
@@ -27,4 +27,4 @@ returns c =
     let count : first + n - first ≡ n = omega arith in
     let parted = rw count at (range-kept p a.loaded first (first + n) c.part-first.ensures.range a.live.items) in
     rw (← c.self.view_is, c.part-first.ensures.events, c.deref.ensures.value, count, c.added_part.ensures, c.deref-2.ensures.value)
-    (ap (map (λ e. e.node)) (ap (λ xs. merged xs (filter p a.added.items)) parted ∙ sym (filter-merged p (kept a.loaded a.live.items) a.added.items c.self.invariant.ordered)))
+    (ap (λ xs. merged xs (filter p a.added.items)) parted ∙ sym (filter-merged p (kept a.loaded a.live.items) a.added.items c.self.invariant.ordered))

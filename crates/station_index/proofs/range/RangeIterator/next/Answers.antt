@@ -30,7 +30,7 @@ returns-then-comes_first-clause-steps c =
     let own = c.entry_of-entry.ensures in
     let first = ap (λ e. comes_first e s.added.now) (sym own) ∙ sym c.comes_first.ensures ∙ c.if-comes_first.true in
     rw own (sym c.self.view_is
-    ∙ ap (map (λ e. e.node)) (loaded-step es s.live.now s.added.now n front (f c.in-Some.event.now) (map f c.in-Some.later.now) is first))
+    ∙ loaded-step es s.live.now s.added.now n front (f c.in-Some.event.now) (map f c.in-Some.later.now) is first)
 
 pub returns-then-comes_first-clause-goes : goal.returns-then-comes_first-clause-goes
 returns-then-comes_first-clause-goes c =
@@ -49,7 +49,7 @@ returns-in_err-entry-clause-steps c =
       | in_default w ↦ waits-none es s.live.now s.added.now n front (ap length (rest-map f n s.loaded.now) ∙ length-map _ f ∙ w.in_default.ensures.cases)
     ] in
     let none = none-step es s.live.now s.added.now n front c.in_err-entry.ensures.cases waits in
-    rw (c.from_residual.ensures, ← rest-map f n s.loaded.now) (sym c.self.view_is ∙ ap (map (λ e. e.node)) none.0, ap (map (λ e. e.node)) none.1)
+    rw (c.from_residual.ensures, ← rest-map f n s.loaded.now) (sym c.self.view_is ∙ none.0, none.1)
 
 pub invariant_of-self-2 : goal.invariant_of-self-2
 invariant_of-self-2 c =
@@ -78,7 +78,7 @@ returns-clause-steps c =
       | in_default w ↦ waits-none es s.live.now s.added.now n front (ap length (rest-map f n s.loaded.now) ∙ length-map _ f ∙ w.in_default.ensures.cases)
     ] in
     rw (← rest-map f n s.loaded.now) (sym c.self.view_is
-    ∙ ap (map (λ e. e.node)) (added-step es s.live.now s.added.now n front c.in_ok-entry.entry.now c.in_ok-entry.later.now c.in_ok-entry.ensures.cases.0 waits))
+    ∙ added-step es s.live.now s.added.now n front c.in_ok-entry.entry.now c.in_ok-entry.later.now c.in_ok-entry.ensures.cases.0 waits)
 
 pub returns-clause-goes : goal.returns-clause-goes
 returns-clause-goes c =

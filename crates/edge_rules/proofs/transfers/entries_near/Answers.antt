@@ -1,7 +1,6 @@
-use Rattle.edge_rules.proofs.Words.{flat_map, sym, ◌∙◌, ap, of_name, planned_with}
-use Rattle.edge_rules.proofs.EdgesFound.{names-in}
-use Rattle.edge_rules.proofs.NoneFound.{names-none_near, planned-unwaited}
-use Rattle.edge_rules.proofs.transfers.names_near.Goals as goal
+use Rattle.edge_rules.proofs.Words.{All-filter, HasEvent, flat_map, sym, ◌∙◌, ap, of_entry, planned_with}
+use Rattle.edge_rules.proofs.NoneFound.{entries-none_near, planned-unwaited}
+use Rattle.edge_rules.proofs.transfers.entries_near.Goals as goal
 
 pub returns-then-first-last-clause-edges : goal.returns-then-first-last-clause-edges
 returns-then-first-last-clause-edges c =
@@ -9,11 +8,11 @@ returns-then-first-last-clause-edges c =
     let v = c.args.at.now in
     let change = c.args.change.now in
     let empty = rw (c.times_near-first.ensures.first, c.times_near-first.ensures.last, c.window.ensures) at c.if-first-last.true in
-    sym (ap (flat_map (of_name g.state (planned_with g c.args.wanted.now v change.seconds))) (names-none_near g.network.opts.window c.args.index.now.entries c.args.wanted.now v.key.time change empty))
+    sym (ap (flat_map (of_entry g.state (planned_with g c.args.wanted.now v change.seconds))) (entries-none_near g.network.opts.window c.args.index.now.entries c.args.wanted.now v.key.time change empty))
 
 pub returns-then-not-may_wait_at-clause-edges : goal.returns-then-not-may_wait_at-clause-edges
 returns-then-not-may_wait_at-clause-edges c =
     sym (planned-unwaited c.args.graph.now c.args.index.now.entries c.args.wanted.now c.args.at.now c.args.change.now c.requires (sym c.are_into-into.ensures ∙ c.if-not-into.true) (c.may_wait_at.ensures c.if-not-may_wait_at.true))
 
 pub returns-clause-there : goal.returns-clause-there
-returns-clause-there c = rw c.range.ensures (names-in c.args.graph.now.state _ _ c.requires)
+returns-clause-there c = rw c.range.ensures (All-filter _ (HasEvent c.args.graph.now.state) c.args.index.now.entries c.requires)
