@@ -4,7 +4,7 @@ use Rattle.std.proofs.lemmas.Bool.{cases_Bool}
 use Rattle.std.proofs.lemmas.List.{append-nil, length-append}
 use Rattle.std.specs.Io.KnownBytes.{Consumes, Keeps}
 use Rattle.mt_io.specs.Lines.{Line, lines_past}
-use Rattle.mt_io.specs.Reader.{Reader, ahead, CanCome, Gives, HoldsNoLine, CanReadOn, work}
+use Rattle.mt_io.specs.Reader.{Reader, ahead, CanCome, Gives, HoldsNoLine, CanReadOn, IsWithinBudget, work}
 use Rattle.mt_io.specs.Steps.{Waits, Takes, TookNothing, SameCounts}
 use Rattle.mt_io.proofs.LineFacts.{no_line, none_past}
 
@@ -35,11 +35,26 @@ pub open_ended : {P : Type 0} (ended : Bool) → ended ≡ false → ended ≡ t
 open_ended true p q = absurd (cc)
 open_ended false p q = absurd (cc)
 
+-- a reader with the same counts is within its budget too
+pub within_same : (a b : Reader) → SameCounts a b → IsWithinBudget a → IsWithinBudget b
+within_same a b same h = record {
+  taken = omega (arith, same.taken, same.budget, h.taken);
+  ended = λ is. omega (arith, same.taken, same.budget, h.ended (sym same.ended ∙ is));
+}
+
+-- and one that took bytes: where none came it is at the end
+within_filled : (a b : Reader) (left now : Option (List ℕ)) (bytes : List ℕ) → Takes a b left now bytes → a.taken < a.budget → IsWithinBudget b
+within_filled a b left now bytes took more = record {
+  taken = took.within;
+  ended = λ is. omega (arith, took.taken, took.budget, more, ap length (took.end is).0);
+}
+
 pub gives_nothing : (r : Reader) (left : Option (List ℕ)) → Gives r r left left [] []
 gives_nothing r left = record {
   source = consumes_none left;
   taken = omega arith;
   budget = refl;
+  within = λ h. h;
   lines_ahead = λ rest ended can. refl;
   still_ended = λ is. (is, refl);
   end = λ not_yet is. open_ended r.ended not_yet is;
@@ -52,6 +67,7 @@ gives_held a b c left now bytes lines so_far same next = record {
   source = so_far.source;
   taken = same.taken ∙ so_far.taken;
   budget = same.budget ∙ so_far.budget;
+  within = λ h. within_same b c same (so_far.within h);
   lines_ahead = λ rest ended can. so_far.lines_ahead rest ended (λ is. can (same.ended ∙ is)) ∙ next rest ended can;
   still_ended = λ is. (same.ended ∙ (so_far.still_ended is).0, (so_far.still_ended is).1);
   end = λ not_yet is. so_far.end not_yet (sym same.ended ∙ is);
@@ -64,17 +80,19 @@ gives_after a b c left now bytes lines same first next = record {
   source = next.source;
   taken = next.taken ∙ ap (λ (n : ℕ). n + length bytes) same.taken;
   budget = next.budget ∙ same.budget;
+  within = λ h. next.within (within_same a b same h);
   lines_ahead = λ rest ended can. first (bytes ++ rest) ended ∙ next.lines_ahead rest ended can;
   still_ended = λ is. next.still_ended (same.ended ∙ is);
   end = λ not_yet is. next.end (same.ended ∙ not_yet) is;
 }
 
 -- more bytes were taken
-pub gives_fill : (a b c : Reader) (left mid now : Option (List ℕ)) (bytes more : List ℕ) → Gives a b left mid bytes [] → b.ended ≡ false → Takes b c mid now more → Gives a c left now (bytes ++ more) []
-gives_fill a b c left mid now bytes more so_far not_yet took = record {
+pub gives_fill : (a b c : Reader) (left mid now : Option (List ℕ)) (bytes more : List ℕ) → Gives a b left mid bytes [] → b.ended ≡ false → b.taken < b.budget → Takes b c mid now more → Gives a c left now (bytes ++ more) []
+gives_fill a b c left mid now bytes more so_far not_yet fewer took = record {
   source = consumes_more left mid now bytes more so_far.source took.source;
   taken = omega (arith, took.taken, so_far.taken, length-append bytes more);
   budget = took.budget ∙ so_far.budget;
+  within = λ h. within_filled b c mid now more took fewer;
   lines_ahead = λ rest ended can.
       ap (λ (l : List ℕ). ahead a l ended) (append_assoc bytes more rest)
       ∙ so_far.lines_ahead (more ++ rest) ended (λ is. open_ended b.ended not_yet is)
@@ -90,6 +108,7 @@ gives_kept a b c left mid now bytes so_far took not_yet = record {
   source = consumes_kept left mid now bytes so_far.source took.source;
   taken = took.counts.taken ∙ so_far.taken;
   budget = took.counts.budget ∙ so_far.budget;
+  within = λ h. within_same b c took.counts (so_far.within h);
   lines_ahead = λ rest ended can.
       so_far.lines_ahead rest ended (λ is. can (took.counts.ended ∙ is))
       ∙ (λ k. lines_past (sym took.inside_long k) ended (sym took.held k ++ rest));

@@ -1,5 +1,5 @@
 -- What a line reader has, and what a call of it does.
-use Rattle.std.specs.Prelude.{ℕ, ◌≡◌, ◌+◌, ◌-◌, ◌<◌, List, [], ◌++◌, Bool, true, false, length}
+use Rattle.std.specs.Prelude.{ℕ, ◌≡◌, ◌+◌, ◌-◌, ◌<◌, ◌≤◌, List, [], ◌++◌, Bool, true, false, length}
 use Rattle.std.specs.declared.option.Option.{Option}
 use Rattle.std.specs.Io.KnownBytes.{Consumes, IsAtEnd}
 use Rattle.mt_io.specs.Lines.{Line, lines_past}
@@ -26,6 +26,11 @@ HoldsNoLine r = lines_past r.inside_long false r.held ≡ []
 abbrev pub CanCome : Reader → List ℕ → Bool → Type 0
 CanCome r rest ended = r.ended ≡ true → (rest ≡ []) × (ended ≡ true)
 
+-- no more bytes were taken than may be, and fewer once the end was read
+pub record IsWithinBudget (r : Reader) : Type 0 where
+  pub taken : r.taken ≤ r.budget
+  pub ended : r.ended ≡ true → r.taken < r.budget
+
 -- A call took these bytes from the source and answered these lines. Whatever comes then, the lines
 -- of what was held, of the bytes and of what comes are those answered, followed by those of what is
 -- held now and of what comes.
@@ -34,6 +39,7 @@ pub record Gives (old new : Reader) (left left_now : Option (List ℕ)) (bytes :
   pub source : Consumes left left_now bytes
   pub taken : new.taken ≡ old.taken + length bytes
   pub budget : new.budget ≡ old.budget
+  pub within : IsWithinBudget old → IsWithinBudget new
   pub lines_ahead : (rest : List ℕ) (ended : Bool) → CanCome new rest ended
       → ahead old (bytes ++ rest) ended ≡ lines ++ ahead new rest ended
   pub still_ended : old.ended ≡ true → (new.ended ≡ true) × (bytes ≡ [])

@@ -26,7 +26,9 @@ returns-in-Some-clause-gives g c =
     let so_far = c.loop-self.invariant.gives in
     let fill = c.in-Ok.ensures.ok in
     let not_yet : c.loop-self.self.ended ≡ false = sym (ap (λ (r : Reader). r.ended) c.self.view_is) ∙ c.if-self.false in
-    let filled = gives_fill a c.loop-self.self b (left c.args.source.now) (left c.loop-self.source) (left c.fill.new.source) so_far.0 fill.0 so_far.1 not_yet fill.1 in
+    let taken : c.self.inside.taken ≡ c.loop-self.self.taken = ap (λ (r : Reader). r.taken) c.self.view_is in
+    let budget : c.self.inside.budget ≡ c.loop-self.self.budget = ap (λ (r : Reader). r.budget) c.self.view_is in
+    let filled = gives_fill a c.loop-self.self b (left c.args.source.now) (left c.loop-self.source) (left c.fill.new.source) so_far.0 fill.0 so_far.1 not_yet (omega (arith, taken, budget, c.if-self-2.false, c.self.invariant)) fill.1 in
     (so_far.0 ++ fill.0, gives_held a b c.take_held.new.self (left c.args.source.now) (left c.fill.new.source) (so_far.0 ++ fill.0) _ filled c.in-Some.ensures.counts (λ rest ended can. c.in-Some.ensures.found.1 rest ended))
 
 pub loop-self-preserved : goal.loop-self-preserved
@@ -40,7 +42,7 @@ loop-self-preserved g c =
     let not_yet : c.loop-self.self.ended ≡ false = sym (ap (λ (r : Reader). r.ended) c.self.view_is) ∙ c.if-self.false in
     let taken : c.self.inside.taken ≡ c.loop-self.self.taken = ap (λ (r : Reader). r.taken) c.self.view_is in
     let budget : c.self.inside.budget ≡ c.loop-self.self.budget = ap (λ (r : Reader). r.budget) c.self.view_is in
-    let filled = gives_fill a c.loop-self.self b (left c.args.source.now) (left c.loop-self.source) (left c.fill.new.source) so_far.0 fill.0 so_far.1 not_yet fill.1 in
+    let filled = gives_fill a c.loop-self.self b (left c.args.source.now) (left c.loop-self.source) (left c.fill.new.source) so_far.0 fill.0 so_far.1 not_yet (omega (arith, taken, budget, c.if-self-2.false, c.self.invariant)) fill.1 in
     record {
       gives = (so_far.0 ++ fill.0, gives_held a b c.take_held.new.self (left c.args.source.now) (left c.fill.new.source) (so_far.0 ++ fill.0) [] filled held.counts (λ rest ended can. held.none.1 rest ended));
       waits = held.none.0;
