@@ -1,7 +1,9 @@
 //! The adapters of the operating system: a source over any reader, a sink over any writer, and a
 //! feed over the folders of the file system. The sink and the feed tell nothing of content, and a
 //! source what the reader below it tells. Each raises its count at each fault.
-ghost use Rattle.std.specs.Prelude.{◌≡◌, None};
+ghost use Rattle.std.specs.Prelude.{◌≡◌, ◌≢◌, ◌<◌, ◌≤◌, Err, IfOk, None, Ok, Some, length, take};
+ghost use Rattle.std.specs.Io.{WritesAtMost};
+ghost use Rattle.std.specs.Io.KnownBytes.{Appends};
 
 use crate::shelf::LONGEST;
 use crate::traits::{Failed, Feed, FeedFault, Sink, Source};
@@ -65,19 +67,28 @@ impl<W: Write> Sink for StdSink<W> {
     ghost faults = { λ s. s.faults };
 
     fn write(&mut self, bytes: &[u8]) -> Result<usize, Failed> {
-        match self.inner.write(bytes) {
-            Ok(count) if count > 0 || bytes.is_empty() => {
-                if self.inner.flush().is_ok() {
-                    return Ok(count);
-                }
-                self.faults = self.faults.saturating_add(1);
-                Err(Failed)
-            }
-            _ => {
-                self.faults = self.faults.saturating_add(1);
-                Err(Failed)
-            }
+        let result = write_front(&mut self.inner, bytes);
+        if result.is_err() {
+            self.faults = self.faults.saturating_add(1);
         }
+        result
+    }
+}
+
+/// Writes a front of `bytes`, of at least one byte where there is one, and flushes it. `Failed`
+/// where the writer takes nothing or fails.
+fn write_front<W: Write>(writer: &mut W, bytes: &[u8]) -> Result<usize, Failed>
+    ensures bound { WritesAtMost result bytes.now }
+    ensures bytes { IfOk result (λ n. Appends (W.contents writer.old) (W.contents writer.new)
+        (take n bytes.now)) }
+    ensures progress { IfOk result (λ n. 0 < length bytes.now → 0 < n) }
+{
+    match writer.write(bytes) {
+        Ok(count) if count > 0 || bytes.is_empty() => match writer.flush() {
+            Ok(()) => Ok(count),
+            Err(_) => Err(Failed),
+        },
+        _ => Err(Failed),
     }
 }
 
@@ -119,15 +130,38 @@ impl<R: Files> Feed for FolderFeed<R> {
     ghost faults = { λ s. s.faults };
 
     fn table(&mut self, folder: &str, name: &str) -> Result<Option<Vec<u8>>, FeedFault> {
-        match self.front(folder, name) {
-            Ok(bytes) if bytes.len() <= LONGEST => Ok(Some(bytes)),
-            Ok(_) => Err(FeedFault::TooLong),
-            Err(e) if e.kind() == ErrorKind::NotFound => Ok(None),
-            Err(e) if e.kind() == ErrorKind::OutOfMemory => Err(FeedFault::OutOfMemory),
-            Err(_) => {
-                self.faults = self.faults.saturating_add(1);
-                Err(FeedFault::Failed)
-            }
+        let result = match self.front(folder, name) {
+            Ok(bytes) => table_of(bytes),
+            Err(e) => table_without(e.kind()),
+        };
+        if let Err(FeedFault::Failed) = &result {
+            self.faults = self.faults.saturating_add(1);
         }
+        result
+    }
+}
+
+/// The table that these bytes are, of a file or of a front of it that is too long for a table.
+fn table_of(bytes: Vec<u8>) -> Result<Option<Vec<u8>>, FeedFault>
+    ensures table { length bytes.items ≤ 268435456 → result ≡ Ok (Some bytes) }
+    ensures long { 268435456 < length bytes.items → result ≡ Err FeedFault.TooLong }
+{
+    if bytes.len() > LONGEST {
+        return Err(FeedFault::TooLong);
+    }
+    Ok(Some(bytes))
+}
+
+/// What a file that could not be read comes to: no table only where there is no such file.
+fn table_without(kind: ErrorKind) -> Result<Option<Vec<u8>>, FeedFault>
+    ensures absent { kind ≡ ErrorKind.NotFound → result ≡ Ok None }
+    ensures memory { kind ≡ ErrorKind.OutOfMemory → result ≡ Err FeedFault.OutOfMemory }
+    ensures failed { kind ≢ ErrorKind.NotFound → kind ≢ ErrorKind.OutOfMemory
+        → result ≡ Err FeedFault.Failed }
+{
+    match kind {
+        ErrorKind::NotFound => Ok(None),
+        ErrorKind::OutOfMemory => Err(FeedFault::OutOfMemory),
+        _ => Err(FeedFault::Failed),
     }
 }
