@@ -65,8 +65,14 @@ fn what_was_posted_is_seen(rt: HostRuntime) -> Result<(), Fail> {
         &rt,
         rt.alloc(),
         NewHistory::new(),
-        Sum { total: 0 },
-        Sum { total: 0 },
+        Sum {
+            total: 0,
+            followed: 0,
+        },
+        Sum {
+            total: 0,
+            followed: 0,
+        },
     )
 }
 
@@ -111,8 +117,14 @@ fn viewers_look_beside_the_publisher(rt: HostRuntime) -> Result<(), Fail> {
         &rt,
         rt.alloc(),
         NewHistory::new(),
-        Sum { total: 0 },
-        Sum { total: 0 },
+        Sum {
+            total: 0,
+            followed: 0,
+        },
+        Sum {
+            total: 0,
+            followed: 0,
+        },
     )?;
     assert!(rt; fine);
     Ok(())
@@ -196,8 +208,14 @@ fn a_post_is_taken_inside_a_look(rt: HostRuntime) -> Result<(), Fail> {
         &rt,
         rt.alloc(),
         NewHistory::new(),
-        Sum { total: 0 },
-        Sum { total: 0 },
+        Sum {
+            total: 0,
+            followed: 0,
+        },
+        Sum {
+            total: 0,
+            followed: 0,
+        },
     )?;
     assert!(rt; fine);
     Ok(())
@@ -232,8 +250,14 @@ fn two_looks_are_open_at_once(rt: HostRuntime) -> Result<(), Fail> {
         &rt,
         rt.alloc(),
         NewHistory::new(),
-        Sum { total: 0 },
-        Sum { total: 0 },
+        Sum {
+            total: 0,
+            followed: 0,
+        },
+        Sum {
+            total: 0,
+            followed: 0,
+        },
     )?;
     assert!(rt; fine);
     Ok(())
@@ -291,6 +315,44 @@ fn look_at_once<H: Opening<u64> + Send + Sync, R: Threads + Wait + Sync>(
 }
 
 #[test]
+fn the_older_copy_follows(rt: HostRuntime) -> Result<(), Fail> {
+    let followed = followed_posts::<Brand, _>(
+        &rt,
+        rt.alloc(),
+        NewHistory::new(),
+        Sum {
+            total: 0,
+            followed: 0,
+        },
+        Sum {
+            total: 0,
+            followed: 0,
+        },
+    )?;
+    assert_eq!(rt; followed, 3);
+    Ok(())
+}
+
+// Posts seven messages, and says how many of them the copy that is shown last took as the other one
+// had taken them.
+fn followed_posts<H: Opening<u64>, R: Wait>(
+    rt: &R,
+    alloc: Global,
+    history: NewHistory<u32>,
+    first: Sum,
+    second: Sum,
+) -> Result<u64, Fail>
+    requires book { history ≡ H.book }
+    requires opening { H.opening ≡ Some first.total }
+    requires alike { first.total ≡ second.total }
+{
+    let (mut publisher, viewers) = open_board::<Sum, H, R>(rt, alloc, history, first, second, 1)?;
+    let posted = post_often(rt, &mut publisher, 7);
+    let last = publisher.close(rt, viewers);
+    Ok(if posted { last.followed } else { 0 })
+}
+
+#[test]
 fn posts_want_no_memory(rt: HostRuntime) -> Result<(), Fail> {
     let heap = LocalHeap::new(rt.alloc(), 1 << 16)?;
     let fine = post_without_memory::<Brand, _>(
@@ -298,8 +360,14 @@ fn posts_want_no_memory(rt: HostRuntime) -> Result<(), Fail> {
         rt.alloc(),
         &heap,
         NewHistory::new(),
-        Sum { total: 0 },
-        Sum { total: 0 },
+        Sum {
+            total: 0,
+            followed: 0,
+        },
+        Sum {
+            total: 0,
+            followed: 0,
+        },
     )?;
     assert!(rt; fine);
     Ok(())

@@ -7,6 +7,9 @@ use crate::replay::Replay;
 #[derive(Drop)]
 pub struct Sum {
     pub total: u64,
+
+    /// How many messages it took as another sum had taken them.
+    pub followed: u64,
 }
 
 impl Replay for Sum {
@@ -24,5 +27,6 @@ impl Replay for Sum {
 
     fn follow(&mut self, _m: &u32, other: &Sum) {
         self.total = other.total;
+        self.followed = self.followed.saturating_add(1);
     }
 }
