@@ -1,5 +1,8 @@
 ghost use Rattle.std.specs.Prelude.{Some};
 
+mod files;
+mod streams;
+
 use crate::{
     Failed, Feed, FeedFault, FolderFeed, Gate, Hold, LineReader, MemFeed, MemSink, MemSource, Next,
     NoGate, Point, Sink, Source, StdSink, StdSource, SureFeed, SureSink, SureSource, TurnGate, put,
