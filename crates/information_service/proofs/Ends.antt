@@ -1,7 +1,9 @@
 -- How answering ends: what was taken, and what the lines leave.
-use Rattle.information_service.proofs.Words.{◌≡◌, ◌∙◌, ℕ, List, [], ◌++◌, Option, Some, None, Result, Ok, Err, sym, ap, refl, subst, true, false, Appends-nil, append-nil, none-some, same_Some, Consumes, IsAtEnd, Network, State, table, Line, lines_of, Reader, consumes_none, Names, WhereLinesStop, AreAnswered, AppendsReplies, IsOutput, ServiceState}
-use Rattle.std.specs.Prelude.{IfErr}
+use Rattle.information_service.proofs.Words.{◌≡◌, ◌∙◌, ℕ, List, [], ◌++◌, arith, Option, Some, None, Result, Ok, Err, sym, ap, refl, subst, true, false, Appends-nil, append-nil, none-some, same_Some, Consumes, IsAtEnd, Network, State, table, Line, lines_of, Reader, consumes_none, Names, WhereLinesStop, AreAnswered, AppendsReplies, IsOutput, ServiceState}
+use Rattle.std.specs.Prelude.{IfErr, OnOk}
 use Rattle.std.specs.Result.{IsErrAnd}
+use Rattle.information_service.specs.Causes.{TookAtMost, TookFewer}
+use Rattle.information_service.specs.Fronts.{IsTaken}
 use Rattle.mt_io.specs.Reader.{IsDone}
 use Rattle.mt_io.proofs.Runs.{ends}
 use Rattle.information_service.specs.declared.fault.LinesFault.{LinesFault}
@@ -14,13 +16,30 @@ all_taken (Some xs) None bytes all source end is = absurd source
 all_taken (Some xs) (Some ys) bytes all source end is =
     sym (append-nil all) ∙ ap (λ (r : List ℕ). all ++ r) (sym end) ∙ sym source ∙ same_Some xs bytes is
 
--- at the end of the input the replies and the table are a whole output
+-- at the end of the input the replies and the table are a whole output of the bytes that were taken
+pub whole_of_taken : {first now : ServiceState} {r : Reader} {left left_now written between : Option (List ℕ)} {all : List ℕ} {lines : List Line}
+    → IsDone r → (a : AreAnswered first now r left left_now written between all lines)
+    → IsOutput first.network first.names first.state (lines_of true all) (a.output.shown ++ table now.network now.names now.state)
+whole_of_taken {r = r} {all = all} {lines = lines} done a =
+    rw (ends all lines r a.taken.lines_so_far done)
+    (record { shown = a.output.shown; replies = a.output.is; all = ap (λ (t : ServiceState). a.output.shown ++ table t.network t.names t.state) a.service })
+
+-- and so of all its bytes
 pub whole_output : {first now : ServiceState} {r : Reader} {left left_now written between : Option (List ℕ)} {all : List ℕ} {lines : List Line} (bytes : List ℕ)
     → IsDone r → (a : AreAnswered first now r left left_now written between all lines) → left ≡ Some bytes
     → IsOutput first.network first.names first.state (lines_of true bytes) (a.output.shown ++ table now.network now.names now.state)
-whole_output {first = first} {r = r} {left = left} {left_now = left_now} {all = all} {lines = lines} bytes done a told =
-    rw (ap (lines_of true) (sym (all_taken left left_now bytes all a.taken.source (a.taken.end done.ended) told)) ∙ ends all lines r a.taken.lines_so_far done)
-    (record { shown = a.output.shown; replies = a.output.is; all = ap (λ (t : ServiceState). a.output.shown ++ table t.network t.names t.state) a.service })
+whole_output {first = first} {now = now} {left = left} {left_now = left_now} {all = all} bytes done a told =
+    subst (λ (bs : List ℕ). IsOutput first.network first.names first.state (lines_of true bs) (a.output.shown ++ table now.network now.names now.state)) (all_taken left left_now bytes all a.taken.source (a.taken.end done.ended) told) (whole_of_taken done a)
+
+-- no more bytes were taken than may be, and fewer where the end was read
+pub at_most_taken : {r : Reader} {left left_now : Option (List ℕ)} {bytes : List ℕ} {lines : List Line} (budget : ℕ) → r.budget ≡ budget → IsTaken r left left_now bytes lines → TookAtMost budget left left_now
+at_most_taken {bytes = bytes} budget is t = (bytes, t.source, omega (arith, is, t.within.taken, t.lines_so_far.taken))
+
+pub fewer_taken : {r : Reader} {left left_now : Option (List ℕ)} {bytes : List ℕ} {lines : List Line} (budget : ℕ) → r.budget ≡ budget → IsTaken r left left_now bytes lines → r.ended ≡ true → TookFewer budget left left_now
+fewer_taken {bytes = bytes} budget is t ended = (bytes, t.source, omega (arith, is, t.within.ended ended, t.lines_so_far.taken))
+
+pub none_taken : (budget : ℕ) (left : Option (List ℕ)) → TookAtMost budget left left
+none_taken budget left = ([], consumes_none left, omega arith)
 
 -- before the first line nothing was taken, and nothing is written
 pub nothing_yet : (nw : Network) (names : Names) (st : State) (left written : Option (List ℕ))
@@ -37,6 +56,11 @@ each_fault (Err f) P all = all f
 pub handed_on : {E : Type 0} (run : Result (Unit {0}) E) (f : E) (Q : E → Type 0) → IsErrAnd run (λ e. e ≡ f) → Q f → IfErr run Q
 handed_on (Ok u) f Q is q = tt
 handed_on (Err e) f Q is q = subst Q (sym is) q
+
+-- what holds whether a run went well or not
+pub either-way : {E P : Type 0} (run : Result (Unit {0}) E) → OnOk run P → IfErr run (λ f. P) → P
+either-way (Ok u) well not_well = well
+either-way (Err f) well not_well = not_well
 
 pub where_also : (T U : Type 0) (f : LinesFault) → (T → U) → WhereLinesStop T f → WhereLinesStop U f
 where_also T U ReadFault h t = h t

@@ -1,10 +1,14 @@
 -- Fronts of what is to be written, one after the other.
-use Rattle.information_service.proofs.Words.{◌≡◌, ◌∙◌, ◌+◌, ◌≤◌, ℕ, zero, suc, List, [], ◌++◌, Option, Some, None, sym, subst, ap, refl, append_assoc, arith, true, inr, Appends-nil, Appends-trans, append-nil, none-some, same_Some, Appends, Consumes, IsAtEnd, Network, State, header, rows_from, rows_of_train, Line, lines_of, Reader, Names, AreAnswered, AppendsFirstReplies, AppendsFront, Begun, ServiceState}
-use Rattle.std.proofs.Common.{◌-◌, take, drop}
+use Rattle.information_service.proofs.Words.{◌≡◌, ◌∙◌, ◌+◌, ◌≤◌, ℕ, zero, suc, List, [], ◌++◌, Option, sym, subst, ap, refl, append_assoc, arith, true, inr, Appends-nil, Appends-trans, append-nil, Appends, Network, State, header, rows_from, rows_of_train, Line, lines_of, Reader, Names, AreAnswered, AppendsFirstReplies, AppendsFront, Begun, ServiceState}
+use Rattle.std.proofs.Common.{◌-◌, Bool, inl, false, take, drop}
 use Rattle.std.proofs.lemmas.List.{take-append-drop}
+use Rattle.std.specs.Prelude.{Result, Ok, Err, OnOk, IfErr}
 use Rattle.mt_io.specs.Causes.{AppendsPart}
 use Rattle.mt_io.specs.Reader.{ahead}
-use Rattle.information_service.specs.Fronts.{AppendsOutput, AppendsOutputFront}
+use Rattle.std.proofs.lemmas.Bool.{cases_Bool}
+use Rattle.mt_io.specs.Runs.{HasAnswered}
+use Rattle.mt_io.proofs.Gives.{open_ended}
+use Rattle.information_service.specs.Fronts.{AppendsFirst, AppendsOutputFront, EndWasRead, IsTaken}
 
 pub front_none : (a : Option (List ℕ)) (bytes : List ℕ) → AppendsFront a a bytes
 front_none a bytes = record { front = []; rest = bytes; written = Appends-nil a; all = refl }
@@ -27,6 +31,11 @@ front_after a b c bytes more w f =
       written = Appends-trans a b c bytes f.front w f.written;
       all = append_assoc bytes f.front f.rest ∙ ap (λ (bs : List ℕ). bytes ++ bs) f.all;
     }
+
+-- what was written, whether all went well or not, is a front
+pub front_of_result : {E : Type 0} (run : Result (Unit {0}) E) (a b : Option (List ℕ)) (bytes : List ℕ) → OnOk run (Appends a b bytes) → IfErr run (λ f. AppendsFront a b bytes) → AppendsFront a b bytes
+front_of_result (Ok u) a b bytes all part = front_all a b bytes all
+front_of_result (Err f) a b bytes all part = part
 
 -- the rows of the first trains are a front of the rows of more
 rows-split : (names : Names) (nw : Network) (st : State) (first m n : ℕ) → rows_from names nw st first (m + n) ≡ rows_from names nw st first m ++ rows_from names nw st (first + m) n
@@ -56,29 +65,37 @@ table_front names nw st a b m count l f =
     ∙ ap (λ (bs : List ℕ). header ++ bs) (sym (rows-split names nw st 0 m (count - m)) ∙ ap (rows_from names nw st 0) is))
     (front_longer a b (header ++ rows_from names nw st 0 m) (rows_from names nw st (0 + m) (count - m)) f)
 
--- the lines of the whole input begin with those that were answered
-pub first_lines : (r : Reader) (left left_now : Option (List ℕ)) (taken bytes : List ℕ) (lines : List Line) → Consumes left left_now taken → left ≡ Some bytes
-    → (r.ended ≡ true → IsAtEnd left_now) → Rattle.mt_io.specs.Runs.HasAnswered taken lines r → (more : List Line) × (lines_of true bytes ≡ lines ++ more)
-first_lines r None now taken bytes lines source is end answered = absurd (none-some bytes is)
-first_lines r (Some xs) None taken bytes lines source is end answered = absurd source
-first_lines r (Some xs) (Some ys) taken bytes lines source is end answered =
-    (ahead r ys true, ap (lines_of true) (sym (same_Some xs bytes is) ∙ source) ∙ answered.lines_ahead ys true (λ ended. (end ended, refl)))
+-- the lines of the bytes that were taken begin with those that were answered
+pub first_lines : (r : Reader) (ended : Bool) (taken : List ℕ) (lines : List Line) → (r.ended ≡ true → ended ≡ true) → HasAnswered taken lines r → (more : List Line) × (lines_of ended taken ≡ lines ++ more)
+first_lines r ended taken lines can answered =
+    (ahead r [] ended, ap (lines_of ended) (sym (append-nil taken)) ∙ answered.lines_ahead [] ended (λ is. (refl, can is)))
 
--- what was written of the replies to the lines that were taken is a front of a whole output
-pub output_front : {first : ServiceState} {r : Reader} {left left_now written written_now : Option (List ℕ)} {taken : List ℕ} {lines : List Line} (bytes : List ℕ)
-    → Begun first r left left_now written written_now taken lines → left ≡ Some bytes
-    → AppendsFirstReplies first.network first.names first.state (lines_of true bytes) written written_now
-output_front {r = r} {left = left} {left_now = left_now} {taken = taken} {lines = lines} bytes b is =
-    let more = first_lines r left left_now taken bytes lines b.taken.source is b.taken.end b.taken.lines_so_far in
-    let f = b.output in
-    record {
-      first = f.first;
-      later = f.later ++ more.0;
-      shown = f.shown;
-      split = sym (append_assoc f.first f.later more.0) ∙ ap (λ (ls : List Line). ls ++ more.0) f.split ∙ sym more.1;
-      is = f.is;
-      front = f.front;
-    }
+-- where the end was read, fewer bytes were taken than may be
+pub end_was_read : {r : Reader} {left left_now : Option (List ℕ)} {bytes : List ℕ} {lines : List Line} (budget : ℕ) → r.budget ≡ budget → IsTaken r left left_now bytes lines → r.ended ≡ true → EndWasRead budget left_now bytes
+end_was_read budget is t ended = record { left = t.end ended; fewer = omega (arith, is, t.within.ended ended, t.lines_so_far.taken) }
+
+-- a front of the replies to the first of some lines is one of more lines
+first_of : {Are : List Line → List ℕ → Type 0} {lines : List Line} {old new : Option (List ℕ)} (all more : List Line) → all ≡ lines ++ more → AppendsFirst Are lines old new → AppendsFirst Are all old new
+first_of all more is f = record {
+  first = f.first;
+  later = f.later ++ more;
+  shown = f.shown;
+  split = sym (append_assoc f.first f.later more) ∙ ap (λ (ls : List Line). ls ++ more) f.split ∙ sym is;
+  is = f.is;
+  front = f.front;
+}
+
+-- what was written of the replies to the lines that were taken is a front of an output
+pub output_front : {first : ServiceState} {r : Reader} {left left_now written written_now : Option (List ℕ)} {taken : List ℕ} {lines : List Line} (budget : ℕ) → r.budget ≡ budget
+    → Begun first r left left_now written written_now taken lines → AppendsOutputFront first.network first.names first.state budget left left_now written written_now
+output_front {first = first} {r = r} {left = left} {left_now = left_now} {taken = taken} {lines = lines} budget is b = elim (cases_Bool r.ended) [
+  | inl was ↦
+      let more = first_lines r true taken lines (λ is. refl) b.taken.lines_so_far in
+      record { bytes = taken; took = b.taken.source; front = inr (end_was_read budget is b.taken was, inl (first_of (lines_of true taken) more.0 more.1 b.output)) }
+  | inr not_yet ↦
+      let more = first_lines r false taken lines (λ is. open_ended r.ended not_yet is) b.taken.lines_so_far in
+      record { bytes = taken; took = b.taken.source; front = inl (first_of (lines_of false taken) more.0 more.1 b.output) }
+]
 
 -- the replies to the lines that were answered, and to none of those behind them
 pub first_replies : {first now : ServiceState} {r : Reader} {left left_now written written_now : Option (List ℕ)} {bytes : List ℕ} {lines : List Line} (later : List Line)
@@ -94,7 +111,3 @@ begun_by {first = first} {written = written} {written_now = written_now} {lines 
       taken = a.taken;
       output = subst (λ (ls : List Line). AppendsFirstReplies first.network first.names first.state ls written written_now) (append-nil lines) (first_replies [] a);
     }
-
--- a whole output is a front of itself
-pub output_is_front : {nw : Network} {names : Names} {st : State} {lines : List Line} {old new : Option (List ℕ)} → AppendsOutput nw names st lines old new → AppendsOutputFront nw names st lines old new
-output_is_front {old = old} {new = new} a = inr (a.shown, a.is, front_all old new a.shown a.written)

@@ -1,5 +1,5 @@
 -- One more line: the state of the service, the replies, and what was taken from the input.
-use Rattle.information_service.proofs.Words.{◌≡◌, ◌≤◌, ℕ, ◌+◌, List, [], ◌∷◌, ◌++◌, is_none, true, false, Option, Some, None, Result, Ok, Err, refl, sym, ◌∙◌, ap, subst, length, arith, append_assoc, inl, inr, Appends-nil, Appends-trans, cases_Bool, append-nil, Appends, Consumes, IsAtEnd, Message, Refusal, Network, State, accepted_message, refusal, Reply, text_of_reply, Wire, BadLine, resolved, Line, Reader, GivesNext, next_lines, consumes_none, Names, AreAnswered, AppendsFirstReplies, AppendsFront, Begun, said_by, messages_of, names_with, by_names, reply_to_message, IsReply, IsReplyTo, IsTextAfter, AreReplies, ServiceState, after_line}
+use Rattle.information_service.proofs.Words.{◌≡◌, ◌≤◌, ℕ, ◌+◌, List, [], ◌∷◌, ◌++◌, is_none, true, false, Option, Some, None, Result, Ok, Err, refl, sym, ◌∙◌, ap, subst, length, arith, append_assoc, inl, inr, Appends-nil, Appends-trans, cases_Bool, append-nil, Appends, IsAtEnd, Message, Refusal, Network, State, accepted_message, refusal, Reply, text_of_reply, Wire, BadLine, resolved, Line, Reader, GivesNext, next_lines, consumes_none, Names, AreAnswered, AppendsFirstReplies, AppendsFront, Begun, said_by, messages_of, names_with, by_names, reply_to_message, IsReply, IsReplyTo, IsTextAfter, AreReplies, ServiceState, after_line}
 use Rattle.std.proofs.Common.{cond}
 use Rattle.std.proofs.lemmas.List.Sums.{fold-append}
 use Rattle.std.proofs.lemmas.List.Elements.{filter_map-append}
@@ -11,9 +11,10 @@ use Rattle.message_reader.specs.declared.wire.Line.TheVariants.{Message as Says,
 use Rattle.message_reader.specs.Lines.{message_in}
 use Rattle.mt_io.specs.Answers.{LeavesNext}
 use Rattle.mt_io.specs.declared.lines.Next.{Next}
-use Rattle.mt_io.specs.Runs.{fresh, HasAnswered}
+use Rattle.mt_io.specs.Runs.{fresh}
 use Rattle.mt_io.proofs.Gives.{consumes_more, open_ended}
 use Rattle.mt_io.proofs.Runs.{begins, goes_on}
+use Rattle.mt_io.specs.Reader.{IsWithinBudget}
 use Rattle.information_service.specs.Fronts.{IsTaken}
 use Rattle.information_service.proofs.Fronts.{front_after}
 use Rattle.information_service.specs.Output.{reply_by_refusal}
@@ -114,14 +115,19 @@ taken-more {old = old} {new = new} {left = left} {left_old = left_old} {left_new
     source = consumes_more left left_old left_new bytes gives.0 taken.source gives.1.source;
     lines_so_far = goes_on bytes gives.0 lines more old new left_old left_new taken.lines_so_far gives.1;
     end = λ ended. elim (cases_Bool old.ended) [ inl was ↦ subst IsAtEnd (sym (same was)) (taken.end was) | inr not_yet ↦ gives.1.end not_yet ended ];
+    within = gives.1.within taken.within;
   },
 )
+
+-- a new reader is within its budget
+pub within_new : (budget : ℕ) → IsWithinBudget (fresh budget)
+within_new budget = record { taken = omega arith; ended = λ is. open_ended false refl is }
 
 -- before the first line
 pub nothing_answered : (t : ServiceState) (budget : ℕ) (r : Reader) (left written : Option (List ℕ)) → r ≡ fresh budget → t.count ≡ 0 → AreAnswered t t r left left written written [] []
 nothing_answered t budget r left written new none =
     rw new (record {
-      taken = record { source = consumes_none left; lines_so_far = begins budget; end = λ is. open_ended false refl is };
+      taken = record { source = consumes_none left; lines_so_far = begins budget; end = λ is. open_ended false refl is; within = within_new budget };
       output = record { shown = []; is = refl; written = Appends-nil written };
       service = ap (λ (n : ℕ). record { network = t.network; state = t.state; count = n; names = t.names }) none;
     })

@@ -1,10 +1,11 @@
 -- Why answering lines stops before its end, and what it then has done.
-use Rattle.std.specs.Prelude.{ℕ, ◌≡◌, List, length, Result, Ok, Err}
+use Rattle.std.specs.Prelude.{ℕ, ◌≡◌, ◌<◌, ◌≤◌, List, length, Result, Ok, Err}
 use Rattle.std.specs.declared.option.Option.{Option}
 use Rattle.std.specs.Io.KnownBytes.{Consumes}
 use Rattle.mt_io.specs.Causes.{counted}
 use Rattle.information_service.specs.declared.fault.LinesFault.{LinesFault}
-use Rattle.information_service.specs.declared.fault.LinesFault.TheVariants.{ReadFault, WriteFault, OutOfMemory, TooLong}
+use Rattle.information_service.specs.declared.fault.LinesFault.TheVariants.{ReadFault, WriteFault}
+use Rattle.information_service.specs.declared.fault.LinesFault.TheVariants.{OutOfMemory, TooLong}
 
 -- the count of failed reads of an input after a run with this result, by the count before it: one
 -- more where the run stopped because a read failed, else the same
@@ -38,7 +39,18 @@ WhereLinesStop holds WriteFault = Unit {0}
 WhereLinesStop holds OutOfMemory = Unit {0}
 WhereLinesStop holds TooLong = holds
 
+-- where the input tells its bytes, the number of those that were taken is one of these
+abbrev pub Took : (ℕ → Type 0) → Option (List ℕ) → Option (List ℕ) → Type 0
+Took Is left left_now = (bytes : List ℕ) × Consumes left left_now bytes × Is (length bytes)
+
 -- as many bytes were taken as may be
 abbrev pub TookAll : ℕ → Option (List ℕ) → Option (List ℕ) → Type 0
-TookAll budget left left_now = (bytes : List ℕ) × Consumes left left_now bytes
-    × (length bytes ≡ budget)
+TookAll budget = Took (λ n. n ≡ budget)
+
+-- no more bytes were taken than may be
+abbrev pub TookAtMost : ℕ → Option (List ℕ) → Option (List ℕ) → Type 0
+TookAtMost budget = Took (λ n. n ≤ budget)
+
+-- fewer bytes were taken than may be
+abbrev pub TookFewer : ℕ → Option (List ℕ) → Option (List ℕ) → Type 0
+TookFewer budget = Took (λ n. n < budget)

@@ -1,11 +1,11 @@
 -- What was taken from the input, and what of its output is written.
-use Rattle.std.specs.Prelude.{ℕ, ◌≡◌, ◌⊎◌, ◌++◌, List, [], true}
+use Rattle.std.specs.Prelude.{ℕ, ◌≡◌, ◌<◌, ◌⊎◌, ◌++◌, List, [], length, true, false}
 use Rattle.std.specs.declared.option.Option.{Option}
 use Rattle.std.specs.Io.KnownBytes.{Appends, Consumes, IsAtEnd}
 use Rattle.delay_model.specs.declared.network.Network.{Network}
 use Rattle.delay_model.specs.declared.state.State.{State}
-use Rattle.mt_io.specs.Lines.{Line}
-use Rattle.mt_io.specs.Reader.{Reader}
+use Rattle.mt_io.specs.Lines.{Line, lines_of}
+use Rattle.mt_io.specs.Reader.{Reader, IsWithinBudget}
 use Rattle.mt_io.specs.Runs.{HasAnswered}
 use Rattle.schedule_build.specs.Directory.{Names}
 use Rattle.information_service.specs.Output.{AreReplies, IsOutput}
@@ -42,6 +42,22 @@ abbrev pub AppendsWholeFront : (List Line → List ℕ → Type 0) → (List Lin
 AppendsWholeFront IsWhole Are lines old new =
     AppendsFirst Are lines old new ⊎ ((all : List ℕ) × IsWhole lines all × AppendsFront old new all)
 
+-- the end of an input was read: nothing is left of it, and fewer bytes were taken than may be
+pub record EndWasRead (budget : ℕ) (left_now : Option (List ℕ)) (bytes : List ℕ) : Type 0 where
+  pub left : IsAtEnd left_now
+  pub fewer : length bytes < budget
+
+-- a front was written of what is to be written for the bytes that were taken from an input: of the
+-- replies to the first of the lines that are whole among them; or, where the end of the input was
+-- read, of the replies to the first of all their lines, or of a whole output
+pub record AppendsTakenFront (IsWhole Are : List Line → List ℕ → Type 0) (budget : ℕ)
+    (left left_now written written_now : Option (List ℕ)) : Type 0 where
+  pub bytes : List ℕ
+  pub took : Consumes left left_now bytes
+  pub front : AppendsFirst Are (lines_of false bytes) written written_now
+      ⊎ (EndWasRead budget left_now bytes
+      × AppendsWholeFront IsWhole Are (lines_of true bytes) written written_now)
+
 -- replies to these lines, which begin an input, were written
 abbrev pub AppendsReplies : Network → Names → State → List Line → Option (List ℕ)
     → Option (List ℕ) → Type 0
@@ -57,20 +73,22 @@ abbrev pub AppendsFirstReplies : Network → Names → State → List Line → O
     → Option (List ℕ) → Type 0
 AppendsFirstReplies nw names st = AppendsFirst (AreReplies nw names st [])
 
--- a front of an output of these lines was written: of the replies to the first of them, or of all
--- replies and the table. Every query has an answer, so the first replies too begin an output of all
--- lines
-abbrev pub AppendsOutputFront : Network → Names → State → List Line → Option (List ℕ)
-    → Option (List ℕ) → Type 0
+-- a front was written of an output for the bytes that were taken: of the replies to the first of
+-- the lines, or, at the end of the input, of all replies and the table. Every query has an answer,
+-- so the first replies too begin an output of all lines
+abbrev pub AppendsOutputFront : Network → Names → State → ℕ → Option (List ℕ) → Option (List ℕ)
+    → Option (List ℕ) → Option (List ℕ) → Type 0
 AppendsOutputFront nw names st =
-    AppendsWholeFront (IsOutput nw names st) (AreReplies nw names st [])
+    AppendsTakenFront (IsOutput nw names st) (AreReplies nw names st [])
 
--- these bytes were taken from the input, and these are the lines of them that were read
+-- these bytes were taken from the input, no more than may be, and these are the lines of them that
+-- were read
 pub record IsTaken (r : Reader) (left left_now : Option (List ℕ)) (bytes : List ℕ)
     (lines : List Line) : Type 0 where
   pub source : Consumes left left_now bytes
   pub lines_so_far : HasAnswered bytes lines r
   pub end : r.ended ≡ true → IsAtEnd left_now
+  pub within : IsWithinBudget r
 
 -- these lines were taken from the input and answered: their replies are written, and the service is
 -- as they leave it

@@ -6,7 +6,8 @@ ghost use Rattle.delay_report.specs.Replies.{text_of_reply};
 ghost use Rattle.mt_io.specs.Lines.{Line, lines_of};
 ghost use Rattle.mt_io.specs.Reader.{IsDone};
 ghost use Rattle.mt_io.specs.Runs.{fresh};
-ghost use Rattle.information_service.specs.Causes.{IsNotOfInput, WhereLinesStop, TookAll, reads_failed, writes_failed};
+ghost use Rattle.information_service.specs.Causes.{IsNotOfInput, WhereLinesStop, TookAll};
+ghost use Rattle.information_service.specs.Causes.{TookFewer, reads_failed, writes_failed};
 ghost use Rattle.information_service.specs.Fronts.{AreAnswered, AppendsFront, Begun};
 
 use crate::fault::LinesFault;
@@ -69,6 +70,11 @@ pub(crate) fn answer_lines<S: Source, K: Sink>(
     ensures writes { K.faults out.new ≡ writes_failed result (K.faults out.old) }
     ensures too_long { IsErrOf result LinesFault.TooLong
         → TookAll reader.old.budget (S.left input.old) (S.left input.new) }
+    ensures read_early { IsErrOf result LinesFault.ReadFault
+        → TookFewer reader.old.budget (S.left input.old) (S.left input.new) }
+
+    // the reader has its budget
+    ensures budget { reader.new.budget ≡ reader.old.budget }
 {
     for number in 1..u64::MAX {
         let reply = match reader.next(input) {

@@ -16,6 +16,7 @@ gives-both a b c left mid now xs ys first next same =
         source = consumes_more left mid now first.0 next.0 one.source two.source;
         taken = omega (arith, one.taken, two.taken, length-append first.0 next.0);
         budget = two.budget ∙ one.budget;
+        within = λ h. two.within (one.within h);
         lines_ahead = λ rest ended can.
             ap (λ (l : List ℕ). ahead a l ended) (append_assoc first.0 next.0 rest)
             ∙ one.lines_ahead (next.0 ++ rest) ended (λ is. let stays = two.still_ended is in ((λ k. stays.1 k ++ (can stays.0).0 k), (can stays.0).1))

@@ -15,11 +15,12 @@ use Rattle.gtfs_tables.specs.declared.refusals.FeedError.TheVariants as feeds
 use Rattle.gtfs_tables.specs.declared.refusals.FeedRefusal.{FeedRefusal}
 use Rattle.gtfs_tables.specs.Feeds.{Files}
 use Rattle.gtfs_tables.specs.Refusals.{IsErrorOf}
-use Rattle.information_service.specs.Causes.{TookAll, WhereLinesStop, reads_failed, writes_failed}
+use Rattle.information_service.specs.Causes.{TookAll, TookAtMost, TookFewer, WhereLinesStop, reads_failed, writes_failed}
 use Rattle.information_service.specs.declared.fault.LinesFault.{LinesFault}
 use Rattle.information_service.specs.declared.fault.LinesFault.TheVariants as lines
-use Rattle.information_service.specs.Fronts.{AppendsAll, AppendsWholeFront}
+use Rattle.information_service.specs.Fronts.{AppendsAll, AppendsTakenFront}
 use Rattle.information_service.specs.Networks.{IsSame}
+use Rattle.information_service.proofs.Ends.{none_taken}
 use Rattle.mt_io.specs.Causes.{counted}
 use Rattle.mt_io.specs.Lines.{lines_of}
 use Rattle.mt_io.proofs.Gives.{consumes_none}
@@ -31,7 +32,7 @@ use Rattle.traind.specs.Runs.{IsRefused, output_for, output_of}
 use Rattle.traind.specs.Statuses.{feed_fault, lines_fault, words_fault}
 use Rattle.traind.specs.declared.status.Fault.{Fault}
 use Rattle.traind.specs.declared.status.Fault.TheVariants as faults
-use Rattle.traind.proofs.Tables.{same-start, not-refused, output-is, replies-are, front-is, whole-is-front, none-written, none-front}
+use Rattle.traind.proofs.Tables.{same-start, not-refused, output-is, replies-are, front-is, none-written, none-front}
 
 -- a run that stops
 abbrev pub stops : Fault → Result (Unit {0}) Fault
@@ -70,7 +71,7 @@ words_cause words_faults.OutOfMemory none refused read write long usage = tt
 
 not_read : {F S K : Type 0} {budget : ℕ} {words : List (List ℕ)} {feed : FeedSeen} {left written : Option (List ℕ)} {reads writes : ℕ} {before : F} {input : S} {out : K} (f : WordsFault) → (f ≡ words_faults.Usage → asked_of words ≡ None) → feed.faults_after ≡ feed.faults
     → Untouched budget words feed left written reads writes before before input out (stops (words_fault f))
-not_read {left = left} {written = written} f usage same = record {
+not_read {budget = budget} {left = left} {written = written} f usage same = record {
   ok = tt;
   ended = tt;
   no_words = λ none. usage_or_memory f;
@@ -80,7 +81,9 @@ not_read {left = left} {written = written} f usage same = record {
   fault = words_cause f _ _ _ _ _ (λ is. (usage is, refl, refl, refl));
   no_fault = λ not_read not_written. record { feed_reads = same; input_reads = refl; writes = refl };
   stopped = λ is nw st names loads. ([], consumes_none left, none-written loads.asked nw names st written);
-  front = λ nw st names bytes loads is. none-front loads.asked nw names st (lines_of true bytes) written;
+  front = λ nw st names loads. none-front loads.asked nw names st budget left written;
+  at_most = none_taken budget left;
+  fewer = tt;
 }
 
 -- words that are not read touch nothing
@@ -108,7 +111,7 @@ module _ (words : List (List ℕ)) (feed : FeedSeen) (a : Asked) (asked : asked_
 
   not_loaded : {F S K : Type 0} {budget : ℕ} {left written : Option (List ℕ)} {reads writes : ℕ} {before after : F} {input : S} {out : K} (f : FeedError) → ((told : Files) → feed.tables ≡ Some told → IsErrorOf f (asked_in told a))
       → (f ≡ feeds.ReadFault → feed.faults_after ≡ counted feed.faults) → (¬ (f ≡ feeds.ReadFault) → feed.faults_after ≡ feed.faults) → Untouched budget words feed left written reads writes before after input out (stops (feed_fault f))
-  not_loaded {left = left} {written = written} {reads = reads} {writes = writes} f gives failed answered =
+  not_loaded {budget = budget} {left = left} {written = written} {reads = reads} {writes = writes} f gives failed answered =
       let one : f ≡ feeds.ReadFault → FeedReadFailed feed (still left reads) (still written writes) = λ is. record { feed_reads = failed is; input_reads = refl; writes = refl } in
       record {
         ok = tt;
@@ -120,7 +123,9 @@ module _ (words : List (List ℕ)) (feed : FeedSeen) (a : Asked) (asked : asked_
         fault = feed_cause f _ _ _ _ _ _ _ refl refl gives one;
         no_fault = λ other not_written. record { feed_reads = answered (not_failed f other); input_reads = refl; writes = refl };
         stopped = λ is nw st names loads. ([], consumes_none left, none-written loads.asked nw names st written);
-        front = λ nw st names bytes loads is. none-front loads.asked nw names st (lines_of true bytes) written;
+        front = λ nw st names loads. none-front loads.asked nw names st budget left written;
+        at_most = none_taken budget left;
+        fewer = tt;
       }
 
   -- where a feed is not loaded, nothing is read from the input or written to the output
@@ -142,12 +147,12 @@ stopped_lines run T lines.TooLong is t stop = t
 -- a run in which a fault of the lines stopped it: what failed, by the counts of faults
 module _ (feed : FeedSeen) (input out : StreamSeen) (loads : feed.faults_after ≡ feed.faults) where
   -- it has its cause
-  cause_of_lines : (usage : Type 0) (refused : FeedRefusal → Type 0) (feed_failed long : Type 0) (f : LinesFault) → input.faults_after ≡ reads_failed {T = Unit {0}} (Err f) input.faults → out.faults_after ≡ writes_failed {T = Unit {0}} (Err f) out.faults → (f ≡ lines.TooLong → long)
-      → HasFaultCause usage refused (feed_failed ⊎ InputReadFailed feed input out) (WriteFailed feed input out) long (lines_fault f)
-  cause_of_lines usage refused feed_failed long lines.ReadFault reads writes spent = inr (record { feed_reads = loads; input_reads = reads; writes = writes })
-  cause_of_lines usage refused feed_failed long lines.WriteFault reads writes spent = record { feed_reads = loads; input_reads = reads; writes = writes }
-  cause_of_lines usage refused feed_failed long lines.OutOfMemory reads writes spent = tt
-  cause_of_lines usage refused feed_failed long lines.TooLong reads writes spent = spent refl
+  cause_of_lines : (usage : Type 0) (refused : FeedRefusal → Type 0) (feed_failed early long : Type 0) (f : LinesFault) → input.faults_after ≡ reads_failed {T = Unit {0}} (Err f) input.faults → out.faults_after ≡ writes_failed {T = Unit {0}} (Err f) out.faults → (f ≡ lines.ReadFault → early) → (f ≡ lines.TooLong → long)
+      → HasFaultCause usage refused (feed_failed ⊎ (InputReadFailed feed input out × early)) (WriteFailed feed input out) long (lines_fault f)
+  cause_of_lines usage refused feed_failed early long lines.ReadFault reads writes few spent = inr (record { feed_reads = loads; input_reads = reads; writes = writes }, few refl)
+  cause_of_lines usage refused feed_failed early long lines.WriteFault reads writes few spent = record { feed_reads = loads; input_reads = reads; writes = writes }
+  cause_of_lines usage refused feed_failed early long lines.OutOfMemory reads writes few spent = tt
+  cause_of_lines usage refused feed_failed early long lines.TooLong reads writes few spent = spent refl
 
   -- and else nothing failed
   none_of_lines : (f : LinesFault) → input.faults_after ≡ reads_failed {T = Unit {0}} (Err f) input.faults → out.faults_after ≡ writes_failed {T = Unit {0}} (Err f) out.faults → ¬ (stops (lines_fault f) ≡ stops faults.ReadFault) → ¬ (stops (lines_fault f) ≡ stops faults.WriteFault) → NothingFailed feed input out
@@ -165,8 +170,9 @@ module _ {F S K : Type 0} {budget : ℕ} {words : List (List ℕ)} {feed : FeedS
     (same : (told : Files) (rows : Tables) → feed.tables ≡ Some told → tables_in told a ≡ Ok rows → IsSame (network rows a.opts) loaded) (command : a.command ≡ c) (loads : feed.faults_after ≡ feed.faults) where
   -- all lines are answered
   pub all-answered : ((bytes : List ℕ) → input.bytes ≡ Some bytes → AppendsAll ((output_for c).IsWhole loaded names st (lines_of true bytes)) out.bytes out.bytes_after) → IsAtEnd input.bytes_after
+      → AppendsTakenFront ((output_for c).IsWhole loaded names st) ((output_for c).AreReplies loaded names st) budget input.bytes input.bytes_after out.bytes out.bytes_after → TookAtMost budget input.bytes input.bytes_after → TookFewer budget input.bytes input.bytes_after
       → input.faults_after ≡ input.faults → out.faults_after ≡ out.faults → EndsAs output_of budget words feed input out feed_old feed_new input_old input_new out_old out_new (Ok tt)
-  all-answered whole end reads writes = record {
+  all-answered whole end front at_most fewer reads writes = record {
     ok = λ nw first named bytes asks left. output-is (same-start words feed.tables a loaded st names asked held same nw first named asks) command (lines_of true bytes) out.bytes out.bytes_after (whole bytes left);
     ended = end;
     no_words = λ none. absurd (none-some a (sym none ∙ asked));
@@ -176,34 +182,37 @@ module _ {F S K : Type 0} {budget : ℕ} {words : List (List ℕ)} {feed : FeedS
     fault = tt;
     no_fault = λ not_read not_written. record { feed_reads = loads; input_reads = reads; writes = writes };
     stopped = λ is. not_stopped is;
-    front = λ nw first named bytes asks left. whole-is-front ((output_of asks.asked).IsWhole nw named first) ((output_of asks.asked).AreReplies nw named first) (lines_of true bytes) out.bytes out.bytes_after
-        (output-is (same-start words feed.tables a loaded st names asked held same nw first named asks) command (lines_of true bytes) out.bytes out.bytes_after (whole bytes left));
+    front = λ nw first named asks. front-is (same-start words feed.tables a loaded st names asked held same nw first named asks) command budget input.bytes input.bytes_after out.bytes out.bytes_after front;
+    at_most = at_most;
+    fewer = fewer;
   }
 
   stopped_early : (f : LinesFault)
       → WhereLinesStop ((bytes : List ℕ) × Consumes input.bytes input.bytes_after bytes × AppendsAll ((output_for c).AreReplies loaded names st (lines_of false bytes)) out.bytes out.bytes_after) f
-      → ((bytes : List ℕ) → input.bytes ≡ Some bytes → AppendsWholeFront ((output_for c).IsWhole loaded names st) ((output_for c).AreReplies loaded names st) (lines_of true bytes) out.bytes out.bytes_after)
-      → input.faults_after ≡ reads_failed {T = Unit {0}} (Err f) input.faults → out.faults_after ≡ writes_failed {T = Unit {0}} (Err f) out.faults → (f ≡ lines.TooLong → TookAll budget input.bytes input.bytes_after)
+      → AppendsTakenFront ((output_for c).IsWhole loaded names st) ((output_for c).AreReplies loaded names st) budget input.bytes input.bytes_after out.bytes out.bytes_after → TookAtMost budget input.bytes input.bytes_after
+      → input.faults_after ≡ reads_failed {T = Unit {0}} (Err f) input.faults → out.faults_after ≡ writes_failed {T = Unit {0}} (Err f) out.faults → (f ≡ lines.ReadFault → TookFewer budget input.bytes input.bytes_after) → (f ≡ lines.TooLong → TookAll budget input.bytes input.bytes_after)
       → EndsAs output_of budget words feed input out feed_old feed_new input_old input_new out_old out_new (stops (lines_fault f))
-  stopped_early f stopped front reads writes spent = record {
+  stopped_early f stopped front at_most reads writes early spent = record {
     ok = tt;
     ended = tt;
     no_words = λ none. absurd (none-some a (sym none ∙ asked));
     usage_untouched = λ none. absurd (none-some a (sym none ∙ asked));
     refused = λ why r. absurd (not-refused words feed.tables a st names asked held why r);
     refused_untouched = λ why r. absurd (not-refused words feed.tables a st names asked held why r);
-    fault = cause_of_lines feed input out loads _ _ _ _ f reads writes spent;
+    fault = cause_of_lines feed input out loads _ _ _ _ _ f reads writes early spent;
     no_fault = none_of_lines feed input out loads f reads writes;
     stopped = λ is nw first named asks.
         let had = stopped_lines (stops (lines_fault f)) _ f refl stopped is in
         (had.0, had.1, replies-are (same-start words feed.tables a loaded st names asked held same nw first named asks) command (lines_of false had.0) out.bytes out.bytes_after had.2);
-    front = λ nw first named bytes asks left. front-is (same-start words feed.tables a loaded st names asked held same nw first named asks) command (lines_of true bytes) out.bytes out.bytes_after (front bytes left);
+    front = λ nw first named asks. front-is (same-start words feed.tables a loaded st names asked held same nw first named asks) command budget input.bytes input.bytes_after out.bytes out.bytes_after front;
+    at_most = at_most;
+    fewer = tt;
   }
 
   -- answering stops
   pub lines-stopped : (run : Result (Unit {0}) Fault) (f : LinesFault) → IsErrAnd run (λ e. e ≡ lines_fault f)
       → WhereLinesStop ((bytes : List ℕ) × Consumes input.bytes input.bytes_after bytes × AppendsAll ((output_for c).AreReplies loaded names st (lines_of false bytes)) out.bytes out.bytes_after) f
-      → ((bytes : List ℕ) → input.bytes ≡ Some bytes → AppendsWholeFront ((output_for c).IsWhole loaded names st) ((output_for c).AreReplies loaded names st) (lines_of true bytes) out.bytes out.bytes_after)
-      → input.faults_after ≡ reads_failed {T = Unit {0}} (Err f) input.faults → out.faults_after ≡ writes_failed {T = Unit {0}} (Err f) out.faults → (f ≡ lines.TooLong → TookAll budget input.bytes input.bytes_after)
+      → AppendsTakenFront ((output_for c).IsWhole loaded names st) ((output_for c).AreReplies loaded names st) budget input.bytes input.bytes_after out.bytes out.bytes_after → TookAtMost budget input.bytes input.bytes_after
+      → input.faults_after ≡ reads_failed {T = Unit {0}} (Err f) input.faults → out.faults_after ≡ writes_failed {T = Unit {0}} (Err f) out.faults → (f ≡ lines.ReadFault → TookFewer budget input.bytes input.bytes_after) → (f ≡ lines.TooLong → TookAll budget input.bytes input.bytes_after)
       → EndsAs output_of budget words feed input out feed_old feed_new input_old input_new out_old out_new run
-  lines-stopped run f is stopped front reads writes spent = subst (EndsAs output_of budget words feed input out feed_old feed_new input_old input_new out_old out_new) (is-err run (lines_fault f) is) (stopped_early f stopped front reads writes spent)
+  lines-stopped run f is stopped front at_most reads writes early spent = subst (EndsAs output_of budget words feed input out feed_old feed_new input_old input_new out_old out_new) (is-err run (lines_fault f) is) (stopped_early f stopped front at_most reads writes early spent)

@@ -1,11 +1,8 @@
 -- How a run of `gen` ends.
-use Rattle.std.proofs.Common.{◌≡◌, ◌≢◌, ◌⊎◌, ◌∙◌, ◌<◌, ℕ, List, Option, Some, None, Result, Ok, Err, arith, refl, sym, subst, inl, inr, length}
+use Rattle.std.proofs.Common.{◌≡◌, ◌≢◌, ◌⊎◌, ◌∙◌, ◌<◌, ℕ, List, Option, Some, Result, Ok, Err, arith, refl, sym, subst, inl, inr, length}
 use Rattle.std.proofs.lemmas.Option.{none-some}
-use Rattle.std.specs.Io.KnownBytes.{Appends}
 use Rattle.std.specs.Result.{IfErr, IsErrAnd}
 use Rattle.command_words.specs.declared.gen_words.AskedGen.{AskedGen}
-use Rattle.command_words.specs.declared.words.WordsFault.{WordsFault}
-use Rattle.command_words.specs.declared.words.WordsFault.TheVariants as words_faults
 use Rattle.command_words.specs.GenWords.{gen_asked_of}
 use Rattle.gtfs_tables.specs.declared.refusals.FeedError.{FeedError}
 use Rattle.gtfs_tables.specs.declared.refusals.FeedError.TheVariants as feeds
@@ -14,18 +11,18 @@ use Rattle.gtfs_tables.specs.Refusals.{IsErrorOf}
 use Rattle.information_service.specs.Causes.{TookAll, reads_failed}
 use Rattle.information_service.specs.declared.fault.LinesFault.{LinesFault}
 use Rattle.information_service.specs.declared.fault.LinesFault.TheVariants as lines
-use Rattle.information_service.proofs.Fronts.{front_all, front_part}
+use Rattle.information_service.proofs.Fronts.{front_part}
 use Rattle.mt_io.specs.Causes.{AppendsPart, counted}
 use Rattle.traind.specs.Causes.{HasFaultCause}
 use Rattle.traind.specs.Contract.{StreamSeen, Tells}
 use Rattle.traind.specs.GenContract.{GenEndsAs, MeetsGenContract}
-use Rattle.traind.specs.Statuses.{error_line, feed_fault, lines_fault, status_of, words_fault}
+use Rattle.traind.specs.Statuses.{error_line, feed_fault, lines_fault, status_of}
 use Rattle.traind.specs.Summaries.{IsOnlySummary}
 use Rattle.traind.specs.declared.status.Fault.{Fault}
 use Rattle.traind.specs.declared.status.Fault.TheVariants as faults
 use Rattle.traind.specs.declared.status.Status.{Status}
 use Rattle.traind.specs.declared.status.Status.TheVariants as statuses
-use Rattle.traind.proofs.Endings.{is-err, stops, usage_or_memory, words_cause}
+use Rattle.traind.proofs.Endings.{is-err, stops}
 use Rattle.traind.proofs.Statuses.{IsMemoryTold, ended-well, few-taken, not-stopped, went-well}
 
 -- ---- why there is no summary
@@ -51,10 +48,6 @@ handed-on (Err e) f g is same = is ∙ same
 
 -- ---- how the run ends
 
-not-written : (f : WordsFault) → ¬ (stops (words_fault f) ≡ stops faults.WriteFault)
-not-written words_faults.Usage is = absurd cc
-not-written words_faults.OutOfMemory is = absurd cc
-
 -- a run that stops since there is no memory, and no refused feed, leaves its output
 untouched : (run : Result (Unit {0}) Fault) (usage write same : Type 0) → IfErr run (HasFaultCause usage (λ why. ⊥) ⊥ write ⊥) → (run ≡ Err faults.OutOfMemory → same)
     → (run ≡ Err faults.OutOfMemory) ⊎ ((why : FeedRefusal) × (run ≡ Err (faults.FeedRefused why))) → same
@@ -65,27 +58,6 @@ write-failed : (run : Result (Unit {0}) Fault) (s : Status) → (s ≡ status_of
 write-failed run s status is = grind (arith, status, is)
 
 module _ {K : Type 0} (words : List (List ℕ)) (out : StreamSeen) (old new : K) where
-  -- words that are not read
-  pub gen-not-read : (run : Result (Unit {0}) Fault) (f : WordsFault) → IsErrAnd run (λ e. e ≡ words_fault f) → (f ≡ words_faults.Usage → gen_asked_of words ≡ None) → new ≡ old → out.faults_after ≡ out.faults → GenEndsAs words out old new run
-  gen-not-read run f is usage same counts =
-      subst (GenEndsAs words out old new) (is-err run (words_fault f) is)
-      (record {
-        ok = tt;
-        no_words = λ none. usage_or_memory f;
-        usage_untouched = λ none. same;
-        fault = words_cause f _ _ _ _ _ usage;
-        no_fault = λ not_written. counts;
-        memory = λ is_memory. same;
-        part = λ failed. absurd (not-written f failed);
-        front = inl same;
-      })
-
-  -- a summary that is not made
-  pub gen-stopped : (run : Result (Unit {0}) Fault) (asked : AskedGen) → gen_asked_of words ≡ Some asked → IsErrAnd run (λ e. e ≡ faults.OutOfMemory) → new ≡ old → out.faults_after ≡ out.faults → GenEndsAs words out old new run
-  gen-stopped run asked asked_is is same counts =
-      subst (GenEndsAs words out old new) (is-err run faults.OutOfMemory is)
-      (record { ok = tt; no_words = λ none. inr refl; usage_untouched = λ none. same; fault = tt; no_fault = λ not_written. counts; memory = λ is_memory. same; part = λ failed. absurd cc; front = inl same })
-
   -- a summary that is not written
   pub gen-not-written : (run : Result (Unit {0}) Fault) (asked : AskedGen) (line : List ℕ) → gen_asked_of words ≡ Some asked → IsOnlySummary asked.trains line → IsErrAnd run (λ e. e ≡ faults.WriteFault) → out.faults_after ≡ counted out.faults
       → AppendsPart out.bytes out.bytes_after line → GenEndsAs words out old new run
@@ -101,18 +73,6 @@ module _ {K : Type 0} (words : List (List ℕ)) (out : StreamSeen) (old new : K)
         part = λ failed. record { asked = asked; line = line; asked_is = asked_is; is = only; written = part };
         front = inr (record { asked = asked; line = line; asked_is = asked_is; is = only; written = front_part out.bytes out.bytes_after line part });
       })
-
-  pub gen-written : (asked : AskedGen) (line : List ℕ) → gen_asked_of words ≡ Some asked → IsOnlySummary asked.trains line → Appends out.bytes out.bytes_after line → out.faults_after ≡ out.faults → GenEndsAs words out old new (Ok tt)
-  gen-written asked line asked_is only written counts = record {
-    ok = record { asked = asked; line = line; asked_is = asked_is; is = only; written = written };
-    no_words = λ none. absurd (none-some asked (sym none ∙ asked_is));
-    usage_untouched = λ none. absurd (none-some asked (sym none ∙ asked_is));
-    fault = tt;
-    no_fault = λ not_written. counts;
-    memory = λ is_memory. absurd cc;
-    part = λ failed. absurd cc;
-    front = inr (record { asked = asked; line = line; asked_is = asked_is; is = only; written = front_all out.bytes out.bytes_after line written });
-  }
 
 -- a run whose end is told meets the contract of `gen`
 pub gen-contract-met : {K : Type 0} {words : List (List ℕ)} {out err : StreamSeen} {old new : K} (run : Result (Unit {0}) Fault) (s : Status) → GenEndsAs words out old new run → (s ≡ status_of run) ⊎ (s ≡ statuses.OutOfMemory)

@@ -1,9 +1,10 @@
 -- The status of a run, by how it ended.
-use Rattle.std.proofs.Common.{◌≡◌, ◌≢◌, ◌∙◌, ◌≤◌, ℕ, List, length, Option, Some, None, Result, Ok, Err, ap, sym, inl, inr, ◌⊎◌, arith}
+use Rattle.std.proofs.Common.{◌≡◌, ◌≢◌, ◌∙◌, ◌≤◌, ℕ, List, length, Option, Some, None, Result, Ok, Err, ap, inl, inr, ◌⊎◌, arith}
 use Rattle.std.proofs.lemmas.List.{length-append}
 use Rattle.std.proofs.lemmas.Option.{none-some, same_Some}
-use Rattle.std.specs.Io.KnownBytes.{Consumes}
-use Rattle.mt_io.specs.Causes.{Rose}
+use Rattle.std.specs.Io.KnownBytes.{Consumes, IsAtEnd}
+use Rattle.information_service.specs.Causes.{TookFewer}
+use Rattle.information_service.proofs.Ends.{all_taken}
 use Rattle.gtfs_tables.specs.declared.refusals.FeedRefusal.{FeedRefusal}
 use Rattle.std.specs.Prelude.{IfErr, OnOk}
 use Rattle.command_words.specs.Words.{Asked}
@@ -37,6 +38,24 @@ ended-well (Err faults.ReadFault) s usage refused read write long (inl is) cause
 ended-well (Err faults.WriteFault) s usage refused read write long (inl is) cause nu nf nr nw nl = absurd (nw cause)
 ended-well (Err faults.OutOfMemory) s usage refused read write long (inl is) cause nu nf nr nw nl = inr is
 ended-well (Err faults.TooLong) s usage refused read write long (inl is) cause nu nf nr nw nl = absurd (nl cause)
+
+-- a run that can't end well, and stops for no fault but want of memory or too long an input, has one
+-- of these two
+pub ended-long : (run : Result (Unit {0}) Fault) (s : Status) (one other usage : Type 0) (refused : FeedRefusal → Type 0) (read write long : Type 0) → (s ≡ status_of run) ⊎ (s ≡ statuses.OutOfMemory)
+    → IfErr run (HasFaultCause usage refused read write long) → OnOk run one → OnOk run other → (one → other → ⊥) → ¬ usage → ((why : FeedRefusal) → ¬ (refused why)) → ¬ read → ¬ write
+    → (s ≡ statuses.TooLong) ⊎ (s ≡ statuses.OutOfMemory)
+ended-long run s one other usage refused read write long (inr is) cause x y both nu nf nr nw = inr is
+ended-long (Ok u) s one other usage refused read write long (inl is) cause x y both nu nf nr nw = absurd (both x y)
+ended-long (Err faults.Usage) s one other usage refused read write long (inl is) cause x y both nu nf nr nw = absurd (nu cause)
+ended-long (Err (faults.FeedRefused why)) s one other usage refused read write long (inl is) cause x y both nu nf nr nw = absurd (nf why cause)
+ended-long (Err faults.ReadFault) s one other usage refused read write long (inl is) cause x y both nu nf nr nw = absurd (nr cause)
+ended-long (Err faults.WriteFault) s one other usage refused read write long (inl is) cause x y both nu nf nr nw = absurd (nw cause)
+ended-long (Err faults.OutOfMemory) s one other usage refused read write long (inl is) cause x y both nu nf nr nw = inr is
+ended-long (Err faults.TooLong) s one other usage refused read write long (inl is) cause x y both nu nf nr nw = inl is
+
+-- an input that is at its end, and of which fewer bytes were taken than may be, has fewer
+not-full : (budget : ℕ) (left now : Option (List ℕ)) (bytes : List ℕ) → left ≡ Some bytes → budget ≤ length bytes → IsAtEnd now → TookFewer budget left now → ⊥
+not-full budget left now bytes told full end took = absurd (omega (arith, full, took.2, ap length (all_taken left now bytes took.0 took.1 end told)))
 
 -- no more bytes are taken than were left
 pub few-taken : (left now : Option (List ℕ)) (bytes all : List ℕ) → Consumes left now bytes → left ≡ Some all → length bytes ≤ length all
@@ -72,7 +91,7 @@ pub contract-met : {F S K : Type 0} {output : Asked → Output} {budget : ℕ} {
     → EndsAs output budget words feed input out feed_old feed_new input_old input_new out_old out_new run → (s ≡ status_of run) ⊎ (s ≡ statuses.OutOfMemory) → IsMemoryTold run s
     → (s ≡ statuses.FeedRefused → (why : FeedRefusal) × (run ≡ Err (faults.FeedRefused why)) × Tells err (refusal_line why)) → (s ≢ statuses.FeedRefused → Tells err (error_line s))
     → MeetsContract output budget words feed input out err feed_old feed_new input_old input_new out_old out_new s
-contract-met {feed = feed} {input = input} {out = out} run s e status no_memory refused_line told = record {
+contract-met {budget = budget} {feed = feed} {input = input} {out = out} run s e status no_memory refused_line told = record {
   usage = grind (arith, status, e.fault);
   usage_exactly = grind (arith, status, e.no_words);
   usage_untouched = e.usage_untouched;
@@ -90,7 +109,10 @@ contract-met {feed = feed} {input = input} {out = out} run s e status no_memory 
   read_fault = grind (arith, status, e.fault);
   write_fault = grind (arith, status, e.fault);
   no_fault = λ not_read not_written. e.no_fault (not-stopped run s faults.ReadFault status no_memory not_read (λ is. absurd cc) (λ why is. absurd cc)) (not-stopped run s faults.WriteFault status no_memory not_written (λ is. absurd cc) (λ why is. absurd cc));
+  at_most = e.at_most;
+  fewer = λ is. went-well run s _ status is e.fewer;
   too_long = grind (arith, status, e.fault);
-  complete = λ can feed_well input_well out_well. ended-well run s _ _ _ _ _ status e.fault (λ u. grind arith) (λ why r. grind arith) (λ r. elim r [ inl of_feed ↦ feed_well (omega (arith, of_feed.2.feed_reads)) | inr of_input ↦ input_well (omega (arith, of_input.input_reads)) ]) (λ w. out_well (omega (arith, w.writes))) (λ l. omega (arith, few-taken input.bytes input.bytes_after l.0 can.bytes l.1 can.told, l.2, can.short));
+  too_long_exactly = λ fills none. ended-long run s _ _ _ _ _ _ _ status e.fault e.ended e.fewer (not-full budget input.bytes input.bytes_after fills.bytes fills.told fills.count) (λ u. grind arith) (λ why r. grind arith) (λ r. elim r [ inl of_feed ↦ none.feed_reads (omega (arith, of_feed.2.feed_reads)) | inr of_input ↦ none.input_reads (omega (arith, of_input.0.input_reads)) ]) (λ w. none.writes (omega (arith, w.writes)));
+  complete = λ can none. ended-well run s _ _ _ _ _ status e.fault (λ u. grind arith) (λ why r. grind arith) (λ r. elim r [ inl of_feed ↦ none.feed_reads (omega (arith, of_feed.2.feed_reads)) | inr of_input ↦ none.input_reads (omega (arith, of_input.0.input_reads)) ]) (λ w. none.writes (omega (arith, w.writes))) (λ l. omega (arith, few-taken input.bytes input.bytes_after l.0 can.bytes l.1 can.told, l.2, can.count));
   error_line = told;
 }

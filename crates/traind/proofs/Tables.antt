@@ -1,5 +1,5 @@
 -- What the words and the feed give is one thing.
-use Rattle.std.proofs.Common.{◌≡◌, ◌∙◌, ℕ, List, [], Option, Some, Ok, arith, refl, sym, ap, subst, false, inl, inr}
+use Rattle.std.proofs.Common.{◌≡◌, ◌∙◌, ℕ, List, [], Option, Some, Ok, arith, refl, sym, ap, subst, true, false, inl, inr}
 use Rattle.std.proofs.KnownBytes.{Appends-nil}
 use Rattle.delay_model.specs.declared.network.Network.{Network}
 use Rattle.delay_model.specs.declared.state.State.{State}
@@ -11,10 +11,11 @@ use Rattle.gtfs_tables.specs.Feeds.{Files}
 use Rattle.schedule_build.specs.Directory.{Names}
 use Rattle.mt_base.specs.declared.tables.Tables.{Tables}
 use Rattle.mt_io.specs.Lines.{Line, lines_of}
-use Rattle.information_service.specs.Fronts.{AppendsAll, AppendsWholeFront}
+use Rattle.information_service.specs.Fronts.{AppendsAll, AppendsFirst, AppendsTakenFront, AppendsWholeFront}
 use Rattle.information_service.specs.Networks.{IsSame}
 use Rattle.information_service.proofs.Networks.{output-same, replies-same}
-use Rattle.information_service.proofs.Fronts.{front_all, front_none}
+use Rattle.information_service.proofs.Fronts.{front_none}
+use Rattle.mt_io.proofs.Gives.{consumes_none}
 use Rattle.window_service.proofs.Networks.{served-same, whole-same}
 use Rattle.window_service.proofs.Written.{nothing-served}
 use Rattle.traind.specs.Feeds.{network, tables_in, asked_in}
@@ -79,13 +80,24 @@ module _ {words : List (List ℕ)} {tables : Option Files} {c : Command} {a : As
   pub replies-are : (lines : List Line) (old new : Option (List ℕ)) → AppendsAll ((output_for c).AreReplies loaded names_loaded st_loaded lines) old new → AppendsAll ((output_of loads.asked).AreReplies nw names st lines) old new
   replies-are lines old new w = record { shown = w.shown; is = replies lines w.shown w.is; written = w.written }
 
-  pub front-is : (lines : List Line) (old new : Option (List ℕ)) → AppendsWholeFront ((output_for c).IsWhole loaded names_loaded st_loaded) ((output_for c).AreReplies loaded names_loaded st_loaded) lines old new
-      → AppendsWholeFront ((output_of loads.asked).IsWhole nw names st) ((output_of loads.asked).AreReplies nw names st) lines old new
-  front-is lines old new w = grind (arith, whole, replies)
+  first-are : (lines : List Line) (old new : Option (List ℕ)) → AppendsFirst ((output_for c).AreReplies loaded names_loaded st_loaded) lines old new → AppendsFirst ((output_of loads.asked).AreReplies nw names st) lines old new
+  first-are lines old new f = record { first = f.first; later = f.later; shown = f.shown; split = f.split; is = replies f.first f.shown f.is; front = f.front }
 
--- a whole output is a front of itself
-pub whole-is-front : (Is Are : List Line → List ℕ → Type 0) (lines : List Line) (old new : Option (List ℕ)) → AppendsAll (Is lines) old new → AppendsWholeFront Is Are lines old new
-whole-is-front Is Are lines old new a = inr (a.shown, a.is, front_all old new a.shown a.written)
+  whole-front-is : (lines : List Line) (old new : Option (List ℕ)) → AppendsWholeFront ((output_for c).IsWhole loaded names_loaded st_loaded) ((output_for c).AreReplies loaded names_loaded st_loaded) lines old new
+      → AppendsWholeFront ((output_of loads.asked).IsWhole nw names st) ((output_of loads.asked).AreReplies nw names st) lines old new
+  whole-front-is lines old new (inl f) = inl (first-are lines old new f)
+  whole-front-is lines old new (inr all) = inr (all.0, whole lines all.0 all.1, all.2)
+
+  pub front-is : (budget : ℕ) (left left_now old new : Option (List ℕ)) → AppendsTakenFront ((output_for c).IsWhole loaded names_loaded st_loaded) ((output_for c).AreReplies loaded names_loaded st_loaded) budget left left_now old new
+      → AppendsTakenFront ((output_of loads.asked).IsWhole nw names st) ((output_of loads.asked).AreReplies nw names st) budget left left_now old new
+  front-is budget left left_now old new w = record {
+    bytes = w.bytes;
+    took = w.took;
+    front = elim w.front [
+      | inl first ↦ inl (first-are (lines_of false w.bytes) old new first)
+      | inr ended ↦ inr (ended.0, whole-front-is (lines_of true w.bytes) old new ended.1)
+    ];
+  }
 
 -- nothing is written where nothing was taken
 pub none-written : (a : Asked) (nw : Network) (names : Names) (st : State) (written : Option (List ℕ)) → AppendsAll ((output_of a).AreReplies nw names st (lines_of false [])) written written
@@ -93,5 +105,9 @@ unfolding lines_of
 none-written a nw names st written = record { shown = []; is = no-replies a.command nw names st; written = Appends-nil written }
 
 -- and nothing is a front of what is written
-pub none-front : (a : Asked) (nw : Network) (names : Names) (st : State) (lines : List Line) (written : Option (List ℕ)) → AppendsWholeFront ((output_of a).IsWhole nw names st) ((output_of a).AreReplies nw names st) lines written written
-none-front a nw names st lines written = inl (record { first = []; later = lines; shown = []; split = refl; is = no-replies a.command nw names st; front = front_none written [] })
+pub none-front : (a : Asked) (nw : Network) (names : Names) (st : State) (budget : ℕ) (left written : Option (List ℕ)) → AppendsTakenFront ((output_of a).IsWhole nw names st) ((output_of a).AreReplies nw names st) budget left left written written
+none-front a nw names st budget left written = record {
+  bytes = [];
+  took = consumes_none left;
+  front = inl (record { first = []; later = lines_of false []; shown = []; split = refl; is = no-replies a.command nw names st; front = front_none written [] });
+}

@@ -5,16 +5,18 @@ use Rattle.std.specs.declared.option.Option.{Option}
 use Rattle.std.specs.Io.KnownBytes.{Appends, IsAtEnd}
 use Rattle.command_words.specs.Words.{Asked, asked_of}
 use Rattle.gtfs_tables.specs.declared.refusals.FeedRefusal.{FeedRefusal}
-use Rattle.information_service.specs.Causes.{TookAll}
+use Rattle.information_service.specs.Causes.{TookAll, TookAtMost, TookFewer}
 use Rattle.mt_io.specs.Causes.{Rose, counted}
 use Rattle.gtfs_tables.specs.Feeds.{Files}
 use Rattle.traind.specs.Causes.{HasFaultCause}
-use Rattle.traind.specs.Runs.{CanEnd, IsRefused, Output, WritesAll, WritesFront, WritesReplies}
+use Rattle.traind.specs.Runs.{CanEnd, FillsBudget, IsRefused, Output, WritesAll, WritesFront}
+use Rattle.traind.specs.Runs.{WritesReplies}
 use Rattle.traind.specs.Statuses.{error_line, refusal_line}
 use Rattle.traind.specs.declared.status.Fault.{Fault}
 use Rattle.traind.specs.declared.status.Fault.TheVariants as faults
 use Rattle.traind.specs.declared.status.Status.{Status}
-use Rattle.traind.specs.declared.status.Status.TheVariants.{Ok, Usage, FeedRefused, ReadFault, WriteFault, OutOfMemory, TooLong}
+use Rattle.traind.specs.declared.status.Status.TheVariants.{Ok, Usage, FeedRefused, ReadFault}
+use Rattle.traind.specs.declared.status.Status.TheVariants.{WriteFault, OutOfMemory, TooLong}
 
 -- how many bytes of the input the program takes, if it finds no end before
 abbrev pub byte_budget : ℕ
@@ -76,6 +78,12 @@ pub record WriteFailed (feed : FeedSeen) (input out : StreamSeen) : Type 0 where
   pub input_reads : input.faults_after ≡ input.faults
   pub writes : out.faults_after ≡ counted out.faults
 
+-- no count of faults rose
+pub record NoneRose (feed : FeedSeen) (input out : StreamSeen) : Type 0 where
+  pub feed_reads : ¬ (Rose feed.faults feed.faults_after)
+  pub input_reads : ¬ (Rose input.faults input.faults_after)
+  pub writes : ¬ (Rose out.faults out.faults_after)
+
 -- what is written to the error stream is this, unless a write to it fails
 abbrev pub Tells : StreamSeen → List ℕ → Type 0
 Tells err line =
@@ -108,7 +116,7 @@ pub record EndsAs {F S K : Type 0} (output : Asked → Output) (budget : ℕ)
       (λ why. ((told : Files) → feed.tables ≡ Some told → IsRefused words feed.tables why)
       × (input_new ≡ input_old) × (out_new ≡ out_old))
       (((input_new ≡ input_old) × (out_new ≡ out_old) × FeedReadFailed feed input out)
-      ⊎ InputReadFailed feed input out)
+      ⊎ (InputReadFailed feed input out × TookFewer budget input.bytes input.bytes_after))
       (WriteFailed feed input out)
       (TookAll budget input.bytes input.bytes_after))
   -- nothing failed, unless it stops for that
@@ -118,7 +126,11 @@ pub record EndsAs {F S K : Type 0} (output : Asked → Output) (budget : ℕ)
   pub stopped : (run ≡ Err faults.ReadFault) ⊎ (run ≡ Err faults.TooLong)
       → WritesReplies output words feed.tables input.bytes input.bytes_after out.bytes
       out.bytes_after
-  pub front : WritesFront output words feed.tables input.bytes out.bytes out.bytes_after
+  pub front : WritesFront output budget words feed.tables input.bytes input.bytes_after out.bytes
+      out.bytes_after
+  -- how many bytes are taken
+  pub at_most : TookAtMost budget input.bytes input.bytes_after
+  pub fewer : OnOk run (TookFewer budget input.bytes input.bytes_after)
 
 -- The contract of a command, whose output may be another for other words. The run had these words;
 -- it found the feed, the input and the output as the first of each pair and left them as the
@@ -152,6 +164,11 @@ pub record MeetsContract {F S K : Type 0} (output : Asked → Output) (budget : 
   -- whatever the status, where the feed is to be refused nothing is read from the input or written
   pub refused_untouched : (why : FeedRefusal) → IsRefused words feed.tables why
       → (input_new ≡ input_old) × (out_new ≡ out_old)
+  -- ---- the input
+
+  -- no more bytes are taken than may be, and where all went well fewer
+  pub at_most : TookAtMost budget input.bytes input.bytes_after
+  pub fewer : status ≡ Ok → TookFewer budget input.bytes input.bytes_after
   -- ---- the output
 
   -- all went well: the whole output of all lines of the input is written
@@ -162,25 +179,31 @@ pub record MeetsContract {F S K : Type 0} (output : Asked → Output) (budget : 
   -- among the bytes taken; in `serve`, for the windows that are
   pub stopped : (status ≡ ReadFault) ⊎ (status ≡ TooLong) → WritesReplies output words feed.tables
       input.bytes input.bytes_after out.bytes out.bytes_after
-  -- however the run ended, what is written is a front of replies to the first lines of the input,
-  -- or of a whole output of all of them
-  pub front : WritesFront output words feed.tables input.bytes out.bytes out.bytes_after
+  -- however the run ended, what is written is a front of the replies to the lines that are whole
+  -- among the bytes taken, or, where the end of the input was read, of a whole output
+  pub front : WritesFront output budget words feed.tables input.bytes input.bytes_after out.bytes
+      out.bytes_after
   -- ---- faults
 
   -- the run stops at its first fault: a read fault comes where one read of the feed failed, before
-  -- anything was read of the input, or one read of the input, and nothing else failed
+  -- anything was read of the input, or one read of the input, of which fewer bytes were taken than
+  -- may be, and nothing else failed
   pub read_fault : status ≡ ReadFault → ((input_new ≡ input_old) × (out_new ≡ out_old)
-      × FeedReadFailed feed input out) ⊎ InputReadFailed feed input out
+      × FeedReadFailed feed input out)
+      ⊎ (InputReadFailed feed input out × TookFewer budget input.bytes input.bytes_after)
   -- a write fault comes where one write of the output failed, and nothing else
   pub write_fault : status ≡ WriteFault → WriteFailed feed input out
   -- and with every other status nothing failed
   pub no_fault : status ≢ ReadFault → status ≢ WriteFault → NothingFailed feed input out
   -- the input is too long where as many bytes were taken as may be
   pub too_long : status ≡ TooLong → TookAll budget input.bytes input.bytes_after
+  -- words that ask for a feed that holds a timetable, an input with as many bytes as may be taken
+  -- or more, and no fault: the input is too long, unless there is no memory
+  pub too_long_exactly : FillsBudget words feed.tables input.bytes budget
+      → NoneRose feed input out → (status ≡ TooLong) ⊎ (status ≡ OutOfMemory)
   -- words that ask for a feed that holds a timetable, an input with fewer bytes than may be taken,
   -- and no fault: all goes well, unless there is no memory
-  pub complete : CanEnd words feed.tables input.bytes budget
-      → ¬ (Rose feed.faults feed.faults_after) → ¬ (Rose input.faults input.faults_after)
-      → ¬ (Rose out.faults out.faults_after) → (status ≡ Ok) ⊎ (status ≡ OutOfMemory)
+  pub complete : CanEnd words feed.tables input.bytes budget → NoneRose feed input out
+      → (status ≡ Ok) ⊎ (status ≡ OutOfMemory)
   -- the error stream has the line of the status
   pub error_line : status ≢ FeedRefused → Tells err (error_line status)

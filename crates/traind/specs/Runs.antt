@@ -1,5 +1,5 @@
 -- What a run does, by its words, the tables of its feed, and the bytes of its input and its output.
-use Rattle.std.specs.Prelude.{ℕ, ◌≡◌, ◌<◌, List, [], Some, Ok, Err, true, false, length}
+use Rattle.std.specs.Prelude.{ℕ, ◌≡◌, ◌<◌, ◌≤◌, List, [], Some, Ok, Err, true, false, length}
 use Rattle.std.specs.declared.option.Option.{Option}
 use Rattle.std.specs.Io.KnownBytes.{Consumes}
 use Rattle.mt_base.specs.declared.tables.Tables.{Tables}
@@ -10,7 +10,7 @@ use Rattle.command_words.specs.declared.words.Command.TheVariants.{Times, Serve}
 use Rattle.command_words.specs.Words.{Asked, asked_of}
 use Rattle.gtfs_tables.specs.declared.refusals.FeedRefusal.{FeedRefusal}
 use Rattle.gtfs_tables.specs.Feeds.{Files}
-use Rattle.information_service.specs.Fronts.{AppendsAll, AppendsWholeFront}
+use Rattle.information_service.specs.Fronts.{AppendsAll, AppendsTakenFront}
 use Rattle.information_service.specs.Output.{AreReplies, IsOutput}
 use Rattle.mt_io.specs.Lines.{Line, lines_of}
 use Rattle.schedule_build.specs.Directory.{Names}
@@ -93,23 +93,31 @@ WritesReplies output words tables left left_now written written_now =
     × AppendsAll ((output loads.asked).AreReplies nw names st (lines_of false bytes))
     written written_now
 
--- what was written is a front of an output of all lines of the input, however the run ended: of the
--- replies to the first of them, or of a whole output
-abbrev pub WritesFront : (Asked → Output) → List (List ℕ) → Option Files → Option (List ℕ)
-    → Option (List ℕ) → Option (List ℕ) → Type 0
-WritesFront output words tables left written written_now =
-    (nw : Network) (st : State) (names : Names) (bytes : List ℕ)
-    → (loads : Loads words tables nw st names) → left ≡ Some bytes
-    → AppendsWholeFront ((output loads.asked).IsWhole nw names st)
-    ((output loads.asked).AreReplies nw names st) (lines_of true bytes) written written_now
+-- what was written is a front of an output for the bytes that were taken, however the run ended: of
+-- the replies to the first of the lines that are whole among them, or, where the end of the input
+-- was read, of a whole output
+abbrev pub WritesFront : (Asked → Output) → ℕ → List (List ℕ) → Option Files → Option (List ℕ)
+    → Option (List ℕ) → Option (List ℕ) → Option (List ℕ) → Type 0
+WritesFront output budget words tables left left_now written written_now =
+    (nw : Network) (st : State) (names : Names) → (loads : Loads words tables nw st names)
+    → AppendsTakenFront ((output loads.asked).IsWhole nw names st)
+    ((output loads.asked).AreReplies nw names st) budget left left_now written written_now
 
--- the feed holds a timetable, and the input has fewer bytes than may be taken
-pub record CanEnd (words : List (List ℕ)) (tables : Option Files) (left : Option (List ℕ))
-    (budget : ℕ) : Type 0 where
+-- the feed holds a timetable, and the input tells its bytes, of which the number is one of these
+pub record CanBeAnswered (words : List (List ℕ)) (tables : Option Files) (left : Option (List ℕ))
+    (Is : ℕ → Type 0) : Type 0 where
   pub network : Network
   pub state : State
   pub names : Names
   pub loads : Loads words tables network state names
   pub bytes : List ℕ
   pub told : left ≡ Some bytes
-  pub short : length bytes < budget
+  pub count : Is (length bytes)
+
+-- the feed holds a timetable, and the input has fewer bytes than may be taken
+abbrev pub CanEnd : List (List ℕ) → Option Files → Option (List ℕ) → ℕ → Type 0
+CanEnd words tables left budget = CanBeAnswered words tables left (λ n. n < budget)
+
+-- the feed holds a timetable, and the input has as many bytes as may be taken, or more
+abbrev pub FillsBudget : List (List ℕ) → Option Files → Option (List ℕ) → ℕ → Type 0
+FillsBudget words tables left budget = CanBeAnswered words tables left (λ n. budget ≤ n)

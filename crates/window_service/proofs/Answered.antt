@@ -5,7 +5,7 @@ use Rattle.window_service.proofs.Words.{IsClosedWindow, IsOpenWindow, AreReceive
 use Rattle.std.proofs.lemmas.Grind.{flat_map-append}
 use Rattle.std.proofs.lemmas.List.Elements.{All-append, All-cons, All-nil}
 use Rattle.std.proofs.lemmas.Option.{same_Some}
-use Rattle.information_service.proofs.OneMore.{taken-more}
+use Rattle.information_service.proofs.OneMore.{taken-more, within_new}
 use Rattle.mt_io.specs.Runs.{fresh}
 use Rattle.mt_io.proofs.Gives.{consumes_none, gives_nothing, open_ended}
 use Rattle.mt_io.proofs.Runs.{begins, stops}
@@ -29,7 +29,7 @@ pub record AreAnswered {K : Type 0} (Receives : K → K → Names → List Reply
 pub none-read : (r : Reader) (budget : ℕ) (left : Option (List ℕ)) → r ≡ fresh budget → AreRead r left left 0 [] []
 none-read r budget left new =
     rw new (record {
-      taken = record { source = consumes_none left; lines_so_far = begins budget; end = λ is. open_ended false refl is };
+      taken = record { source = consumes_none left; lines_so_far = begins budget; end = λ is. open_ended false refl is; within = within_new budget };
       closed = All-nil IsClosedWindow;
       counted = refl;
     })

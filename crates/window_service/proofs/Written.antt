@@ -2,7 +2,12 @@
 use Rattle.window_service.proofs.Words.{◌≡◌, ◌⊎◌, ◌∙◌, ◌∷◌, ◌++◌, ℕ, List, [], All, Option, refl, sym, subst, arith, inl, inr, append_assoc, append-nil, Appends-trans, Appends-nil, Appends, Network, State, lines_of}
 use Rattle.window_service.proofs.Words.{AppendsAll, AppendsFront, front_all, front_after, Line, Names, Reply, names_after, text_of_replies, AreServed, IsServed, IsClosedWindow, IsOpenWindow}
 use Rattle.window_service.proofs.Words.{AreWholeWindowsServed, AppendsServed, AppendsWholeWindows, AppendsFirstWindows, AppendsServedFront, ReceivesTexts, BeginsTexts, AreReceivedFrom, AreReceived, AreWholeReceived, IsOneReceived, AreFirstReceived, AreAllReceived}
+use Rattle.std.specs.Prelude.{Result, Ok, Err, OnOk, IfErr, Some, true, false}
 use Rattle.std.proofs.lemmas.List.Elements.{All-nil}
+use Rattle.information_service.specs.Fronts.{AppendsWholeFront, EndWasRead}
+use Rattle.information_service.proofs.Ends.{all_taken}
+use Rattle.mt_io.specs.Lines.{lines_of as lines_in}
+use Rattle.window_service.specs.Received.{IsReceivedAtFirst, IsReceivedWhole}
 use Rattle.query_crew.specs.Served.{text_from}
 use Rattle.query_crew.proofs.Ends.{open-lines}
 use Rattle.query_crew.proofs.ServedLemmas.{none-served, served-by, window-more, input-served}
@@ -87,8 +92,28 @@ module _ {K : Type 0} (written : K → Option (List ℕ)) (nw : Network) (names 
         front_after (written old) (written a.mid) (written new) so_far.shown text so_far.written a.ends.received,
       )
 
-  pub front-written : (lines : List Line) (old new : K)
-      → AreFirstReceived (ReceivesTexts written) (BeginsTexts written) nw names st lines old new ⊎ AreAllReceived (ReceivesTexts written) (BeginsTexts written) nw names st lines old new
-      → AppendsServedFront nw names st lines (written old) (written new)
-  front-written lines old new (inl first) = inl (first-written lines old new first)
-  front-written lines old new (inr all) = inr (last-written lines old new all)
+  -- of the bytes that were taken, where the run stops and where it ends
+  pub front-written : {budget : ℕ} {left left_now : Option (List ℕ)} (old new : K) → IsReceivedAtFirst (ReceivesTexts written) (BeginsTexts written) nw names st budget left left_now old new
+      → AppendsServedFront nw names st budget left left_now (written old) (written new)
+  front-written {budget = budget} {left_now = left_now} old new h = record { bytes = h.bytes; took = h.took; front = by h.first } where
+    by : AreFirstReceived (ReceivesTexts written) (BeginsTexts written) nw names st (lines_in false h.bytes) old new
+        ⊎ (EndWasRead budget left_now h.bytes × (AreFirstReceived (ReceivesTexts written) (BeginsTexts written) nw names st (lines_in true h.bytes) old new ⊎ AreAllReceived (ReceivesTexts written) (BeginsTexts written) nw names st (lines_in true h.bytes) old new))
+        → AppendsFirstWindows nw names st (lines_in false h.bytes) (written old) (written new) ⊎ (EndWasRead budget left_now h.bytes × AppendsWholeFront (IsServed nw names st) (AreWholeWindowsServed nw names st) (lines_in true h.bytes) (written old) (written new))
+    by (inl first) = inl (first-written (lines_in false h.bytes) old new first)
+    by (inr (end, inl first)) = inr (end, inl (first-written (lines_in true h.bytes) old new first))
+    by (inr (end, inr all)) = inr (end, inr (last-written (lines_in true h.bytes) old new all))
+
+  -- of all bytes of an input that tells them
+  pub whole-told : {budget : ℕ} {left left_now : Option (List ℕ)} (old new : K) → IsReceivedWhole (ReceivesTexts written) nw names st budget left left_now old new → (bytes : List ℕ) → left ≡ Some bytes → AppendsServed nw names st (lines_in true bytes) (written old) (written new)
+  whole-told {left = left} {left_now = left_now} old new h bytes told =
+      subst (λ (bs : List ℕ). AppendsServed nw names st (lines_in true bs) (written old) (written new)) (all_taken left left_now bytes h.bytes h.took h.ended.left told) (all-written (lines_in true h.bytes) old new h.all)
+
+  pub whole-front : {budget : ℕ} {left left_now : Option (List ℕ)} (old new : K) → IsReceivedWhole (ReceivesTexts written) nw names st budget left left_now old new → AppendsServedFront nw names st budget left left_now (written old) (written new)
+  whole-front old new h =
+      let all = all-written (lines_in true h.bytes) old new h.all in
+      record { bytes = h.bytes; took = h.took; front = inr (h.ended, inr (all.shown, all.is, front_all (written old) (written new) all.shown all.written)) }
+
+  pub either-front : {E : Type 0} {budget : ℕ} {left left_now : Option (List ℕ)} (run : Result (Unit {0}) E) (old new : K) → OnOk run (IsReceivedWhole (ReceivesTexts written) nw names st budget left left_now old new)
+      → IfErr run (λ f. IsReceivedAtFirst (ReceivesTexts written) (BeginsTexts written) nw names st budget left left_now old new) → AppendsServedFront nw names st budget left left_now (written old) (written new)
+  either-front (Ok u) old new whole first = whole-front old new whole
+  either-front (Err f) old new whole first = front-written old new first

@@ -1,12 +1,12 @@
 -- Which replies an output receives, window after window.
-use Rattle.std.specs.Prelude.{ℕ, ◌≡◌, ◌⊎◌, ◌++◌, List, [], ◌∷◌, All, Some, true, false}
+use Rattle.std.specs.Prelude.{ℕ, ◌≡◌, ◌⊎◌, ◌++◌, List, [], ◌∷◌, All, true, false}
 use Rattle.std.specs.declared.option.Option.{Option}
-use Rattle.std.specs.Io.KnownBytes.{Appends, Consumes, IsAtEnd}
+use Rattle.std.specs.Io.KnownBytes.{Appends, Consumes}
 use Rattle.delay_model.specs.declared.network.Network.{Network}
 use Rattle.delay_model.specs.declared.state.State.{State}
 use Rattle.delay_model.specs.Windows.{lines_of}
 use Rattle.delay_report.specs.declared.replies.Reply.{Reply}
-use Rattle.information_service.specs.Fronts.{AppendsFront}
+use Rattle.information_service.specs.Fronts.{AppendsFront, EndWasRead}
 use Rattle.information_service.specs.Lines.{names_after}
 use Rattle.mt_io.specs.Lines.{Line, lines_of as lines_in}
 use Rattle.query_crew.specs.Served.{AreRepliesFrom, AreWindowReplies, text_of_replies}
@@ -106,13 +106,14 @@ pub record AreAllReceived {K : Type 0} (Receives Ends : K → K → Names → Li
 
 -- ---- an input
 
--- the input is at its end, and the replies to all its windows were received
+-- the end of the input was read, and the replies to all windows of its bytes were received
 pub record IsReceivedWhole {K : Type 0} (Receives : K → K → Names → List Reply → Type 0)
-    (nw : Network) (names : Names) (st : State) (left left_now : Option (List ℕ))
+    (nw : Network) (names : Names) (st : State) (budget : ℕ) (left left_now : Option (List ℕ))
     (old new : K) : Type 0 where
-  pub ended : IsAtEnd left_now
-  pub all : (bytes : List ℕ) → left ≡ Some bytes
-      → AreAllReceived Receives Receives nw names st (lines_in true bytes) old new
+  pub bytes : List ℕ
+  pub took : Consumes left left_now bytes
+  pub ended : EndWasRead budget left_now bytes
+  pub all : AreAllReceived Receives Receives nw names st (lines_in true bytes) old new
 
 -- the replies to the whole windows among the bytes taken from the input were received
 pub record IsReceivedInPart {K : Type 0} (Receives : K → K → Names → List Reply → Type 0)
@@ -122,11 +123,14 @@ pub record IsReceivedInPart {K : Type 0} (Receives : K → K → Names → List 
   pub took : Consumes left left_now bytes
   pub whole : AreWholeReceived Receives nw names st (lines_in false bytes) old new
 
--- the replies to the first windows of the input were received, and perhaps a part of those to one
--- window more
-abbrev pub IsReceivedAtFirst : {K : Type 0}
-    → (Receives Begins : K → K → Names → List Reply → Type 0) → Network → Names → State
-    → Option (List ℕ) → K → K → Type 0
-IsReceivedAtFirst Receives Begins nw names st left old new = (bytes : List ℕ) → left ≡ Some bytes
-    → AreFirstReceived Receives Begins nw names st (lines_in true bytes) old new
-    ⊎ AreAllReceived Receives Begins nw names st (lines_in true bytes) old new
+-- the replies to the first windows of the bytes taken from the input were received, and perhaps a
+-- part of those to one window more; where the end of the input was read, that may be the last one
+pub record IsReceivedAtFirst {K : Type 0} (Receives Begins : K → K → Names → List Reply → Type 0)
+    (nw : Network) (names : Names) (st : State) (budget : ℕ) (left left_now : Option (List ℕ))
+    (old new : K) : Type 0 where
+  pub bytes : List ℕ
+  pub took : Consumes left left_now bytes
+  pub first : AreFirstReceived Receives Begins nw names st (lines_in false bytes) old new
+      ⊎ (EndWasRead budget left_now bytes
+      × (AreFirstReceived Receives Begins nw names st (lines_in true bytes) old new
+      ⊎ AreAllReceived Receives Begins nw names st (lines_in true bytes) old new))

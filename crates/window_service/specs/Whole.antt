@@ -4,7 +4,7 @@ use Rattle.std.specs.declared.option.Option.{Option}
 use Rattle.delay_model.specs.declared.network.Network.{Network}
 use Rattle.delay_model.specs.declared.state.State.{State}
 use Rattle.delay_model.specs.Windows.{lines_of}
-use Rattle.information_service.specs.Fronts.{AppendsAll, AppendsFirst, AppendsWholeFront}
+use Rattle.information_service.specs.Fronts.{AppendsAll, AppendsFirst, AppendsTakenFront}
 use Rattle.mt_io.specs.Lines.{Line}
 use Rattle.schedule_build.specs.Directory.{Names}
 use Rattle.query_crew.specs.Served.{AreServed, IsServed}
@@ -35,9 +35,9 @@ abbrev pub AppendsFirstWindows : Network → Names → State → List Line → O
     → Option (List ℕ) → Type 0
 AppendsFirstWindows nw names st = AppendsFirst (AreWholeWindowsServed nw names st)
 
--- a front was written of what is written for these lines: of the replies to the whole windows of
--- the first of them, or of all replies
-abbrev pub AppendsServedFront : Network → Names → State → List Line → Option (List ℕ)
-    → Option (List ℕ) → Type 0
+-- a front was written of the output for the bytes that were taken: of the replies to the whole
+-- windows of the first lines, or, at the end of the input, of all replies
+abbrev pub AppendsServedFront : Network → Names → State → ℕ → Option (List ℕ) → Option (List ℕ)
+    → Option (List ℕ) → Option (List ℕ) → Type 0
 AppendsServedFront nw names st =
-    AppendsWholeFront (IsServed nw names st) (AreWholeWindowsServed nw names st)
+    AppendsTakenFront (IsServed nw names st) (AreWholeWindowsServed nw names st)

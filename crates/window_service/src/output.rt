@@ -3,10 +3,13 @@
 ghost use Rattle.std.specs.Prelude.{◌≡◌, ◌≤◌, List, ℕ, Some, true, false, OnOk, IfErr, IsErrOf};
 ghost use Rattle.std.specs.Io.KnownBytes.{Consumes, IsAtEnd};
 ghost use Rattle.mt_io.specs.Lines.{lines_of};
-ghost use Rattle.information_service.specs.Causes.{WhereLinesStop, TookAll, reads_failed, writes_failed};
+ghost use Rattle.information_service.specs.Causes.{WhereLinesStop, TookAll, TookAtMost, TookFewer};
+ghost use Rattle.information_service.specs.Causes.{reads_failed, writes_failed};
 ghost use Rattle.schedule_build.specs.InStep.{AreInStep};
-ghost use Rattle.window_service.specs.Received.{IsReceivedWhole, IsReceivedInPart, IsReceivedAtFirst};
-ghost use Rattle.window_service.specs.Whole.{AppendsServed, AppendsWholeWindows, AppendsServedFront};
+ghost use Rattle.window_service.specs.Received.{IsReceivedWhole, IsReceivedInPart};
+ghost use Rattle.window_service.specs.Received.{IsReceivedAtFirst};
+ghost use Rattle.window_service.specs.Whole.{AppendsServed, AppendsWholeWindows};
+ghost use Rattle.window_service.specs.Whole.{AppendsServedFront};
 
 use crate::receiving::ReceiveReplies;
 use crate::windows::answer_windows;
@@ -55,11 +58,17 @@ pub(crate) fn receive_windows<
 
     // what is received at the end, or where it stops
     ensures all { OnOk result (IsReceivedWhole T.receives timetable.network directory
-        timetable.state (S.left input.old) (S.left input.new) out.old out.new) }
+        timetable.state budget (S.left input.old) (S.left input.new) out.old out.new) }
     ensures stopped { IfErr result (WhereLinesStop (IsReceivedInPart T.receives timetable.network
         directory timetable.state (S.left input.old) (S.left input.new) out.old out.new)) }
     ensures begun { IfErr result (λ f. IsReceivedAtFirst T.receives T.begins timetable.network
-        directory timetable.state (S.left input.old) out.old out.new) }
+        directory timetable.state budget (S.left input.old) (S.left input.new) out.old out.new) }
+
+    // how many bytes are taken
+    ensures at_most { TookAtMost budget (S.left input.old) (S.left input.new) }
+    ensures fewer { OnOk result (TookFewer budget (S.left input.old) (S.left input.new)) }
+    ensures read_early { IsErrOf result LinesFault.ReadFault
+        → TookFewer budget (S.left input.old) (S.left input.new) }
 
     // how many reads and writes failed, and when the input is too long
     ensures reads { S.faults input.new ≡ reads_failed result (S.faults input.old) }
@@ -91,7 +100,8 @@ pub(crate) fn receive_windows<
 /// where `budget` bytes of it were taken and no end was read; then the windows that are whole among
 /// the bytes taken are answered, and no other line is. It fails with `WriteFault` where a write of
 /// the output failed, and with `OutOfMemory` where there was no memory, or where the number of
-/// lines comes near 2^64; then a front of an output is written.
+/// lines comes near 2^64; then a front of an output is written. It takes no more than `budget`
+/// bytes.
 pub fn write_windows<
     H: Opening<Timetable> + Send + Sync,
     R: Threads + Wait + Sync,
@@ -131,9 +141,14 @@ pub fn write_windows<
         × Consumes (S.left input.old) (S.left input.new) bytes
         × AppendsWholeWindows timetable.network directory timetable.state
         (lines_of false bytes) (K.written out.old) (K.written out.new))) }
-    ensures front { IfErr result (λ f. (bytes : List ℕ) → S.left input.old ≡ Some bytes
-        → AppendsServedFront timetable.network directory timetable.state
-        (lines_of true bytes) (K.written out.old) (K.written out.new)) }
+    ensures front { AppendsServedFront timetable.network directory timetable.state budget
+        (S.left input.old) (S.left input.new) (K.written out.old) (K.written out.new) }
+
+    // how many bytes are taken
+    ensures at_most { TookAtMost budget (S.left input.old) (S.left input.new) }
+    ensures fewer { OnOk result (TookFewer budget (S.left input.old) (S.left input.new)) }
+    ensures read_early { IsErrOf result LinesFault.ReadFault
+        → TookFewer budget (S.left input.old) (S.left input.new) }
 
     // how many reads and writes failed, and when the input is too long
     ensures reads { S.faults input.new ≡ reads_failed result (S.faults input.old) }

@@ -1,9 +1,11 @@
 //! The windows of the input, each answered as a whole.
 
-ghost use Rattle.std.specs.Prelude.{◌≡◌, ◌+◌, ◌<◌, ◌^◌, [], List, Some, true, OnOk, IfErr, IsErrOf, length};
+ghost use Rattle.std.specs.Prelude.{◌≡◌, ◌+◌, ◌<◌, ◌^◌, [], List, Some, true, OnOk, IfErr};
+ghost use Rattle.std.specs.Prelude.{IsErrOf, length};
 ghost use Rattle.delay_model.specs.declared.network.Network.{Network};
 ghost use Rattle.delay_model.specs.declared.state.State.{State};
-ghost use Rattle.information_service.specs.Causes.{IsNotOfInput, WhereLinesStop, TookAll, reads_failed, writes_failed};
+ghost use Rattle.information_service.specs.Causes.{IsNotOfInput, WhereLinesStop, TookAll};
+ghost use Rattle.information_service.specs.Causes.{TookFewer, reads_failed, writes_failed};
 ghost use Rattle.information_service.specs.ServiceState.{service_after};
 ghost use Rattle.mt_io.specs.Lines.{Line};
 ghost use Rattle.mt_io.specs.Runs.{fresh};
@@ -118,6 +120,11 @@ pub(crate) fn answer_windows<
     ensures writes { T.failed out.new ≡ writes_failed result (T.failed out.old) }
     ensures too_long { IsErrOf result LinesFault.TooLong
         → TookAll reader.old.budget (S.left input.old) (S.left input.new) }
+    ensures read_early { IsErrOf result LinesFault.ReadFault
+        → TookFewer reader.old.budget (S.left input.old) (S.left input.new) }
+
+    // the reader has its budget
+    ensures budget { reader.new.budget ≡ reader.old.budget }
 {
     let mut window = Window::build(alloc)?;
     let mut first = 0;

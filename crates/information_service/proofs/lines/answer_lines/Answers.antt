@@ -38,6 +38,8 @@ returns-in-ReadFault g c =
       reads = c.next.ensures.read_fault c.in-ReadFault.is ∙ ap counted inv.read;
       writes = inv.write;
       too_long = grind arith;
+      read_early = λ is. (got.0, got.1.taken.source, omega (arith, got.1.taken.lines_so_far.taken, got.2.taken, c.next.follows.holds-at-none.0.1.budget, inv.budget));
+      budget = c.next.follows.holds-at-none.0.1.budget ∙ inv.budget;
     }
 
 pub returns-in-Budget : goal.returns-in-Budget
@@ -52,6 +54,8 @@ returns-in-Budget g c =
       reads = omega (arith, inv.read, c.next.ensures.answered (λ is. grind (arith, is, c.in-Budget.is)));
       writes = inv.write;
       too_long = λ is. (got.0, got.1.taken.source, sym got.1.taken.lines_so_far.taken ∙ got.2.taken ∙ c.next.follows.holds-at-none.0.1.budget ∙ inv.budget);
+      read_early = grind arith;
+      budget = c.next.follows.holds-at-none.0.1.budget ∙ inv.budget;
     }
 
 pub loop-number-preserved : goal.loop-number-preserved

@@ -1,7 +1,7 @@
-use Rattle.information_service.proofs.Words.{ℕ, List, [], ◌++◌, true, false, subst, sym, refl, inl, inr, Appends-trans, Consumes, table, Line, lines_of, WhereLinesStop, AppendsReplies, ServiceState}
-use Rattle.std.proofs.lemmas.Result.{IfErr-weaker, on_ok_weaker}
-use Rattle.information_service.proofs.Fronts.{front_none, front_after, output_front}
-use Rattle.information_service.proofs.Ends.{whole_output, handed_on, where_also, each_fault}
+use Rattle.information_service.proofs.Words.{consumes_none, ℕ, List, [], ◌++◌, false, subst, sym, refl, inl, inr, Appends-trans, Consumes, table, Line, lines_of, WhereLinesStop, AppendsReplies, ServiceState}
+use Rattle.std.proofs.lemmas.Result.{on_ok_weaker}
+use Rattle.information_service.proofs.Fronts.{end_was_read, front_none, front_after, front_of_result, output_front}
+use Rattle.information_service.proofs.Ends.{at_most_taken, fewer_taken, none_taken, whole_of_taken, whole_output, handed_on, where_also}
 use Rattle.information_service.proofs.output.write_output.Goals as goal
 
 pub returns-clause-ok : goal.returns-clause-ok
@@ -35,14 +35,16 @@ returns-in_err-answer_lines-clause-stopped g c =
 
 pub returns-in_err-reader-clause-front : goal.returns-in_err-reader-clause-front
 returns-in_err-reader-clause-front g c =
-    let w0 = g.K.Sink.written c.args.out.now in
-    each_fault c.from_residual.result _ (λ f bytes told.
-    inl (record { first = []; later = lines_of true bytes; shown = []; split = refl; is = refl; front = front_none w0 [] }))
+    record { bytes = []; took = consumes_none (g.S.Source.left c.args.input.now); front = inl (record { first = []; later = lines_of false []; shown = []; split = refl; is = refl; front = front_none (g.K.Sink.written c.args.out.now) [] }) }
+
+pub returns-in_err-reader-clause-at_most : goal.returns-in_err-reader-clause-at_most
+returns-in_err-reader-clause-at_most g c = none_taken c.args.budget (g.S.Source.left c.args.input.now)
 
 pub returns-in_err-answer_lines-clause-front : goal.returns-in_err-answer_lines-clause-front
-returns-in_err-answer_lines-clause-front g c =
-    let b = c.in_err-answer_lines.ensures.begun in
-    each_fault c.from_residual-in_err-answer_lines.result _ (λ f bytes told. inl (output_front bytes b.2 told))
+returns-in_err-answer_lines-clause-front g c = output_front c.args.budget (rw c.in_ok-reader.ensures at c.answer_lines.ensures.budget) c.in_err-answer_lines.ensures.begun.2
+
+pub returns-in_err-answer_lines-clause-at_most : goal.returns-in_err-answer_lines-clause-at_most
+returns-in_err-answer_lines-clause-at_most g c = at_most_taken c.args.budget (rw c.in_ok-reader.ensures at c.answer_lines.ensures.budget) c.in_err-answer_lines.ensures.begun.2.taken
 
 pub returns-clause-front : goal.returns-clause-front
 returns-clause-front g c =
@@ -53,6 +55,16 @@ returns-clause-front g c =
     let all = c.in_ok-answer_lines.ensures.all in
     let shown = all.3.output.shown in
     let rows = table now.network now.names now.state in
-    IfErr-weaker c.write_table.result _ _ (λ f front. λ bytes told.
-    inr (shown ++ rows, whole_output bytes all.2 all.3 told, front_after w0 w1 w2 shown rows all.3.output.written front))
-    c.write_table.ensures.front
+    record {
+      bytes = all.0;
+      took = all.3.taken.source;
+      front = inr (end_was_read c.args.budget (rw c.in_ok-reader.ensures at c.answer_lines.ensures.budget) all.3.taken all.2.ended, inr (shown ++ rows, whole_of_taken all.2 all.3, front_after w0 w1 w2 shown rows all.3.output.written (front_of_result c.write_table.result w1 w2 rows c.write_table.ensures.ok c.write_table.ensures.front)));
+    }
+
+pub returns-clause-at_most : goal.returns-clause-at_most
+returns-clause-at_most g c = at_most_taken c.args.budget (rw c.in_ok-reader.ensures at c.answer_lines.ensures.budget) c.in_ok-answer_lines.ensures.all.3.taken
+
+pub returns-clause-fewer : goal.returns-clause-fewer
+returns-clause-fewer g c =
+    let all = c.in_ok-answer_lines.ensures.all in
+    on_ok_weaker c.write_table.result (λ wrote. fewer_taken c.args.budget (rw c.in_ok-reader.ensures at c.answer_lines.ensures.budget) all.3.taken all.2.ended) c.write_table.ensures.ok

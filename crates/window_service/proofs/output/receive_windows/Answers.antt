@@ -1,10 +1,11 @@
 use Rattle.window_service.proofs.Words.{each_fault, on_ok_weaker, IfErr-weaker, where_also}
+use Rattle.information_service.proofs.Ends.{at_most_taken, either-way, fewer_taken, none_taken}
 use Rattle.window_service.proofs.Inputs.{received-whole, received-in-part, received-at-first, nothing-received}
 use Rattle.window_service.proofs.output.receive_windows.Goals as goal
 
 pub returns-clause-all : goal.returns-clause-all
 returns-clause-all g c =
-    on_ok_weaker c.answer_windows-run.result (λ all. received-whole (rw c.in_ok-crew.ensures.names at all c.args.timetable c.requires.opening)) c.answer_windows-run.ensures.all
+    on_ok_weaker c.answer_windows-run.result (λ all. received-whole c.args.budget (rw c.in_ok-reader.ensures at c.answer_windows-run.ensures.budget) (rw c.in_ok-crew.ensures.names at all c.args.timetable c.requires.opening)) c.answer_windows-run.ensures.all
 
 pub returns-clause-stopped : goal.returns-clause-stopped
 returns-clause-stopped g c =
@@ -12,10 +13,27 @@ returns-clause-stopped g c =
 
 pub returns-clause-begun : goal.returns-clause-begun
 returns-clause-begun g c =
-    IfErr-weaker c.answer_windows-run.result _ _ (λ f h. received-at-first (rw c.in_ok-crew.ensures.names at h c.args.timetable c.requires.opening)) c.answer_windows-run.ensures.begun
+    IfErr-weaker c.answer_windows-run.result _ _ (λ f h. received-at-first c.args.budget (rw c.in_ok-reader.ensures at c.answer_windows-run.ensures.budget) (rw c.in_ok-crew.ensures.names at h c.args.timetable c.requires.opening)) c.answer_windows-run.ensures.begun
 
 pub returns-in_err-reader-clause-begun : goal.returns-in_err-reader-clause-begun
 returns-in_err-reader-clause-begun g c = each_fault c.from_residual.result _ (λ f. nothing-received)
 
 pub returns-in_err-crew-clause-begun : goal.returns-in_err-crew-clause-begun
 returns-in_err-crew-clause-begun g c = each_fault c.from_residual-in_err-crew.result _ (λ f. nothing-received)
+
+pub returns-clause-at_most : goal.returns-clause-at_most
+returns-clause-at_most g c =
+    let run = c.answer_windows-run in
+    let same = rw c.in_ok-reader.ensures at run.ensures.budget in
+    either-way run.result (on_ok_weaker run.result (λ all. at_most_taken c.args.budget same (all c.args.timetable c.requires.opening).read) run.ensures.all)
+    (IfErr-weaker run.result _ _ (λ f h. at_most_taken c.args.budget same (h c.args.timetable c.requires.opening).read) run.ensures.begun)
+
+pub returns-clause-fewer : goal.returns-clause-fewer
+returns-clause-fewer g c =
+    on_ok_weaker c.answer_windows-run.result (λ all. let h = all c.args.timetable c.requires.opening in fewer_taken c.args.budget (rw c.in_ok-reader.ensures at c.answer_windows-run.ensures.budget) h.read h.done.ended) c.answer_windows-run.ensures.all
+
+pub returns-in_err-reader-clause-at_most : goal.returns-in_err-reader-clause-at_most
+returns-in_err-reader-clause-at_most g c = none_taken c.args.budget (g.S.Source.left c.args.input.now)
+
+pub returns-in_err-crew-clause-at_most : goal.returns-in_err-crew-clause-at_most
+returns-in_err-crew-clause-at_most g c = none_taken c.args.budget (g.S.Source.left c.args.input.now)

@@ -69,6 +69,7 @@ returns-in-ReadFault g c =
     let w = rw c.in-ReadFault.is at got.2 in
     let same = ended-same g.S.Source.left c.in_ok-end.ensures.ended in
     let told = rw c.in-ReadFault.is at c.in_ok-end.ensures.reads in
+    let all = all-taken run.2 got.1 same in
     record {
       all = tt;
       stopped = λ t is. stopped run.2 got.1 same (run.3 t is) w.ended.0 w.ended.1.ended w.ended.1.none;
@@ -76,6 +77,8 @@ returns-in-ReadFault g c =
       reads = told ∙ ap counted inv.read;
       writes = inv.write;
       too_long = grind arith;
+      read_early = λ is. (all.0, all.1.source, omega (arith, all.1.lines_so_far.taken, w.ended.1.taken, got.1.1.budget, inv.budget));
+      budget = got.1.1.budget ∙ inv.budget;
     }
 
 pub returns-in-Budget : goal.returns-in-Budget
@@ -93,6 +96,8 @@ returns-in-Budget g c =
       reads = (rw c.in-Budget.is at c.in_ok-end.ensures.reads) ∙ inv.read;
       writes = inv.write;
       too_long = λ is. (all.0, all.1.source, sym all.1.lines_so_far.taken ∙ w.ended.1.taken ∙ got.1.1.budget ∙ inv.budget);
+      read_early = grind arith;
+      budget = got.1.1.budget ∙ inv.budget;
     }
 
 pub returns-in_err-answer_window-in-More-clause-stopped : goal.returns-in_err-answer_window-in-More-clause-stopped
@@ -131,6 +136,8 @@ returns-in-End g c =
       reads = (rw c.in-End.is at c.in_ok-end.ensures.reads) ∙ inv.read ∙ sym (no-more-reads run_is.result _ run_is.ensures.fault);
       writes = run_is.ensures.writes ∙ ap (writes_failed run_is.result) inv.write;
       too_long = λ is. absurd (rw is at run_is.ensures.fault);
+      read_early = λ is. absurd (rw is at run_is.ensures.fault);
+      budget = got.1.1.budget ∙ inv.budget;
     }
 
 pub returns-clause-begun : goal.returns-clause-begun
