@@ -1,9 +1,12 @@
 mod exhaustion;
+mod failing_calls;
 mod generated;
 mod limited;
 mod refused_memory;
 mod serve;
 mod threads;
+mod worked_ends;
+mod worked_rows;
 
 use crate::run::{traind, traind_within};
 use crate::status::Status;

@@ -14,7 +14,7 @@ const TWO_TRAINS: &str =
     "{\"accepted\":2,\"arrivals\":16476,\"bad\":0,\"changed\":9,\"found\":1,\"lines\":5,\"queries\":1,\"refused\":0,\"trains\":2}\n";
 
 /// How the program is called, as the error stream has it.
-const USAGE: &str =
+pub(super) const USAGE: &str =
     "traind: usage: traind times FEED --from DATE or traind serve FEED --from DATE or traind gen N\n";
 
 /// The words `gen TRAINS --workers WORKERS`.

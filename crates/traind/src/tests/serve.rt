@@ -12,7 +12,7 @@ use std::test::*;
 use std::thread::Threads;
 
 /// Asks how many messages were accepted.
-const FLUSH: &str = r#"{"v":1,"type":"flush"}"#;
+pub(super) const FLUSH: &str = r#"{"v":1,"type":"flush"}"#;
 
 /// The reply to a flush after one message, as the second line.
 const FLUSHED: &str = "{\"flush\":1,\"line\":2}\n";

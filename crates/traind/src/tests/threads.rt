@@ -12,7 +12,7 @@ use std::test::*;
 use std::thread::Threads;
 
 /// Trains of the route R2 wait 300 seconds for those of R1.
-const RULES: &str = "feeder_route_id,connecting_route_id,stop_id,max_wait
+pub(super) const RULES: &str = "feeder_route_id,connecting_route_id,stop_id,max_wait
 R1,R2,,300
 ";
 
@@ -36,7 +36,12 @@ pub(super) fn asked(alloc: Global, client: &str) -> Result<String, Fail> {
 
 /// The reply to the query in this line after so many messages: T1 arrives at B1 at the first of the
 /// times, and T2 leaves B2 and arrives at D at the others.
-fn journey(alloc: Global, line: u64, after: u64, times: [&str; 3]) -> Result<String, Fail> {
+pub(super) fn journey(
+    alloc: Global,
+    line: u64,
+    after: u64,
+    times: [&str; 3],
+) -> Result<String, Fail> {
     let [arrives, leaves, ends] = times;
     Ok(format!(in alloc;
         "{{\"after\":{after},\"arrives\":\"{ends}\",\"line\":{line},\"rides\":[{{\"alight\":{{\"call\":1,\"stop\":\"B1\",\"time\":\"{arrives}\"}},\"board\":{{\"call\":0,\"stop\":\"A\",\"time\":\"08:00:00\"}},\"date\":\"20260105\",\"trip\":\"T1\"}},{{\"alight\":{{\"call\":1,\"stop\":\"D\",\"time\":\"{ends}\"}},\"board\":{{\"call\":0,\"stop\":\"B2\",\"time\":\"{leaves}\"}},\"date\":\"20260105\",\"trip\":\"T2\"}}]}}\n"

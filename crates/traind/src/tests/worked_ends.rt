@@ -1,0 +1,453 @@
+//! Rows that were worked out by hand: runs on changed trains and other feeds, runs of `serve` and
+//! of `gen`, and runs that do not go well, with all that each must write.
+
+use crate::run::traind_within;
+use crate::status::Status;
+use crate::tests::generated::USAGE;
+use crate::tests::serve::FLUSH;
+use crate::tests::threads::{HELD, held, journey};
+use crate::tests::worked_rows::{
+    CALLS, DAYS, EXTRA, PLACES, TABLES, TIMES, TRAINS, Table, WAITS, feed_of, run_row, run_words,
+    text_of, words_of,
+};
+use crate::tests::{Ended, QUERY, input, is_end, output};
+use mt_io::{LineReader, MemSink, MemSource, Next, NoGate};
+use std::alloc::Global;
+use std::test::*;
+
+/// The words of `serve`.
+const SERVE: &str = "serve feed --from 20260105 --slack 0";
+
+/// T1 does not run from A to B1.
+const CANCEL: &str = r#"{"v":1,"type":"cancel","trip":"T1","date":"20260105","from":0,"to":1}"#;
+
+/// T1 runs from A to C by way of D.
+const REROUTE: &str = concat!(
+    r#"{"v":1,"type":"reroute","trip":"T1","date":"20260105","from":0,"to":2,"#,
+    r#""via":[{"stop":"D","arr":"08:40:00","dep":"08:41:00"}]}"#
+);
+
+/// T1 has arrived at B1, where it does not call any more.
+const ARRIVED_AT_B1: &str = concat!(
+    r#"{"v":1,"type":"report","trip":"T1","date":"20260105","#,
+    r#""call":1,"event":"arr","time":"08:30:00"}"#
+);
+
+/// T1 has arrived at D.
+const ARRIVED_AT_D: &str = concat!(
+    r#"{"v":1,"type":"report","trip":"T1","date":"20260105","#,
+    r#""call":3,"event":"arr","time":"08:42:00"}"#
+);
+
+/// X2 is to run from D to A.
+const SECOND_EXTRA: &str = concat!(
+    r#"{"v":1,"type":"extra","trip":"X2","date":"20260105","route":"R1","calls":["#,
+    r#"{"stop":"D","arr":"09:20:00","dep":"09:20:00"},"#,
+    r#"{"stop":"A","arr":"10:00:00","dep":"10:00:00"}]}"#
+);
+
+/// Asks for the earliest arrival at B1 from A at half past midnight.
+const AT_NIGHT: &str = concat!(
+    r#"{"v":1,"type":"query","client":"c1","from":"A","to":"B1","#,
+    r#""date":"20260106","time":"00:30:00"}"#
+);
+
+/// The journey by the train of the day before.
+const NIGHT_JOURNEY: &str = concat!(
+    r#"{"after":0,"arrives":"01:10:00","line":1,"rides":["#,
+    r#"{"alight":{"call":1,"stop":"B1","time":"25:10:00"},"#,
+    r#""board":{"call":0,"stop":"A","time":"25:00:00"},"date":"20260105","trip":"N1"}]}"#
+);
+
+/// A query from a place that is not there.
+const FROM_NOWHERE: &str = concat!(
+    r#"{"v":1,"type":"query","client":"c1","from":"Z","to":"D","#,
+    r#""date":"20260105","time":"08:00:00"}"#
+);
+
+/// The trips with a third train, N1.
+const NIGHT_TRAINS: Table = (
+    "trips.txt",
+    "route_id,service_id,trip_id
+R1,W,T1
+R2,W,T2
+R1,W,N1
+",
+);
+
+/// The calls of the three trains, of which N1 runs past midnight.
+const NIGHT_CALLS: Table = (
+    "stop_times.txt",
+    "trip_id,arrival_time,departure_time,stop_id,stop_sequence
+T1,08:00:00,08:00:00,A,1
+T1,08:30:00,08:32:00,B1,2
+T1,09:00:00,09:00:00,C,3
+T2,08:36:00,08:36:00,B2,1
+T2,09:10:00,09:10:00,D,2
+N1,25:00:00,25:00:00,A,1
+N1,25:10:00,25:10:00,B1,2
+",
+);
+
+/// The calls of the two trains, of which T2 leaves B2 after 61 minutes.
+const BAD_CALLS: Table = (
+    "stop_times.txt",
+    "trip_id,arrival_time,departure_time,stop_id,stop_sequence
+T1,08:00:00,08:00:00,A,1
+T1,08:30:00,08:32:00,B1,2
+T1,09:00:00,09:00:00,C,3
+T2,08:36:00,8:61:00,B2,1
+T2,09:10:00,09:10:00,D,2
+",
+);
+
+/// A table that must have no rows, with one.
+const FREQUENCIES: Table = (
+    "frequencies.txt",
+    "trip_id,start_time,end_time,headway_secs\nT1,08:00:00,09:00:00,600\n",
+);
+
+/// A feed as its usual producers write it: a byte-order mark, quotes, lines that end with CR LF,
+/// tables and columns that are not read, rows out of order, a call without times, and a service
+/// that runs on single days alone.
+const USUAL: [Table; 6] = [
+    (
+        "agency.txt",
+        "agency_id,agency_name,agency_url,agency_timezone\r\n\
+         1,Seebahn,https://seebahn.example,Europe/Zurich\r\n",
+    ),
+    (
+        "routes.txt",
+        "route_id,agency_id,route_short_name,route_type\r\nR,1,K,2\r\n",
+    ),
+    (
+        "stops.txt",
+        "\u{feff}stop_id,stop_name,stop_lat,stop_lon\r\n\
+         P,\"Platz, \"\"Alt\"\"\",50.1,8.6\r\nQ,Quai,50.2,8.7\r\nS,See,50.3,8.8\r\n",
+    ),
+    (
+        "trips.txt",
+        "route_id,service_id,trip_id,trip_headsign\r\nR,E,K,\"See, Nord\"\r\n",
+    ),
+    (
+        "stop_times.txt",
+        "trip_id,stop_sequence,stop_id,arrival_time,departure_time,pickup_type\r\n\
+         K,30,S,8:20:00,8:20:00,0\r\nK,10,P,8:00:00,8:00:00,\r\nK,20,Q,,,1\r\n",
+    ),
+    (
+        "calendar_dates.txt",
+        "service_id,date,exception_type\r\nE,20260105,1\r\n",
+    ),
+];
+
+/// A run that goes well: the words, the tables of the feed, the lines, and the lines of the output.
+struct Run {
+    shows: &'static str,
+    words: &'static str,
+    tables: &'static [Table],
+    lines: &'static [&'static str],
+    out: &'static [&'static str],
+}
+
+/// The runs on changed trains and on other feeds, and those of `gen`.
+const RUNS: [Run; 7] = [
+    Run {
+        shows: "a cancelled feeder holds nobody",
+        words: TIMES,
+        tables: &TABLES,
+        lines: &[HELD, CANCEL],
+        out: &[
+            r#"{"accepted":1,"changed":5,"line":1}"#,
+            r#"{"accepted":2,"changed":6,"line":2}"#,
+            "trip,date,call,stop,event,scheduled,time",
+            "T1,20260105,1,B1,dep,08:32:00,08:32:00",
+            "T1,20260105,2,C,arr,09:00:00,09:00:00",
+            "T2,20260105,0,B2,dep,08:36:00,08:36:00",
+            "T2,20260105,1,D,arr,09:10:00,09:10:00",
+        ],
+    },
+    Run {
+        shows: "a rerouted train",
+        words: TIMES,
+        tables: &TABLES,
+        lines: &[REROUTE, ARRIVED_AT_B1, ARRIVED_AT_D],
+        out: &[
+            r#"{"accepted":1,"changed":4,"line":1}"#,
+            r#"{"line":2,"refused":"Unknown"}"#,
+            r#"{"accepted":2,"changed":3,"line":3}"#,
+            "trip,date,call,stop,event,scheduled,time",
+            "T1,20260105,0,A,dep,08:00:00,08:00:00",
+            "T1,20260105,3,D,arr,08:40:00,08:42:00",
+            "T1,20260105,3,D,dep,08:41:00,08:43:00",
+            "T1,20260105,2,C,arr,09:00:00,09:02:00",
+            "T2,20260105,0,B2,dep,08:36:00,08:36:00",
+            "T2,20260105,1,D,arr,09:10:00,09:10:00",
+        ],
+    },
+    Run {
+        shows: "room for the calls of one extra train",
+        words: "times feed --from 20260105 --slack 0 --spare-calls 2",
+        tables: &TABLES,
+        lines: &[EXTRA, SECOND_EXTRA],
+        out: &[
+            r#"{"accepted":1,"changed":2,"line":1}"#,
+            r#"{"full":"calls","line":2,"refused":"Full"}"#,
+            "trip,date,call,stop,event,scheduled,time",
+            "T1,20260105,0,A,dep,08:00:00,08:00:00",
+            "T1,20260105,1,B1,arr,08:30:00,08:30:00",
+            "T1,20260105,1,B1,dep,08:32:00,08:32:00",
+            "T1,20260105,2,C,arr,09:00:00,09:00:00",
+            "T2,20260105,0,B2,dep,08:36:00,08:36:00",
+            "T2,20260105,1,D,arr,09:10:00,09:10:00",
+            "X1,20260105,0,D,dep,09:20:00,09:20:00",
+            "X1,20260105,1,A,arr,10:00:00,10:00:00",
+        ],
+    },
+    Run {
+        shows: "a journey by the train of the day before",
+        words: "times feed --from 20260105 --days 2",
+        tables: &[PLACES, NIGHT_TRAINS, NIGHT_CALLS, DAYS, WAITS],
+        lines: &[AT_NIGHT],
+        out: &[
+            NIGHT_JOURNEY,
+            "trip,date,call,stop,event,scheduled,time",
+            "T1,20260105,0,A,dep,08:00:00,08:00:00",
+            "T1,20260105,1,B1,arr,08:30:00,08:30:00",
+            "T1,20260105,1,B1,dep,08:32:00,08:32:00",
+            "T1,20260105,2,C,arr,09:00:00,09:00:00",
+            "T2,20260105,0,B2,dep,08:36:00,08:36:00",
+            "T2,20260105,1,D,arr,09:10:00,09:10:00",
+            "N1,20260105,0,A,dep,25:00:00,25:00:00",
+            "N1,20260105,1,B1,arr,25:10:00,25:10:00",
+            "T1,20260106,0,A,dep,08:00:00,08:00:00",
+            "T1,20260106,1,B1,arr,08:30:00,08:30:00",
+            "T1,20260106,1,B1,dep,08:32:00,08:32:00",
+            "T1,20260106,2,C,arr,09:00:00,09:00:00",
+            "T2,20260106,0,B2,dep,08:36:00,08:36:00",
+            "T2,20260106,1,D,arr,09:10:00,09:10:00",
+            "N1,20260106,0,A,dep,25:00:00,25:00:00",
+            "N1,20260106,1,B1,arr,25:10:00,25:10:00",
+        ],
+    },
+    Run {
+        shows: "a feed as it is usually written",
+        words: "times feed --from 20260105",
+        tables: &USUAL,
+        lines: &[],
+        out: &[
+            "trip,date,call,stop,event,scheduled,time",
+            "K,20260105,0,P,dep,08:00:00,08:00:00",
+            "K,20260105,1,S,arr,08:20:00,08:20:00",
+        ],
+    },
+    Run {
+        shows: "one train that is made",
+        words: "gen 1",
+        tables: &[],
+        lines: &[],
+        out: &[concat!(
+            r#"{"accepted":1,"arrivals":16380,"bad":0,"changed":4,"found":1,"#,
+            r#""lines":4,"queries":1,"refused":0,"trains":1}"#
+        )],
+    },
+    Run {
+        shows: "two trains that are made",
+        words: "gen 2",
+        tables: &[],
+        lines: &[],
+        out: &[concat!(
+            r#"{"accepted":2,"arrivals":16476,"bad":0,"changed":9,"found":1,"#,
+            r#""lines":5,"queries":1,"refused":0,"trains":2}"#
+        )],
+    },
+];
+
+/// A run that writes nothing to the output: what is wrong, the words, the tables, how it ends, and
+/// the line on the error stream.
+struct Refusal {
+    shows: &'static str,
+    words: &'static str,
+    tables: &'static [Table],
+    status: Status,
+    line: &'static str,
+}
+
+/// The feeds and the words that are refused.
+const REFUSALS: [Refusal; 7] = [
+    Refusal {
+        shows: "a departure after 61 minutes",
+        words: TIMES,
+        tables: &[PLACES, TRAINS, BAD_CALLS, DAYS, WAITS],
+        status: Status::FeedRefused,
+        line: "traind: feed refused: stop_times.txt row 5: bad time\n",
+    },
+    Refusal {
+        shows: "no table of trips",
+        words: TIMES,
+        tables: &[PLACES, CALLS, DAYS, WAITS],
+        status: Status::FeedRefused,
+        line: "traind: feed refused: missing trips.txt\n",
+    },
+    Refusal {
+        shows: "a row of frequencies",
+        words: TIMES,
+        tables: &[PLACES, TRAINS, CALLS, DAYS, WAITS, FREQUENCIES],
+        status: Status::FeedRefused,
+        line: "traind: feed refused: frequencies.txt has rows\n",
+    },
+    Refusal {
+        shows: "no date",
+        words: "times feed",
+        tables: &TABLES,
+        status: Status::Usage,
+        line: USAGE,
+    },
+    Refusal {
+        shows: "a date that is no day",
+        words: "times feed --from 20260230",
+        tables: &TABLES,
+        status: Status::Usage,
+        line: USAGE,
+    },
+    Refusal {
+        shows: "an unknown command",
+        words: "fly",
+        tables: &TABLES,
+        status: Status::Usage,
+        line: USAGE,
+    },
+    Refusal {
+        shows: "no words",
+        words: "",
+        tables: &TABLES,
+        status: Status::Usage,
+        line: USAGE,
+    },
+];
+
+/// Whether this is the next line of the input.
+fn is_next(alloc: Global, input: &mut MemSource, line: &str) -> Result<bool, Fail> {
+    let mut reader = LineReader::build(alloc, 1_000)?;
+    match reader.next(input) {
+        Next::Line(left) => Ok(left == line.as_bytes()),
+        _ => Ok(false),
+    }
+}
+
+/// Each run is made by itself, and nothing is written to the error stream.
+#[test]
+fn other_trains_and_other_feeds(rt: HostRuntime) -> Result<(), Fail> {
+    let alloc = rt.alloc();
+    for run in &RUNS {
+        let ended = run_row(&rt, alloc, run.words, run.tables, run.lines)?;
+        let want = text_of(alloc, run.out)?;
+        assert!(rt;
+            is_end(&ended, Status::Ok, want.as_str(), ""),
+            "{}",
+            run.shows
+        );
+    }
+    Ok(())
+}
+
+/// Where a feed or the words are refused, nothing is read from the input.
+#[test]
+fn refused_feeds_and_words(rt: HostRuntime) -> Result<(), Fail> {
+    let alloc = rt.alloc();
+    for refusal in &REFUSALS {
+        let mut input = input(alloc, HELD)?;
+        let out = output(alloc)?;
+        let ended = run_words(&rt, alloc, refusal.words, refusal.tables, &mut input, out)?;
+        assert!(rt;
+            is_end(&ended, refusal.status, "", refusal.line),
+            "{}",
+            refusal.shows
+        );
+        let is_left = is_next(alloc, &mut input, HELD)?;
+        assert!(rt; is_left, "{}", refusal.shows);
+    }
+    Ok(())
+}
+
+/// The lines are 65,537 letters, the beginning of an object, and a query from a place that is not
+/// there. The read after the last byte fails.
+#[test]
+fn bad_lines_in_single_bytes(rt: HostRuntime) -> Result<(), Fail> {
+    let alloc = rt.alloc();
+    let mut bytes = vec![in alloc; b'x'; 65_537]?;
+    let rest = text_of(alloc, &["", r#"{"v":1,"#, FROM_NOWHERE])?;
+    bytes.extend_from_slice(rest.as_bytes())?;
+    let number = bytes.len() as u64;
+    let mut input = MemSource::build(bytes, 1, vec![in alloc; number]?);
+    let ended = run_words(&rt, alloc, TIMES, &TABLES, &mut input, output(alloc)?)?;
+    let bad = [
+        r#"{"bad":"long","line":1}"#,
+        r#"{"bad":"json","line":2}"#,
+        r#"{"bad":"stop","line":3}"#,
+    ];
+    let want = text_of(alloc, &bad)?;
+    let told = "traind: read fault\n";
+    assert!(rt; is_end(&ended, Status::ReadFault, want.as_str(), told));
+    Ok(())
+}
+
+/// The query is line 257, so it is answered after the 256 lines before it.
+#[test]
+fn query_behind_a_full_window(rt: HostRuntime) -> Result<(), Fail> {
+    let alloc = rt.alloc();
+    let mut lines = Vec::new(alloc);
+    let mut want = String::from_str(alloc, "{\"accepted\":1,\"changed\":5,\"line\":1}\n")?;
+    lines.push(HELD)?;
+    for line in 2_u64..257 {
+        lines.push(HELD)?;
+        let reply = format!(in alloc; "{{\"accepted\":{line},\"changed\":0,\"line\":{line}}}\n")?;
+        want.push_str(reply.as_str())?;
+    }
+    lines.push(QUERY)?;
+    let way = journey(alloc, 257, 256, ["08:36:00", "08:39:00", "09:13:00"])?;
+    want.push_str(way.as_str())?;
+    let ended = run_row(&rt, alloc, SERVE, &TABLES, &lines)?;
+    assert!(rt; is_end(&ended, Status::Ok, want.as_str(), ""));
+    Ok(())
+}
+
+/// The flush ends the window, so the query is answered after the line before it.
+#[test]
+fn query_behind_a_flush(rt: HostRuntime) -> Result<(), Fail> {
+    let alloc = rt.alloc();
+    let ended = run_row(&rt, alloc, SERVE, &TABLES, &[HELD, FLUSH, QUERY])?;
+    let want = format!(in alloc;
+        "{{\"accepted\":1,\"changed\":5,\"line\":1}}\n{{\"flush\":1,\"line\":2}}\n{}",
+        held(alloc, 3)?
+    )?;
+    assert!(rt; is_end(&ended, Status::Ok, want.as_str(), ""));
+    Ok(())
+}
+
+/// No reply of the window is written.
+#[test]
+fn first_write_that_fails(rt: HostRuntime) -> Result<(), Fail> {
+    let alloc = rt.alloc();
+    let mut input = input(alloc, HELD)?;
+    let out = MemSink::build(alloc, 4_096, vec![in alloc; 0]?)?;
+    let ended = run_words(&rt, alloc, SERVE, &TABLES, &mut input, out)?;
+    assert!(rt; is_end(&ended, Status::WriteFault, "", "traind: write fault\n"));
+    Ok(())
+}
+
+/// The line has more than the ten bytes that are taken.
+#[test]
+fn input_of_more_than_ten_bytes(rt: HostRuntime) -> Result<(), Fail> {
+    let alloc = rt.alloc();
+    let words = words_of(alloc, TIMES)?;
+    let mut feed = feed_of(alloc, &TABLES)?;
+    let mut input = input(alloc, HELD)?;
+    let mut out = output(alloc)?;
+    let mut err = output(alloc)?;
+    let status = traind_within(
+        &rt, alloc, &words, &mut feed, &mut input, &mut out, &mut err, &NoGate, 10,
+    );
+    let ended = Ended { status, out, err };
+    assert!(rt; is_end(&ended, Status::TooLong, "", "traind: input too long\n"));
+    Ok(())
+}
