@@ -7,6 +7,7 @@ is not there is a table that is not there, and None is a folder in place of the 
 import json
 import os
 import re
+from copy import deepcopy
 
 BYTES = (
     *[bytes([byte]) for byte in b'\r\n\n\n"",, \t\0-+:.;0159aZ{}[]\\/'], b"\r\n", b'""', b"\xff", b"\xc3",
@@ -324,6 +325,11 @@ def parts_of(value):
         yield from parts_of(inner)
 
 
+def any_value(random):
+    """A value that no other line has, since a later mutation may change it."""
+    return deepcopy(random.choice(VALUES))
+
+
 def object_mutated(random, message):
     """One member of a line dropped, renamed, exchanged or given another value."""
     part = random.choice([part for part in parts_of(message) if part] or [{"v": 1}])
@@ -341,7 +347,7 @@ def object_mutated(random, message):
     elif way == 3:
         part[name] = random.choice((*TYPES, *TYPES[:8])) if name == "type" else [part[name]]
     elif way == 4:
-        part[other] = random.choice(VALUES)
+        part[other] = any_value(random)
     elif way == 5 and isinstance(part[name], list):
         part[name] = random.choice((part[name] * 2, part[name][:1], part[name][1:], part[name][::-1], [*part[name], 1]))
     elif way == 6 and isinstance(part[name], int):
@@ -349,7 +355,7 @@ def object_mutated(random, message):
     elif way == 6 and isinstance(part[name], str) and TIME.fullmatch(part[name]):
         part[name] = near(random, part[name].encode()).decode()
     else:
-        part[name] = random.choice(VALUES)
+        part[name] = any_value(random)
 
 
 def text_of(random, message):
