@@ -65,14 +65,8 @@ fn what_was_posted_is_seen(rt: HostRuntime) -> Result<(), Fail> {
         &rt,
         rt.alloc(),
         NewHistory::new(),
-        Sum {
-            total: 0,
-            followed: 0,
-        },
-        Sum {
-            total: 0,
-            followed: 0,
-        },
+        Sum::zero(),
+        Sum::zero(),
     )
 }
 
@@ -117,14 +111,8 @@ fn viewers_look_beside_the_publisher(rt: HostRuntime) -> Result<(), Fail> {
         &rt,
         rt.alloc(),
         NewHistory::new(),
-        Sum {
-            total: 0,
-            followed: 0,
-        },
-        Sum {
-            total: 0,
-            followed: 0,
-        },
+        Sum::zero(),
+        Sum::zero(),
     )?;
     assert!(rt; fine);
     Ok(())
@@ -208,14 +196,8 @@ fn a_post_is_taken_inside_a_look(rt: HostRuntime) -> Result<(), Fail> {
         &rt,
         rt.alloc(),
         NewHistory::new(),
-        Sum {
-            total: 0,
-            followed: 0,
-        },
-        Sum {
-            total: 0,
-            followed: 0,
-        },
+        Sum::zero(),
+        Sum::zero(),
     )?;
     assert!(rt; fine);
     Ok(())
@@ -250,14 +232,8 @@ fn two_looks_are_open_at_once(rt: HostRuntime) -> Result<(), Fail> {
         &rt,
         rt.alloc(),
         NewHistory::new(),
-        Sum {
-            total: 0,
-            followed: 0,
-        },
-        Sum {
-            total: 0,
-            followed: 0,
-        },
+        Sum::zero(),
+        Sum::zero(),
     )?;
     assert!(rt; fine);
     Ok(())
@@ -320,14 +296,8 @@ fn the_older_copy_follows(rt: HostRuntime) -> Result<(), Fail> {
         &rt,
         rt.alloc(),
         NewHistory::new(),
-        Sum {
-            total: 0,
-            followed: 0,
-        },
-        Sum {
-            total: 0,
-            followed: 0,
-        },
+        Sum::zero(),
+        Sum::zero(),
     )?;
     assert_eq!(rt; followed, 3);
     Ok(())
@@ -360,14 +330,8 @@ fn posts_want_no_memory(rt: HostRuntime) -> Result<(), Fail> {
         rt.alloc(),
         &heap,
         NewHistory::new(),
-        Sum {
-            total: 0,
-            followed: 0,
-        },
-        Sum {
-            total: 0,
-            followed: 0,
-        },
+        Sum::zero(),
+        Sum::zero(),
     )?;
     assert!(rt; fine);
     Ok(())

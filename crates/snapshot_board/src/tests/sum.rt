@@ -1,6 +1,6 @@
 //! A small value: a sum, whose messages are added.
 
-ghost use Rattle.std.specs.Prelude.{◌+◌, ◌%◌, ◌^◌};
+ghost use Rattle.std.specs.Prelude.{◌≡◌, ◌+◌, ◌%◌, ◌^◌};
 
 use crate::replay::Replay;
 
@@ -10,6 +10,18 @@ pub struct Sum {
 
     /// How many messages it took as another sum had taken them.
     pub followed: u64,
+}
+
+impl Sum {
+    /// Nothing was added, and no message was taken as another had taken it.
+    pub fn zero() -> Sum
+        ensures { result ≡ record { total = 0; followed = 0 } }
+    {
+        Sum {
+            total: 0,
+            followed: 0,
+        }
+    }
 }
 
 impl Replay for Sum {
