@@ -1,5 +1,5 @@
 -- Stored trains, their names, and their numbers.
-use Rattle.schedule_build.proofs.Words.{common_steps, ◌≡◌, ◌∙◌, ◌+◌, ◌-◌, ◌^◌, ◌<◌, ◌++◌, ◌∷◌, [], ℕ, List, Option, Some, None, true, false, length, length-append, All, map, suc, get_or}
+use Rattle.schedule_build.proofs.Words.{common_steps, ◌≡◌, ◌∙◌, ◌+◌, ◌-◌, ◌^◌, ◌<◌, ◌≤◌, ◌++◌, ◌∷◌, [], ℕ, List, Option, Some, None, true, false, length, length-append, All, map, suc, get_or}
 use Rattle.schedule_build.proofs.Words.{refl, arith, map-append, All-push, bytes_eq-Decides, bytes_eq, nat_eq, ◌&&◌, slice_index_or, StoredTrain, number_from, key_cmp}
 use Rattle.schedule_build.proofs.Words.{trip_name, seen_train, HasTrip, AreNumbered, AreNamed}
 use Rattle.std.proofs.Math.ListN.{get_or-append}
@@ -47,20 +47,24 @@ trains-kept trips name [] h = refl
 trains-kept trips name (t ∷ trains) h =
     rw ((kept trips name (number_of_name trips name) t (h 0 t (omega arith))).0, trains-kept trips name trains (λ k d l. h (suc k) d (omega arith))) refl
 
--- with one more name, and with one more train, all is as it should be
-pub named-after : (trips : List (List ℕ)) (trains : List StoredTrain) (numbers : BTreeMap (ℕ × ℕ) ℕ) (name : List ℕ) → AreNamed trips trains numbers → AreNamed (with_name name trips) trains numbers
-named-after trips trains numbers name h =
-    record { few = h.few; loaded = h.loaded; has_trips = λ k d l. (kept trips name (number_of_name trips name) (get_or trains k d) (h.has_trips k d l)).1; numbered = h.numbered }
+-- there is one more name at most
+one-more : (found : Option ℕ) (name : List ℕ) (trips : List (List ℕ)) → length (name_after found name trips) ≤ length trips + 1
+one-more (Some n) name trips = omega arith
+one-more None name trips = omega (arith, length-append trips (name ∷ []))
 
-pub named-more : (trips : List (List ℕ)) (trains : List StoredTrain) (old new : BTreeMap (ℕ × ℕ) ℕ) (trip : List ℕ) (k day : ℕ) → AreNamed trips trains old → number_of_name trips trip ≡ Some k
-    → day < 31 → length trains + 1 < 2 ^ 32 → AreNumbered (trains ++ record { trip = k; day = day } ∷ []) new → AreNamed trips (trains ++ record { trip = k; day = day } ∷ []) new
+-- with one more train, and its name among those of the trips, all is as it should be
+pub named-more : (trips : List (List ℕ)) (trains : List StoredTrain) (old new : BTreeMap (ℕ × ℕ) ℕ) (trip : List ℕ) (k day : ℕ) → AreNamed trips trains old → number_of_name (with_name trip trips) trip ≡ Some k
+    → day < 31 → length trains + 1 < 2 ^ 32 → AreNumbered (trains ++ record { trip = k; day = day } ∷ []) new → AreNamed (with_name trip trips) (trains ++ record { trip = k; day = day } ∷ []) new
 named-more trips trains old new trip k day h found loaded few numbered =
     let t : StoredTrain = record { trip = k; day = day } in
     let long = length-append trains (t ∷ []) in
+    let number = number_of_name trips trip in
+    let has : All (HasTrip (with_name trip trips)) trains = λ i d l. (kept trips trip number (get_or trains i d) (h.has_trips i d l)).1 in
     record {
       few = omega arith;
+      few_trips = omega (arith, one-more number trip trips, h.few_trips, long);
       loaded = All-push (λ (u : StoredTrain). u.day < 31) trains t h.loaded loaded;
-      has_trips = All-push (HasTrip trips) trains t h.has_trips (rw (named-there trips trip k found).1 found);
+      has_trips = All-push (HasTrip (with_name trip trips)) trains t has (rw (named-there (with_name trip trips) trip k found).1 found);
       numbered = numbered;
     }
 

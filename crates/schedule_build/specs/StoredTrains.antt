@@ -1,5 +1,5 @@
 -- How the names of trains are stored.
-use Rattle.std.specs.Prelude.{◌≡◌, ℕ, ◌<◌, ◌^◌, [], List, All, Some, length, nat_eq, ◌&&◌, slice_index_or}
+use Rattle.std.specs.Prelude.{◌≡◌, ℕ, ◌<◌, ◌≤◌, ◌^◌, [], List, All, Some, length, nat_eq, ◌&&◌, slice_index_or}
 use Rattle.std.specs.BTreeMap.{BTreeMap, get}
 use Rattle.std.specs.Ordering.{nat_cmp, ordering_then}
 use Rattle.std.specs.declared.cmp.Ordering.{Ordering}
@@ -29,10 +29,12 @@ pub record AreNumbered (trains : List StoredTrain) (numbers : BTreeMap (ℕ × �
   pub found : (trip day : ℕ) → get key_cmp numbers (trip, day)
       ≡ number_from 0 (λ (t : StoredTrain). nat_eq t.trip trip && nat_eq t.day day) trains
 
--- fewer than 2^32 trains on loaded days, with the trips and the numbers that they have
+-- fewer than 2^32 trains on loaded days, with the trips and the numbers that they have, and no more
+-- trips than trains
 pub record AreNamed (trips : List (List ℕ)) (trains : List StoredTrain)
     (numbers : BTreeMap (ℕ × ℕ) ℕ) : Type 0 where
   pub few : length trains < 2 ^ 32
+  pub few_trips : length trips ≤ length trains
   pub loaded : All (λ (t : StoredTrain). t.day < 31) trains
   pub has_trips : All (HasTrip trips) trains
   pub numbered : AreNumbered trains numbers

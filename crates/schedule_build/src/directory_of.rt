@@ -1,8 +1,9 @@
 //! The names of a feed's timetable.
 
-ghost use Rattle.std.specs.Prelude.{◌≡◌, ◌<◌, ◌≤◌, All, IfOk, length, map};
+ghost use Rattle.std.specs.Prelude.{◌≡◌, ◌<◌, ◌≤◌, ◌^◌, All, IfOk, length, map};
 ghost use Rattle.mt_base.specs.Civil.{IsCivil};
 ghost use Rattle.mt_base.specs.Options.{IsInRange};
+ghost use Rattle.feed_tables.specs.Lawful.{IsLawful};
 ghost use Rattle.schedule_build.specs.Directory.{dates_from, name_of_run, names_of};
 ghost use Rattle.schedule_build.specs.Runs.{all_runs};
 ghost use Rattle.schedule_build.specs.declared.runs.Run.{Run};
@@ -38,6 +39,7 @@ fn dates(alloc: Global, first: u32, days: u32) -> Result<Vec<u32>, OutOfMemory>
 
 /// The names in their order.
 fn names(alloc: Global, rows: &[Name]) -> Result<NameList, OutOfMemory>
+    requires few { length rows.now < 2 ^ 32 }
     ensures { IfOk result (λ names. names ≡ rows.now) }
 {
     let mut names = NameList::new(alloc);
@@ -65,7 +67,7 @@ fn trains(alloc: Global, trips: &[TripRow], runs: &[Run]) -> Result<TrainNames, 
 {
     let mut trains = TrainNames::new(alloc);
     for run in runs {
-        trains.push(alloc, trip_id(trips, run), Day::new(run.day))?;
+        trains = trains.with_train(alloc, trip_id(trips, run), Day::new(run.day))?;
     }
     Ok(trains)
 }
@@ -80,7 +82,8 @@ pub(crate) fn directory_of(
     days: u32,
     opts: &Opts,
 ) -> Result<Directory, OutOfMemory>
-    // the days and the options
+    // lawful tables, the days and the options
+    requires lawful { IsLawful t.now }
     requires civil { IsCivil first }
     requires year { first < 21010000 }
     requires few_days { days ≤ 31 }

@@ -1,13 +1,13 @@
 //! Names in the order of their numbers.
 
-ghost use Rattle.std.specs.Prelude.{◌≡◌, [], ◌∷◌, ◌++◌, Some, if◌then◌else◌, IfOk, length, slice_index_or};
+ghost use Rattle.std.specs.Prelude.{◌≡◌, ◌<◌, ◌^◌, [], ◌∷◌, ◌++◌, Some, if◌then◌else◌, IfOk, length, slice_index_or};
 ghost use Rattle.std.specs.Result.{is_ok};
 ghost use Rattle.schedule_build.specs.Stored.{number_of_name, with_name};
 
 use crate::name_numbers::NameNumbers;
 use mt_base::memory::OutOfMemory;
 use mt_base::names::Name;
-use std::alloc::{AllocError, Global};
+use std::alloc::Global;
 use std::marker::Model;
 
 /// Names in the order of their numbers. They are seen as their list.
@@ -67,6 +67,7 @@ impl NameList {
     /// The number of a name, which gets the next number where it is not there yet. After an error
     /// nothing is changed.
     pub(crate) fn number(&mut self, alloc: Global, name: &str) -> Result<u32, OutOfMemory>
+        requires room { length self.old < 2 ^ 32 }
         ensures number { IfOk result (λ n. number_of_name self.new name.now ≡ Some n) }
         ensures names { self.new ≡ (if is_ok result then with_name name.now self.old
             else self.old) }
@@ -74,15 +75,14 @@ impl NameList {
         if let Some(number) = self.find(name) {
             return Ok(number);
         }
-        let Ok(number) = u32::try_from(self.len()) else {
-            return Err(AllocError);
-        };
+        let number = self.len() as u32;
         self.push(alloc, name)?;
         Ok(number)
     }
 
     /// Adds a name with the next number. After an error nothing is changed.
     pub(crate) fn push(&mut self, alloc: Global, name: &str) -> Result<(), OutOfMemory>
+        requires room { length self.old < 2 ^ 32 }
         ensures { self.new ≡ (if is_ok result then self.old ++ name.now ∷ [] else self.old) }
     {
         let number = self.names.len();

@@ -1,10 +1,10 @@
 //! The numbers of names.
 
-ghost use Rattle.std.specs.Prelude.{◌≡◌, ℕ, List, [], ◌∷◌, ◌++◌, IfOk, OnErr, length};
+ghost use Rattle.std.specs.Prelude.{◌≡◌, ◌<◌, ◌^◌, ℕ, List, [], ◌∷◌, ◌++◌, IfOk, OnErr, length};
 ghost use Rattle.schedule_build.specs.Stored.{IsNumbered, number_in};
 
 use mt_base::memory::OutOfMemory;
-use std::alloc::{AllocError, Global};
+use std::alloc::Global;
 use std::collections::BTreeMap;
 
 /// The number of each name: of equal names the first counts.
@@ -38,6 +38,7 @@ impl NameNumbers {
         name: &str,
         number: usize,
     ) -> Result<(), OutOfMemory>
+        requires room { number < 2 ^ 32 }
         ensures added { IfOk result (λ _. (names : List (List ℕ)) → IsNumbered names self.old
             → number ≡ length names
             → IsNumbered (names ++ name.now ∷ []) self.new) }
@@ -47,11 +48,8 @@ impl NameNumbers {
         if self.by_name.contains_key(name) {
             return Ok(());
         }
-        let Ok(number) = u32::try_from(number) else {
-            return Err(AllocError);
-        };
         let key = String::from_str(alloc, name)?;
-        self.by_name.insert(key, number)?;
+        self.by_name.insert(key, number as u32)?;
         Ok(())
     }
 }

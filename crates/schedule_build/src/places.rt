@@ -1,6 +1,6 @@
 //! The places of a feed by number and by name.
 
-ghost use Rattle.std.specs.Prelude.{◌≡◌, [], IfOk, map, slice_get};
+ghost use Rattle.std.specs.Prelude.{◌≡◌, ◌<◌, ◌^◌, [], IfOk, length, map, slice_get};
 ghost use Rattle.std.specs.Option.{option_map, option_map_or};
 ghost use Rattle.schedule_build.specs.Directory.{Place, place_of_row};
 ghost use Rattle.schedule_build.specs.Stored.{number_of_place};
@@ -44,6 +44,7 @@ impl Model for Places {
 impl Places {
     /// The rows of `stops.txt` as places.
     pub(crate) fn build(alloc: Global, rows: &[StopRow]) -> Result<Places, OutOfMemory>
+        requires few { length rows.now < 2 ^ 32 }
         ensures { IfOk result (λ places. places ≡ map place_of_row rows.now) }
     {
         let mut places = Vec::with_capacity(alloc, rows.len())?;

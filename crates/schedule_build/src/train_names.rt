@@ -1,8 +1,7 @@
 //! The names of the trains.
 
-ghost use Rattle.std.specs.Prelude.{◌≡◌, ◌+◌, ◌<◌, ◌^◌, List, [], ◌∷◌, ◌++◌, if◌then◌else◌, IfOk, IfSome, OnErr, length, slice_get};
+ghost use Rattle.std.specs.Prelude.{◌≡◌, ◌+◌, ◌<◌, ◌^◌, List, [], ◌∷◌, ◌++◌, IfOk, IfSome, OnErr, length, slice_get};
 ghost use Rattle.std.specs.Option.{option_map_or};
-ghost use Rattle.std.specs.Result.{is_ok};
 ghost use Rattle.delay_model.specs.Names.{TrainName};
 ghost use Rattle.schedule_build.specs.Stored.{number_of_train};
 ghost use Rattle.schedule_build.specs.StoredTrains.{AreNumbered};
@@ -117,20 +116,22 @@ impl TrainNames {
         }
     }
 
-    /// Adds a train with the next number. After an error the trains are as before.
-    pub(crate) fn push(&mut self, alloc: Global, trip: &str, day: Day) -> Result<(), OutOfMemory>
+    /// The trains with one more, which gets the next number.
+    pub(crate) fn with_train(
+        mut self,
+        alloc: Global,
+        trip: &str,
+        day: Day,
+    ) -> Result<TrainNames, OutOfMemory>
         requires loaded { day < 31 }
-        requires few { length self.old + 1 < 2 ^ 32 }
-        ensures { self.new ≡ (if is_ok result then self.old ++ record { trip = trip.now; day = day }
-            ∷ [] else self.old) }
+        requires few { length self + 1 < 2 ^ 32 }
+        ensures { IfOk result (λ trains. trains ≡ self ++ record { trip = trip.now; day = day }
+            ∷ []) }
     {
         let trip = self.trips.number(alloc, trip)?;
         let number = self.trains.len() as u32;
         self.trains.push(StoredTrain { trip, day })?;
-        if let Err(want) = add_number(&mut self.numbers, trip, day, number) {
-            let _ = self.trains.pop();
-            return Err(want);
-        }
-        Ok(())
+        add_number(&mut self.numbers, trip, day, number)?;
+        Ok(self)
     }
 }

@@ -12,6 +12,6 @@ returns-then-contains_key-clause-added c = λ names h e. record {
 pub returns-clause-added : goal.returns-clause-added
 returns-clause-added c = λ names h e. record {
   found = λ name.
-      let updates = btree_map_updates_text (string_bytes c.in_ok-key.key) c.args.self.now.by_name c.insert.new.self (Some c.in-Ok.number) c.in_ok-insert.ensures.updates name in
+      let updates = btree_map_updates_text (string_bytes c.in_ok-key.key) c.args.self.now.by_name c.insert.new.self (Some c.args.number) c.in_ok-insert.ensures.updates name in
       grind (arith, common_steps, bytes_eq-Decides c.args.name.now name, updates, h.found name, number_from-end (λ n. bytes_eq n name) 0 names c.args.name.now);
 }
