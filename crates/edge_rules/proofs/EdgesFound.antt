@@ -1,5 +1,5 @@
 -- The edges that are found at an event are those of the model.
-use Rattle.edge_rules.proofs.Words.{◌≡◌, node_of, filter_passes, ℕ, map, filter, get_or, suc, refl, true, false, List, [], ◌∷◌, ◌++◌, Option, Some, None, flat_map, subst, arith, All, IsPermutation, filter-append, All-map, All-filter, All-cons, All-nil, All-contains, Contains-append_right, IsPermutation-append_right, IsPermutation-sym, All-permutation, slice_get_within, get_or_from_slice_get, Node, Network, Call, Train, State, Event, is_stop, is_same, live_events, events, events_at, event_named, arrival_of, departure_of, events-from_each, Indexed, outgoing, edges_to, edges_from, along_to, along_from, AreAtStops, IsAtStop, planned_at, kept_at, HasEvent, HaveEvents, HasOwnLabels, IsConsistent, Inside, IsIndexOf, entry_of, GraphState, may_change, transfer_between, transfers_to, Shift, Into, From, Changing, WaitsAt, option_map_or, Edge, train_edges}
+use Rattle.edge_rules.proofs.Words.{◌≡◌, node_of, filter_passes, ℕ, map, filter, get_or, suc, refl, true, false, List, [], ◌∷◌, ◌++◌, Option, Some, None, flat_map, subst, arith, All, IsPermutation, filter-append, All-map, All-filter, All-cons, All-nil, All-contains, Contains-append_right, IsPermutation-append_right, IsPermutation-sym, All-permutation, slice_get_within, get_or_from_slice_get, Node, Network, Call, Train, State, Event, is_stop, is_same, live_events, events, events_at, event_named, arrival_of, departure_of, events-from_each, Indexed, outgoing, edges_to, edges_from, along_to, along_from, AreAtStops, IsAtStop, planned_at, kept_at, HasLiveEvent, HaveLiveEvents, HasOwnLabels, IsConsistent, Inside, IsIndexOf, entry_of, GraphState, may_change, transfer_between, transfers_to, Shift, Into, From, Changing, WaitsAt, option_map_or, Edge, train_edges}
 use Rattle.edge_rules.specs.Inside.{seen}
 use Rattle.edge_rules.proofs.Caps.{there}
 use Rattle.edge_rules.proofs.FoundLemmas.{found-into, found-out, found-changing}
@@ -59,25 +59,25 @@ module _ (g : GraphState) (index : Indexed) (n : Node) (v : Event) (labels : All
       (IsPermutation-append_right _ _ _ (found-changing g index.entries is.entries (each-named g.state labels) (all-at_stops g.network g.state stops) labels shift v short))
 
 -- the live events have their entries
-live-entry : (st : State) (v : Event) → event_named st (node_of v.key) ≡ Some v → v.live ≡ true → HasEvent st (entry_of v)
+live-entry : (st : State) (v : Event) → event_named st (node_of v.key) ≡ Some v → v.live ≡ true → HasLiveEvent st (entry_of v)
 live-entry st v named live = record { event = v; named = named; entry = refl; live = live }
 
 -- the entries of the index are those of live events
-pub index-events : (st : State) (index : Indexed) → All HasOwnLabels st.trains → IsIndexOf st index → HaveEvents st index.entries
+pub index-events : (st : State) (index : Indexed) → All HasOwnLabels st.trains → IsIndexOf st index → HaveLiveEvents st index.entries
 index-events st index labels is =
     let live = live_events (events st) in
     let named = each-named st labels in
     let lives : All (λ v. v.live ≡ true) live = filter_passes (λ (v : Event). v.live) (events st) in
     let names : All (λ v. event_named st (node_of v.key) ≡ Some v) live = All-filter (λ (v : Event). v.live) (λ v. event_named st (node_of v.key) ≡ Some v) (events st) named in
-    All-permutation (HasEvent st) (map entry_of live) index.entries (IsPermutation-sym index.entries (map entry_of live) is.entries)
-    (All-map (HasEvent st) entry_of live (λ i d l. live-entry st (get_or live i d) (names i d l) (lives i d l)))
+    All-permutation (HasLiveEvent st) (map entry_of live) index.entries (IsPermutation-sym index.entries (map entry_of live) is.entries)
+    (All-map (HasLiveEvent st) entry_of live (λ i d l. live-entry st (get_or live i d) (names i d l) (lives i d l)))
 
 -- what holds of a graph as it is seen
 pub record Holds (a : Inside) (g : GraphState) : Type 0 where
   pub labels : All HasOwnLabels g.state.trains
   pub stops : AreAtStops g.network.stops g.state
   pub index : IsIndexOf g.state a.index
-  pub entries : HaveEvents g.state a.index.entries
+  pub entries : HaveLiveEvents g.state a.index.entries
 
 pub holds : (a : Inside) (g : GraphState) → IsConsistent a → seen a ≡ g → Holds a g
 holds a g h is =

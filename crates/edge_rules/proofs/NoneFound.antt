@@ -1,5 +1,5 @@
 -- Where no edge between trains is found.
-use Rattle.edge_rules.proofs.Words.{◌≡◌, ◌<◌, ℕ, Bool, cond, inl, inr, true, false, not, nat_eq, List, [], ◌∷◌, flat_map, length, get_or, Option, Some, None, refl, ◌∙◌, ap, arith, Contains, option_map_or, nat_tests, Node, Entry, RuleRow, node_of, Network, Override, State, Event, Edge, wait_between, transfer, event_named, connection, wait, into-each, from-each, eqb-true, first_near, last_near, HasEvent, HaveEvents, of_entry, planned_with, planned_by, planned_at, kept_with, kept_at, of_name, tables_in, GraphState, Into, From, Changing, WaitsAt, Change, is_in_range, cases_Bool}
+use Rattle.edge_rules.proofs.Words.{◌≡◌, ◌<◌, ℕ, Bool, cond, inl, inr, true, false, not, nat_eq, List, [], ◌∷◌, flat_map, length, get_or, Option, Some, None, refl, ◌∙◌, ap, arith, Contains, option_map_or, nat_tests, Node, Entry, RuleRow, node_of, Network, Override, State, Event, Edge, wait_between, transfer, event_named, connection, wait, into-each, from-each, eqb-true, first_near, last_near, HasLiveEvent, HaveLiveEvents, of_entry, planned_with, planned_by, planned_at, kept_with, kept_at, of_name, tables_in, GraphState, Into, From, Changing, WaitsAt, Change, is_in_range, cases_Bool}
 use mathlib.Core.Bool.{beq}
 use Rattle.std.specs.FinMap as finmap
 use Rattle.std.specs.FinMap.{FinMap, get-empty, empty_of_len}
@@ -48,14 +48,14 @@ no-wait-piece g From v w u into from = let zero = from refl in grind (arith, nat
 no-wait-piece g (Changing shift) v w u into from = let zero = from refl in grind (arith, nat_tests)
 
 -- where no train waits at the stop of a change
-pub planned-unwaited : (g : GraphState) (es : List Entry) (wanted : Wanted) (v : Event) (c : Change) → HaveEvents g.state es → are_into wanted ≡ false → ((feeder connecting : ℕ) → wait g.network.stops g.network.rules feeder connecting c.stop ≡ 0) → planned_by g es wanted v c ≡ []
+pub planned-unwaited : (g : GraphState) (es : List Entry) (wanted : Wanted) (v : Event) (c : Change) → HaveLiveEvents g.state es → are_into wanted ≡ false → ((feeder connecting : ℕ) → wait g.network.stops g.network.rules feeder connecting c.stop ≡ 0) → planned_by g es wanted v c ≡ []
 planned-unwaited g es wanted v c h from none =
     let window = g.network.opts.window in
     let f = planned_with g wanted v c.seconds in
     let p = is_in_range c.stop (not (are_into wanted)) (first_near window wanted v.key.time c.seconds) (last_near window wanted v.key.time c.seconds) in
     pieces-filter (of_entry g.state f) p es
     ∙ pieces-none (λ e. cond (p e) (of_entry g.state f e) []) es (λ i d l. let e = get_or es i d in one e (h i d l)) where
-      one : (e : Entry) → HasEvent g.state e → cond (is_in_range c.stop (not (are_into wanted)) (first_near g.network.opts.window wanted v.key.time c.seconds) (last_near g.network.opts.window wanted v.key.time c.seconds) e) (of_entry g.state (planned_with g wanted v c.seconds) e) [] ≡ []
+      one : (e : Entry) → HasLiveEvent g.state e → cond (is_in_range c.stop (not (are_into wanted)) (first_near g.network.opts.window wanted v.key.time c.seconds) (last_near g.network.opts.window wanted v.key.time c.seconds) e) (of_entry g.state (planned_with g wanted v c.seconds) e) [] ≡ []
       one e has =
           elim (cases_Bool (is_in_range c.stop (not (are_into wanted)) (first_near g.network.opts.window wanted v.key.time c.seconds) (last_near g.network.opts.window wanted v.key.time c.seconds) e)) [
             | inl hit ↦

@@ -1,10 +1,10 @@
 -- An event as its entry and its train's route tell it, without what was reported of it.
-use Rattle.edge_rules.proofs.Words.{◌≡◌, ℕ, ◌<◌, length, Option, Some, None, refl, sym, ◌∙◌, ap, option_map, option_map_or, slice_get, slice_get_within, true, [], Entry, Train, State, Event, event_named, HasEvent, of_entry, planned_with, unreported, entry_of, GraphState, Into, From, Changing}
+use Rattle.edge_rules.proofs.Words.{◌≡◌, ℕ, ◌<◌, length, Option, Some, None, refl, sym, ◌∙◌, ap, option_map, option_map_or, slice_get, slice_get_within, true, [], Entry, Train, State, Event, event_named, HasLiveEvent, of_entry, planned_with, unreported, entry_of, GraphState, Into, From, Changing}
 use Rattle.edge_rules.specs.declared.wanted.Wanted.{Wanted}
 use Rattle.edge_rules.proofs.Neighbours.{named-at}
 
 -- the train of an entry's event is there
-pub train-there : (st : State) (e : Entry) → HasEvent st e → e.node.train < length st.trains
+pub train-there : (st : State) (e : Entry) → HasLiveEvent st e → e.node.train < length st.trains
 train-there st e h =
     let at = named-at st e.node h.event h.named in slice_get_within st.trains e.node.train at.train at.there
 
@@ -22,7 +22,7 @@ told e route = record {
 same-event : (e : Entry) (v : Event) → entry_of v ≡ e → v.live ≡ true → unreported v ≡ told e v.route
 same-event e v is live = rw (← is, live) refl
 
-pub told-is : (st : State) (e : Entry) (route : ℕ) → HasEvent st e → option_map (λ (t : Train). t.route) (slice_get st.trains e.node.train) ≡ Some route → option_map unreported (event_named st e.node) ≡ Some (told e route)
+pub told-is : (st : State) (e : Entry) (route : ℕ) → HasLiveEvent st e → option_map (λ (t : Train). t.route) (slice_get st.trains e.node.train) ≡ Some route → option_map unreported (event_named st e.node) ≡ Some (told e route)
 told-is st e route h is =
     let at = named-at st e.node h.event h.named in
     let own : h.event.route ≡ at.train.route = ap (λ (v : Event). v.route) at.event in

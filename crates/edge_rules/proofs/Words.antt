@@ -24,7 +24,7 @@ pub use Rattle.edge_rules.specs.AtEvent.{along_from, along_to, edges_from, edges
 unfoldable pub use Rattle.edge_rules.specs.AtEvent.{outgoing}
 pub use Rattle.edge_rules.specs.AtStops.{AreAtStops, IsAtStop}
 pub use Rattle.edge_rules.specs.Deciding.{may_change}
-pub use Rattle.edge_rules.specs.Found.{HasEvent, HaveEvents, first_near, kept_at, kept_with, last_near, of_entry, of_name, planned_at, planned_by, planned_with, tables_in, unreported, waits_at}
+pub use Rattle.edge_rules.specs.Found.{HasLiveEvent, HaveLiveEvents, first_near, kept_at, kept_with, last_near, of_entry, of_name, planned_at, planned_by, planned_with, tables_in, unreported, waits_at}
 pub use Rattle.edge_rules.specs.GraphState.{GraphState}
 pub use Rattle.edge_rules.specs.Indexing.{AreNew, AreThere, IsIndexOf, entries_of, entry_of, new_entries, with_entries, without_entries}
 pub use Rattle.edge_rules.specs.Inside.{HasOwnLabels, IsConsistent, network_of}

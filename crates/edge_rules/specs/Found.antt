@@ -116,15 +116,15 @@ kept_at g into v = flat_map (of_name g.state (kept_with g into v))
     (kept_names g.state into (node_of v.key))
 
 -- the entry is that of a live event
-pub record HasEvent (st : State) (e : Entry) : Type 0 where
+pub record HasLiveEvent (st : State) (e : Entry) : Type 0 where
   pub event : Event
   pub named : event_named st e.node ≡ Some event
   pub entry : entry_of event ≡ e
   pub live : event.live ≡ true
 
 -- each of these entries is that of a live event
-abbrev pub HaveEvents : State → List Entry → Type 0
-HaveEvents st es = All (HasEvent st) es
+abbrev pub HaveLiveEvents : State → List Entry → Type 0
+HaveLiveEvents st es = All (HasLiveEvent st) es
 
 -- an event without what was reported of it
 abbrev pub unreported : Event → Event

@@ -5,7 +5,7 @@ ghost use Rattle.std.specs.Prelude.{◌≡◌, [], Some, flat_map, unwrap_or};
 ghost use Rattle.std.specs.Option.{option_map, option_to_list};
 ghost use Rattle.std.specs.Iterator.{YieldsFirst, item_count};
 ghost use Rattle.delay_model.specs.Events.{event_named};
-ghost use Rattle.edge_rules.specs.Found.{AreWaitsAt, HasEvent, HaveEvents, first_near};
+ghost use Rattle.edge_rules.specs.Found.{AreWaitsAt, HasLiveEvent, HaveLiveEvents, first_near};
 ghost use Rattle.edge_rules.specs.Found.{joined_stops, kept_at, kept_with, last_near, of_entry};
 ghost use Rattle.edge_rules.specs.Found.{of_name, planned_at, planned_by, planned_with};
 ghost use Rattle.edge_rules.specs.Found.{unreported, waits_at};
@@ -128,7 +128,7 @@ pub(crate) fn planned_to<'a>(
     index: &'a StationIndex,
     at: &Event,
 ) -> Option<PlannedEdges<'a>>
-    requires { HaveEvents graph.now.state index.now.entries }
+    requires { HaveLiveEvents graph.now.state index.now.entries }
     ensures { unwrap_or result []
         ≡ planned_at graph.now index.now.entries (Wants.Into (waits_at graph.now at.now)) at.now }
 {
@@ -149,7 +149,7 @@ pub(crate) fn planned_edges<'a>(
     at: &Event,
 ) -> Option<PlannedEdges<'a>>
     requires waits { AreWaitsAt graph.now at.now wanted }
-    requires entries { HaveEvents graph.now.state index.now.entries }
+    requires entries { HaveLiveEvents graph.now.state index.now.entries }
     ensures { unwrap_or result [] ≡ planned_at graph.now index.now.entries wanted.entry at.now }
 {
     if !wanted.can_be_at(at) || graph.has_no_rules() {
@@ -202,11 +202,11 @@ fn next_planned(
     entries: &mut Option<Range<'_>>,
 ) -> Option<Edge>
     requires waits { AreWaitsAt graph.now at.now wanted.now }
-    requires there { HaveEvents graph.now.state (unwrap_or entries.old []) }
+    requires there { HaveLiveEvents graph.now.state (unwrap_or entries.old []) }
     ensures first { YieldsFirst (flat_map (of_entry graph.now.state
         (planned_with graph.now wanted.now at.now seconds)))
         (unwrap_or entries.old []) result (unwrap_or entries.new []) }
-    ensures left { HaveEvents graph.now.state (unwrap_or entries.new []) }
+    ensures left { HaveLiveEvents graph.now.state (unwrap_or entries.new []) }
 {
     let Some(entries) = entries else {
         return None;
@@ -228,7 +228,7 @@ fn planned_edge(
     entry: &Entry,
 ) -> Option<Edge>
     requires waits { AreWaitsAt graph.now at.now wanted.now }
-    requires there { HasEvent graph.now.state entry.now }
+    requires there { HasLiveEvent graph.now.state entry.now }
     ensures { option_to_list result ≡ of_entry graph.now.state
         (planned_with graph.now wanted.now at.now seconds) entry.now }
 {
@@ -245,7 +245,7 @@ fn planned_edge(
 /// lies far from others of the stop, is not read.
 #[inline(always)]
 fn event_of(graph: &Graph, entry: &Entry) -> Event
-    requires { HasEvent graph.now.state entry.now }
+    requires { HasLiveEvent graph.now.state entry.now }
     ensures { option_map unreported (event_named graph.now.state entry.now.node) ≡ Some result }
 {
     let Node { train, label, dep } = entry.node;
@@ -311,11 +311,11 @@ fn entries_near<'a>(
     at: &Event,
     change: &Change,
 ) -> Option<Range<'a>>
-    requires { HaveEvents graph.now.state index.now.entries }
+    requires { HaveLiveEvents graph.now.state index.now.entries }
     ensures edges { flat_map (of_entry graph.now.state (planned_with graph.now wanted.now at.now
         change.now.seconds)) (unwrap_or result [])
         ≡ planned_by graph.now index.now.entries wanted.now at.now change.now }
-    ensures there { HaveEvents graph.now.state (unwrap_or result []) }
+    ensures there { HaveLiveEvents graph.now.state (unwrap_or result []) }
 {
     let (first, last) = times_near(graph.window(), wanted, at.key.time, change.seconds);
     if first > last {

@@ -2,6 +2,7 @@
 
 ghost use Rattle.std.specs.Prelude.{◌≡◌, ◌≤◌, length, IfOk, IfSome, IsErr, IsErrOf, Some, option_map};
 ghost use Rattle.feed_gen.specs.Tables.{files};
+ghost use Rattle.mt_io.specs.Causes.{no_faults};
 
 use crate::tables::table_named;
 use mt_io::{Feed, FeedFault};
@@ -39,7 +40,7 @@ impl GenFeed {
 impl Feed for GenFeed {
     ghost tables = { λ trains. Some (files trains) };
 
-    ghost faults = { λ _. 0 };
+    ghost faults = { λ _. no_faults };
 
     fn table(&mut self, folder: &str, name: &str) -> Result<Option<Vec<u8>>, FeedFault>
         ensures bytes { IfOk result (λ table.

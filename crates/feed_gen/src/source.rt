@@ -4,6 +4,7 @@ ghost use Rattle.std.specs.Prelude.{◌≡◌, ◌≤◌, ◌+◌, ◌-◌, ◌+
 ghost use Rattle.std.specs.Io.{ReadsAtMost};
 ghost use Rattle.std.specs.Io.KnownBytes.{ReadConsumes};
 ghost use Rattle.feed_gen.specs.Lines.{bytes_left, input};
+ghost use Rattle.mt_io.specs.Causes.{no_faults};
 
 use crate::lines::make_lines;
 use mt_base::OutOfMemory;
@@ -58,7 +59,7 @@ impl GenLines {
 impl Source for GenLines {
     ghost left = { λ g. Some g };
 
-    ghost faults = { λ _. 0 };
+    ghost faults = { λ _. no_faults };
 
     fn read(&mut self, buf: &mut [u8]) -> Result<usize, Failed>
         ensures bound { ReadsAtMost result buf.new }

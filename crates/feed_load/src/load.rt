@@ -162,7 +162,7 @@ fn load_tables(
 /// refuse the feed: a fault of its tables; more than 4,000,000 pairs of a stop or station and a
 /// stop with a change from the first to the second; more than 200,000 trains; or more than
 /// 2,000,000 nodes, two for each call. `ReadFault` comes only where the feed failed. `OutOfMemory`
-/// where there is no memory, or where the rows of a table cannot be numbered with 32 bits.
+/// where there is no memory.
 pub fn load_feed<F: Feed>(
     alloc: Global,
     feed: &mut F,
@@ -200,7 +200,7 @@ pub fn load_feed<F: Feed>(
 
     // the faults of the feed that are counted
     ensures failed { IsErrOf result FeedError.ReadFault
-        → F.faults feed.new ≡ counted (F.faults feed.old) }
+        → Some (F.faults feed.new) ≡ counted (F.faults feed.old) }
     ensures answered { ¬ (IsErrOf result FeedError.ReadFault)
         → F.faults feed.new ≡ F.faults feed.old }
 {

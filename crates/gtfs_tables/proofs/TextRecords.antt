@@ -1,5 +1,5 @@
 -- The records of a text are all that `csv` reads of it.
-use Rattle.gtfs_tables.proofs.Words.{◌≡◌, ℕ, zero, suc, ◌+◌, ◌<◌, List, [], ◌∷◌, Option, None, Some, length, refl, arith, inl, inr, next_record, Reached, AreRecords, default_config, State, records_of, AreRecordsOf}
+use Rattle.gtfs_tables.proofs.Words.{◌≡◌, ℕ, zero, suc, ◌+◌, ◌<◌, ◌≤◌, List, [], ◌∷◌, Option, None, Some, length, refl, arith, inl, inr, next_record, Reached, AreRecords, default_config, State, records_of, AreRecordsOf}
 use Rattle.std.proofs.Common.{◌⊎◌}
 use Rattle.csv.specs.Machine.{Read, step, fields_after, field_after}
 use Rattle.csv.specs.declared.parser.Config.{Config}
@@ -42,3 +42,26 @@ from cfg (suc n) s bytes l = from-next cfg n s bytes (next_record cfg s [] [] by
 pub records_are : (text : List ℕ) → AreRecordsOf text (records_of text)
 unfolding records_of
 records_are text = from default_config (length (strip_bom text) + 1) st.StartRecord (strip_bom text) (omega arith)
+
+-- ---- how many they are
+
+next-few : (n : ℕ) (more : State → List ℕ → List (List (List ℕ))) (next : Option Read) → ((s : State) (bytes : List ℕ) → length (more s bytes) ≤ n) → length (records_next more next) ≤ suc n
+next-few n more None few = omega arith
+next-few n more (Some p) few = omega (arith, few p.1 p.2)
+
+from-few : (cfg : Config) (n : ℕ) (s : State) (bytes : List ℕ) → length (records_from cfg n s bytes) ≤ n
+unfolding records_from
+from-few cfg zero s bytes = omega arith
+from-few cfg (suc n) s bytes = next-few n (records_from cfg n) (next_record cfg s [] [] bytes) (from-few cfg n)
+
+stripped : (text : List ℕ) → length (strip_bom text) ≤ length text
+unfolding strip_bom
+stripped [] = omega arith
+stripped (a ∷ []) = omega arith
+stripped (a ∷ b ∷ []) = omega arith
+stripped (a ∷ b ∷ c ∷ rest) = grind arith
+
+-- one more than bytes at most
+pub records-few : (text : List ℕ) → length (records_of text) ≤ length text + 1
+unfolding records_of
+records-few text = omega (arith, stripped text, from-few default_config (length (strip_bom text) + 1) st.StartRecord (strip_bom text))

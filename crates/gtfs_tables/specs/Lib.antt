@@ -3,6 +3,7 @@ pub mod Fields
 pub mod Columns
 pub mod Checks
 pub mod Texts
+pub mod Sizes
 pub mod Sheets
 pub mod Numbers
 pub mod Numberings

@@ -1,10 +1,11 @@
 //! A table read row by row into what its rows make.
 
-ghost use Rattle.std.specs.Prelude.{◌≡◌, ◌++◌, ℕ, List, length, map, true, OnOk};
+ghost use Rattle.std.specs.Prelude.{◌≡◌, ◌≤◌, ◌+◌, ◌^◌, ◌++◌, ℕ, List, length, map, true, OnOk};
 ghost use Rattle.csv.specs.Records.{fields_of};
 ghost use Rattle.gtfs_tables.specs.Checks.{Gives, Step, all_utf8, rows_from, table_from};
 ghost use Rattle.gtfs_tables.specs.Columns.{place_of, field_in};
 ghost use Rattle.gtfs_tables.specs.Sheets.{IsUnder};
+ghost use Rattle.gtfs_tables.specs.Sizes.{IsSmall, HasAtMost, GrowsByRow, GrowsByTable};
 ghost use Rattle.gtfs_tables.specs.declared.columns.Column.{Column};
 ghost use Rattle.gtfs_tables.specs.Texts.{AreRecordsOf, Rests, Remains};
 
@@ -30,6 +31,9 @@ pub(crate) trait TableBuilder {
     /// Whether what the builder looks up agrees with what was made.
     ghost IsSound: { Self → Type 0 };
 
+    /// How many rows and names it counts.
+    ghost size: { Self → ℕ };
+
     /// The columns that are read.
     ghost columns: { List Column };
 
@@ -41,7 +45,9 @@ pub(crate) trait TableBuilder {
         requires sound { IsSound self.old }
         requires columns { length sheet.now.places.items ≡ length columns }
         requires text { all_utf8 (fields_of sheet.now.current) ≡ true }
+        requires room { size self.old + 3 ≤ 2 ^ 32 }
         ensures sound { OnOk result (IsSound self.new) }
+        ensures size { OnOk result (GrowsByRow (size self.old) (size self.new)) }
         ensures given { given self.new ≡ given self.old }
         ensures made { (header : List (List ℕ)) → sheet.now.places.items
             ≡ map (place_of header) columns
@@ -50,7 +56,7 @@ pub(crate) trait TableBuilder {
             (made self.old)) };
 }
 
-// The rows behind the header. No text in memory has so many rows that their numbers run out.
+// The rows behind the header.
 fn add_rows<T: TableBuilder>(
     alloc: Global,
     sheet: &mut Sheet<'_>,
@@ -59,19 +65,21 @@ fn add_rows<T: TableBuilder>(
     requires rests { Rests sheet.old.reader }
     requires columns { length sheet.old.places.items ≡ length T.columns }
     requires sound { T.IsSound table.old }
+    requires few { HasAtMost 268435456 sheet.old.reader }
+    requires room { T.size table.old ≤ 2 ^ 31 }
     ensures sound { OnOk result (T.IsSound table.new) }
+    ensures size { OnOk result (GrowsByTable (T.size table.old) (T.size table.new)) }
     ensures made { (header : List (List ℕ)) (all : List (List (List ℕ)))
         → IsUnder header T.columns sheet.old → Remains sheet.old.reader all
         → Gives (λ u. T.made table.new) result (rows_from (T.step (T.given table.old)) header 2
         (T.made table.old) all) }
 {
-    for row in 2..u64::MAX {
-        if !sheet.advance(row)? {
-            return Ok(());
-        }
+    let mut row = 2;
+    while sheet.advance(row)? {
         table.add_row(alloc, row, sheet)?;
+        row += 1;
     }
-    Err(TableError::OutOfMemory)
+    Ok(())
 }
 
 /// Adds all rows of a text with the columns that it needs and those that it may have, or answers
@@ -85,7 +93,10 @@ pub(crate) fn build_table<T: TableBuilder>(
 ) -> Result<(), TableError>
     requires columns { needed.now ++ others.now ≡ T.columns }
     requires sound { T.IsSound table.old }
+    requires small { IsSmall text.now }
+    requires room { T.size table.old ≤ 2 ^ 31 }
     ensures sound { OnOk result (T.IsSound table.new) }
+    ensures size { OnOk result (GrowsByTable (T.size table.old) (T.size table.new)) }
     ensures made { (all : List (List (List ℕ))) → AreRecordsOf text.now all
         → Gives (λ u. T.made table.new) result (table_from needed.now (T.step (T.given table.old))
         (T.made table.old) all) }

@@ -1,11 +1,12 @@
 //! `calendar.txt` read by itself.
 
-ghost use Rattle.std.specs.Prelude.{◌≡◌, List, ℕ, [], length, OnOk};
+ghost use Rattle.std.specs.Prelude.{◌≡◌, ◌≤◌, ◌+◌, ◌^◌, List, ℕ, [], length, IfOk, OnOk};
 ghost use Rattle.gtfs_tables.specs.Calendar.{Calendar, calendar_columns, calendar_step, calendar_of, runs_of, days_of, with_service};
-ghost use Rattle.gtfs_tables.specs.Builders.{calendar_view, IsKeyedCalendar};
+ghost use Rattle.gtfs_tables.specs.Builders.{calendar_view, calendar_size, IsKeyedCalendar};
 ghost use Rattle.gtfs_tables.specs.Checks.{Gives};
 ghost use Rattle.gtfs_tables.specs.Numberings.{IsNumbered, names_of};
 ghost use Rattle.gtfs_tables.specs.Sheets.{cell};
+ghost use Rattle.gtfs_tables.specs.Sizes.{IsSmall, GrowsByRow, GrowsByTable};
 ghost use Rattle.gtfs_tables.specs.Texts.{AreRecordsOf};
 
 use crate::builders::{TableBuilder, build_table};
@@ -67,7 +68,9 @@ impl CalendarTable {
         first: u32,
         last: u32,
     ) -> Result<(), TableError>
-        requires { IsKeyedCalendar self.old }
+        requires keyed { IsKeyedCalendar self.old }
+        requires room { calendar_size self.old + 3 ≤ 2 ^ 32 }
+        ensures size { OnOk result (GrowsByRow (calendar_size self.old) (calendar_size self.new)) }
         ensures keyed { OnOk result (IsKeyedCalendar self.new) }
         ensures made { Gives (λ u. calendar_view self.new) result
             (with_service row name.now days first last (calendar_view self.old)) }
@@ -102,6 +105,8 @@ impl TableBuilder for CalendarTable {
 
     ghost IsSound = { IsKeyedCalendar };
 
+    ghost size = { calendar_size };
+
     ghost columns = { calendar_columns };
 
     ghost step = { λ _. calendar_step };
@@ -123,7 +128,11 @@ pub(crate) fn read_calendar(
     text: &[u8],
     services: &mut Numbering,
 ) -> Result<Rows<CalendarRow>, TableError>
-    requires { IsNumbered services.old }
+    requires numbered { IsNumbered services.old }
+    requires small { IsSmall text.now }
+    requires room { length (names_of services.old) ≤ 2 ^ 31 }
+    ensures size { IfOk result (λ rows. GrowsByTable (length (names_of services.old))
+        (length (names_of services.new) + length rows)) }
     ensures numbered { OnOk result (IsNumbered services.new) }
     ensures rows { (all : List (List (List ℕ))) → AreRecordsOf text.now all
         → Gives (λ rows. record { services = names_of services.new; rows = rows }) result

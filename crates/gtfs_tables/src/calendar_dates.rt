@@ -1,10 +1,11 @@
 //! `calendar_dates.txt` read by itself.
 
-ghost use Rattle.std.specs.Prelude.{◌≡◌, List, ℕ, [], OnOk};
-ghost use Rattle.gtfs_tables.specs.Builders.{dates_view, IsKeyedDates};
+ghost use Rattle.std.specs.Prelude.{◌≡◌, ◌≤◌, ◌+◌, ◌^◌, List, ℕ, [], length, IfOk, OnOk};
+ghost use Rattle.gtfs_tables.specs.Builders.{dates_view, dates_size, IsKeyedDates};
 ghost use Rattle.gtfs_tables.specs.CalendarDates.{Dates, date_columns, date_step, calendar_dates_of, added_of, with_date};
 ghost use Rattle.gtfs_tables.specs.Checks.{Gives};
 ghost use Rattle.gtfs_tables.specs.Numberings.{IsNumbered, names_of};
+ghost use Rattle.gtfs_tables.specs.Sizes.{IsSmall, GrowsByRow, GrowsByTable};
 ghost use Rattle.gtfs_tables.specs.Texts.{AreRecordsOf};
 
 use crate::builders::{TableBuilder, build_table};
@@ -46,7 +47,9 @@ impl DateTable {
         date: u32,
         added: bool,
     ) -> Result<(), TableError>
-        requires { IsKeyedDates self.old }
+        requires keyed { IsKeyedDates self.old }
+        requires room { dates_size self.old + 3 ≤ 2 ^ 32 }
+        ensures size { OnOk result (GrowsByRow (dates_size self.old) (dates_size self.new)) }
         ensures keyed { OnOk result (IsKeyedDates self.new) }
         ensures made { Gives (λ u. dates_view self.new) result
             (with_date row name.now date added (dates_view self.old)) }
@@ -80,6 +83,8 @@ impl TableBuilder for DateTable {
 
     ghost IsSound = { IsKeyedDates };
 
+    ghost size = { dates_size };
+
     ghost columns = { date_columns };
 
     ghost step = { λ _. date_step };
@@ -100,7 +105,11 @@ pub(crate) fn read_calendar_dates(
     text: &[u8],
     services: &mut Numbering,
 ) -> Result<Rows<DateRow>, TableError>
-    requires { IsNumbered services.old }
+    requires numbered { IsNumbered services.old }
+    requires small { IsSmall text.now }
+    requires room { length (names_of services.old) ≤ 2 ^ 31 }
+    ensures size { IfOk result (λ rows. GrowsByTable (length (names_of services.old))
+        (length (names_of services.new) + length rows)) }
     ensures numbered { OnOk result (IsNumbered services.new) }
     ensures rows { (all : List (List (List ℕ))) → AreRecordsOf text.now all
         → Gives (λ rows. record { services = names_of services.new; rows = rows }) result

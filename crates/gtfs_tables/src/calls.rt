@@ -1,8 +1,8 @@
 //! The rows of `stop_times.txt`.
 
-ghost use Rattle.std.specs.Prelude.{⊤, ◌≡◌, ◌++◌, length, true};
+ghost use Rattle.std.specs.Prelude.{⊤, ◌≡◌, ◌+◌, ◌++◌, length, true, OnOk};
 ghost use Rattle.csv.specs.Records.{fields_of};
-ghost use Rattle.gtfs_tables.specs.Builders.{calls_view, named_of};
+ghost use Rattle.gtfs_tables.specs.Builders.{calls_view, calls_size, named_of};
 ghost use Rattle.gtfs_tables.specs.Checks.{Gives, all_utf8};
 ghost use Rattle.gtfs_tables.specs.Numbers.{number_from};
 ghost use Rattle.gtfs_tables.specs.Sheets.{cell};
@@ -131,6 +131,7 @@ impl CallTable<'_> {
     #[tactic(auto, unfolding(crate::specs::StopTimes::with_call))]
     fn add(&mut self, row: u64, call: &CallRow) -> Result<(), TableError>
         ensures named { named_of self.new ≡ named_of self.old }
+        ensures size { OnOk result (calls_size self.new ≡ calls_size self.old + 1) }
         ensures made { Gives (λ u. calls_view self.new) result
             (with_call row call.now (calls_view self.old)) }
     {
@@ -162,6 +163,8 @@ impl TableBuilder for CallTable<'_> {
     ghost given = { named_of };
 
     ghost IsSound = { λ _. ⊤ };
+
+    ghost size = { calls_size };
 
     ghost columns = { needed_columns ++ other_columns };
 

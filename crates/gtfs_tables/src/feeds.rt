@@ -1,12 +1,13 @@
 //! The tables of a feed, read and checked one after the other.
 
-ghost use Rattle.std.specs.Prelude.{◌≡◌, [], Some, Ok, IfOk, OnOk, IsErrOf, IsTrue, length, option_map};
+ghost use Rattle.std.specs.Prelude.{◌≡◌, ◌≤◌, ◌+◌, ◌^◌, [], Some, Ok, IfOk, IfSome, OnOk, IsErrOf, length, option_map};
 ghost use Rattle.gtfs_tables.specs.Feeds.{Contents, Files, at_most, is_absent, contents_of, fetched, stops_in, trips_in, calls_in, calendar_in, dates_in, transfers_in, rules_in, frequencies_in, tables_of};
 ghost use Rattle.gtfs_tables.specs.Numberings.{IsNumbered, names_of};
 ghost use Rattle.gtfs_tables.specs.Reading.{IsRead};
 ghost use Rattle.gtfs_tables.specs.Records.{records_of};
-ghost use Rattle.feed_tables.specs.Lawful.{HasFewRows};
 ghost use Rattle.gtfs_tables.specs.Refusals.{Gives, refusal_of, with_table};
+ghost use Rattle.gtfs_tables.specs.Sizes.{IsSmall, GrowsByTable};
+ghost use Rattle.gtfs_tables.specs.TripTables.{trips_size};
 ghost use Rattle.gtfs_tables.specs.declared.faults.Table.TheVariants as tables;
 ghost use Rattle.gtfs_tables.specs.declared.refusals.FeedError.TheVariants.{Refused};
 ghost use Rattle.gtfs_tables.specs.declared.refusals.FeedRefusal.TheVariants.{Missing};
@@ -33,6 +34,7 @@ fn fetch<F: Feed>(feed: &mut F, folder: &str, table: Table) -> Result<Option<Vec
     ensures text { (files : Files) → F.tables feed.old ≡ Some files
         → Gives (λ text. option_map (λ bytes. records_of bytes.items) text) result
         (fetched table (contents_of files folder.now table)) }
+    ensures small { IfOk result (λ text. IfSome text (λ bytes. IsSmall bytes.items)) }
     ensures reads { IsRead result (F.tables feed.old) (F.tables feed.new) (F.faults feed.old)
         (F.faults feed.new) }
 {
@@ -102,6 +104,7 @@ fn read_stops_in<F: Feed>(alloc: Global, feed: &mut F, folder: &str) -> Result<S
 fn read_trips_in<F: Feed>(alloc: Global, feed: &mut F, folder: &str) -> Result<Trips, FeedError>
     ensures made { (files : Files) → F.tables feed.old ≡ Some files
         → Gives (λ trips. trips) result (trips_in (contents_of files folder.now)) }
+    ensures size { IfOk result (λ trips. GrowsByTable 0 (trips_size trips)) }
     ensures some { IfOk result (λ trips. (contents : Contents) × (trips_in contents ≡ Ok trips)) }
     ensures reads { IsRead result (F.tables feed.old) (F.tables feed.new) (F.faults feed.old)
         (F.faults feed.new) }
@@ -123,6 +126,7 @@ fn read_calls_in<F: Feed>(
     ensures made { (files : Files) → F.tables feed.old ≡ Some files
         → Gives (λ calls. calls) result
         (calls_in (contents_of files folder.now) stops.now trips.now.rows) }
+    ensures size { IfOk result (λ calls. GrowsByTable 0 (length calls)) }
     ensures some { IfOk result (λ calls. (contents : Contents)
         × (calls_in contents stops.now trips.now.rows ≡ Ok calls)) }
     ensures reads { IsRead result (F.tables feed.old) (F.tables feed.new) (F.faults feed.old)
@@ -145,7 +149,8 @@ fn read_calendar_in<F: Feed>(
     services: &mut Numbering,
 ) -> Result<(Rows<CalendarRow>, bool), FeedError>
     // the services that are numbered so far
-    requires { IsNumbered services.old }
+    requires numbered { IsNumbered services.old }
+    requires room { length (names_of services.old) ≤ 2 ^ 31 }
 
     // the rows, and whether the table is absent
     ensures made { (files : Files) → F.tables feed.old ≡ Some files
@@ -154,6 +159,8 @@ fn read_calendar_in<F: Feed>(
     ensures absent { (files : Files) → F.tables feed.old ≡ Some files
         → IfOk result (λ r. r.1 ≡ is_absent (contents_of files folder.now tables.Calendar)) }
     ensures numbered { OnOk result (IsNumbered services.new) }
+    ensures size { IfOk result (λ r. GrowsByTable (length (names_of services.old))
+        (length (names_of services.new) + length r.0)) }
     ensures some { IfOk result (λ r. (contents : Contents)
         × (calendar_in contents (names_of services.old)
         ≡ Ok (record { services = names_of services.new; rows = r.0 }))
@@ -176,7 +183,10 @@ fn read_dates_in<F: Feed>(
     no_calendar: bool,
     services: &mut Numbering,
 ) -> Result<Rows<DateRow>, FeedError>
-    requires { IsNumbered services.old }
+    requires numbered { IsNumbered services.old }
+    requires room { length (names_of services.old) ≤ 2 ^ 31 }
+    ensures size { IfOk result (λ rows. GrowsByTable (length (names_of services.old))
+        (length (names_of services.new) + length rows)) }
     ensures made { (files : Files) → F.tables feed.old ≡ Some files
         → no_calendar ≡ is_absent (contents_of files folder.now tables.Calendar)
         → Gives (λ rows. record { services = names_of services.new; rows = rows }) result
@@ -230,7 +240,10 @@ fn read_rules_in<F: Feed>(
     stops: &Stops,
     routes: &mut Numbering,
 ) -> Result<Rows<RuleRow>, FeedError>
-    requires { IsNumbered routes.old }
+    requires numbered { IsNumbered routes.old }
+    requires room { length (names_of routes.old) ≤ 2 ^ 31 }
+    ensures size { IfOk result (λ rows. GrowsByTable (length (names_of routes.old))
+        (length (names_of routes.new) + length rows)) }
     ensures made { (files : Files) → F.tables feed.old ≡ Some files
         → Gives (λ rows. record { routes = names_of routes.new; rows = rows }) result
         (rules_in (contents_of files folder.now) stops.now (names_of routes.old)) }
@@ -269,24 +282,11 @@ fn check_frequencies_in<F: Feed>(alloc: Global, feed: &mut F, folder: &str) -> R
     Ok(())
 }
 
-/// Whether the rows of each table can be numbered with 32 bits.
-fn has_few_rows(t: &Tables) -> bool
-    ensures { IsTrue result → HasFewRows t.now }
-{
-    let most = u32::MAX as usize;
-    t.routes.len() <= most
-        && t.services.len() <= most
-        && t.trips.len() <= most
-        && t.calls.len() <= most
-        && t.calendar.len() <= most
-        && t.dates.len() <= most
-}
-
 /// The tables of the feed in a folder, read and checked in this order: stops.txt, trips.txt,
 /// stop_times.txt, calendar.txt, calendar_dates.txt, transfers.txt, waiting_rules.txt,
 /// frequencies.txt. `Refused` has the first cause to refuse the feed: a table that must be there is
 /// absent, a table is too long, has a fault or has too many rows. `ReadFault` comes only where the
-/// feed failed. `OutOfMemory` also comes where the rows of a table cannot be numbered with 32 bits.
+/// feed failed. `OutOfMemory` where there is no memory.
 #[tactic(auto, unfolding(crate::specs::Feeds::tables_of))]
 pub fn read_tables<F: Feed>(
     alloc: Global,
@@ -322,8 +322,5 @@ pub fn read_tables<F: Feed>(
         transfers,
         rules,
     };
-    if !has_few_rows(&tables) {
-        return Err(FeedError::OutOfMemory);
-    }
     Ok(FeedTables::build(tables))
 }

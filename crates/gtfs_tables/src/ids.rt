@@ -1,6 +1,6 @@
 //! The rows of a table by their ids.
 
-ghost use Rattle.std.specs.Prelude.{◌≡◌, ℕ, List, [], length};
+ghost use Rattle.std.specs.Prelude.{◌≡◌, ◌<◌, ◌^◌, ℕ, List, [], length};
 ghost use Rattle.gtfs_tables.specs.Ids.{AreIds, AddsId, number_of_id};
 
 use crate::faults::TableError;
@@ -25,17 +25,14 @@ impl Ids {
     }
 
     /// Adds the id of the row with this number, which is the number of rows before it. False where
-    /// an earlier row has it. `OutOfMemory` where there is no memory, or the number does not fit in
-    /// 32 bits.
+    /// an earlier row has it. `OutOfMemory` where there is no memory.
     pub fn add(&mut self, alloc: Global, id: &str, number: usize) -> Result<bool, TableError>
+        requires room { number < 2 ^ 32 }
         ensures { (names : List (List ℕ)) → AreIds self.old names → number ≡ length names
             → AddsId result id.now names self.new }
     {
-        let Ok(number) = u32::try_from(number) else {
-            return Err(TableError::OutOfMemory);
-        };
         let key = String::from_str(alloc, id)?;
-        Ok(self.numbers.insert(key, number)?.is_none())
+        Ok(self.numbers.insert(key, number as u32)?.is_none())
     }
 
     /// The number of the row with an id. None exactly where no row has it.

@@ -1,6 +1,6 @@
 //! Names by number, in the order in which they first appear.
 
-ghost use Rattle.std.specs.Prelude.{◌≡◌, [], IfOk, IfErr, OnOk};
+ghost use Rattle.std.specs.Prelude.{◌≡◌, ◌<◌, ◌≤◌, ◌+◌, ◌^◌, [], length, IfOk, IfErr, OnOk};
 ghost use Rattle.gtfs_tables.specs.declared.faults.TableError.TheVariants.{OutOfMemory};
 ghost use Rattle.gtfs_tables.specs.Numbers.{number_from, number_in, names_with};
 
@@ -46,11 +46,14 @@ impl Numbering {
     }
 
     /// The number of a name. A new name gets the next number. `OutOfMemory` where there is no
-    /// memory, or the number does not fit in 32 bits.
+    /// memory.
     pub fn number(&mut self, alloc: Global, name: &str) -> Result<u32, TableError>
-        requires { IsNumbered self.old }
+        requires numbered { IsNumbered self.old }
+        requires room { length (names_of self.old) < 2 ^ 32 }
         ensures number { IfOk result (λ n. n ≡ number_in name.now (names_of self.old)) }
         ensures names { OnOk result (names_of self.new ≡ names_with name.now (names_of self.old)) }
+        ensures size { OnOk result (length (names_of self.new)
+            ≤ length (names_of self.old) + 1) }
         ensures numbered { OnOk result (IsNumbered self.new) }
         ensures memory { IfErr result (λ e. e ≡ OutOfMemory) }
     {
@@ -58,9 +61,7 @@ impl Numbering {
             self.last = number;
             return Ok(number);
         }
-        let Ok(number) = u32::try_from(self.names.len()) else {
-            return Err(TableError::OutOfMemory);
-        };
+        let number = self.names.len() as u32;
         let key = String::from_str(alloc, name)?;
         let text = Name::build(alloc, name)?;
         self.numbers.insert(key, number)?;

@@ -8,6 +8,7 @@ ghost use Rattle.gtfs_tables.specs.Checks.{Gives, all_utf8, check_header, check_
 ghost use Rattle.gtfs_tables.specs.Columns.{has_columns, place_from, place_of, field_at_place};
 ghost use Rattle.gtfs_tables.specs.Texts.{AreRecordsOf, Rests, Remains, Steps};
 ghost use Rattle.gtfs_tables.specs.Sheets.{Opens, Advances};
+ghost use Rattle.gtfs_tables.specs.Sizes.{HasAtMost};
 
 use crate::columns::Column;
 use crate::faults::{Cause, Fault, TableError};
@@ -178,6 +179,7 @@ impl<'a> Sheet<'a> {
         others: &[Column],
     ) -> Result<Sheet<'a>, TableError>
         ensures rests { IfOk result (λ sheet. Rests sheet.reader) }
+        ensures few { IfOk result (λ sheet. HasAtMost (length text.now) sheet.reader) }
         ensures columns { IfOk result (λ sheet. length sheet.places.items
             ≡ length needed.now + length others.now) }
         ensures opens { (all : List (List (List ℕ))) → AreRecordsOf text.now all

@@ -1,9 +1,10 @@
 //! `stop_times.txt` read by itself.
 
-ghost use Rattle.std.specs.Prelude.{◌≡◌, ℕ, List, []};
+ghost use Rattle.std.specs.Prelude.{◌≡◌, ℕ, List, [], length, IfOk};
 ghost use Rattle.gtfs_tables.specs.Checks.{Gives, check, fault};
 ghost use Rattle.gtfs_tables.specs.declared.faults.Cause.TheVariants.{UntimedEnd};
 ghost use Rattle.gtfs_tables.specs.StopTimes.{is_timed, arrival, departure, check_order, check_trip, check_trips, stop_times_of};
+ghost use Rattle.gtfs_tables.specs.Sizes.{IsSmall, GrowsByTable};
 ghost use Rattle.gtfs_tables.specs.Texts.{AreRecordsOf};
 ghost use Rattle.gtfs_tables.specs.Trips.{trip_ids};
 
@@ -118,7 +119,9 @@ pub(crate) fn read_stop_times(
     trips: &Trips,
     stops: &Stops,
 ) -> Result<Rows<CallRow>, TableError>
-    ensures { (all : List (List (List ℕ))) → AreRecordsOf text.now all
+    requires small { IsSmall text.now }
+    ensures size { IfOk result (λ rows. GrowsByTable 0 (length rows)) }
+    ensures rows { (all : List (List (List ℕ))) → AreRecordsOf text.now all
         → Gives (λ rows. rows) result
         (stop_times_of (record { trips = trip_ids trips.now.rows; stops = stops.now }) all) }
 {

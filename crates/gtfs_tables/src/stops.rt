@@ -1,11 +1,12 @@
 //! `stops.txt` read by itself.
 
-ghost use Rattle.std.specs.Prelude.{◌≡◌, ◌++◌, ℕ, List, [], length, true, Some, IsTrue, OnOk, IfOk};
+ghost use Rattle.std.specs.Prelude.{◌≡◌, ◌<◌, ◌+◌, ◌^◌, ◌++◌, ℕ, List, [], length, true, Some, IsTrue, OnOk, IfOk};
 ghost use Rattle.csv.specs.Records.{fields_of};
-ghost use Rattle.gtfs_tables.specs.Builders.{lines_view, IsStopTable};
+ghost use Rattle.gtfs_tables.specs.Builders.{lines_view, lines_size, IsStopTable};
 ghost use Rattle.gtfs_tables.specs.Checks.{Gives, all_utf8};
 ghost use Rattle.gtfs_tables.specs.Numbers.{number_from};
 ghost use Rattle.gtfs_tables.specs.Sheets.{cell};
+ghost use Rattle.gtfs_tables.specs.Sizes.{IsSmall};
 ghost use Rattle.gtfs_tables.specs.Stops.{stop_columns, other_stop_columns, stop_of, line_ids, with_stop, stop_step, station_in, parent_of, with_stations, stop_ids, stops_of};
 ghost use Rattle.gtfs_tables.specs.Texts.{AreRecordsOf};
 
@@ -54,7 +55,9 @@ fn read_stop(alloc: Global, sheet: &Sheet<'_>, row: u64) -> Result<StopLine, Tab
 impl StopTable {
     /// Adds a row, unless an earlier one has its `stop_id`.
     fn add(&mut self, alloc: Global, row: u64, line: StopLine) -> Result<(), TableError>
-        requires { IsStopTable self.old }
+        requires ids { IsStopTable self.old }
+        requires room { lines_size self.old < 2 ^ 32 }
+        ensures size { OnOk result (lines_size self.new ≡ lines_size self.old + 1) }
         ensures ids { OnOk result (IsStopTable self.new) }
         ensures adds { Gives (λ _. self.new.lines.items) result
             (with_stop row line self.old.lines.items) }
@@ -110,6 +113,8 @@ impl TableBuilder for StopTable {
     ghost given = { λ _. tt };
 
     ghost IsSound = { IsStopTable };
+
+    ghost size = { lines_size };
 
     ghost columns = { stop_columns ++ other_stop_columns };
 
@@ -199,6 +204,7 @@ impl Stops {
 /// a parent_station of a stop or platform that is no station.
 #[tactic(auto, unfolding(crate::specs::Stops::stops_of))]
 pub(crate) fn read_stops(alloc: Global, text: &[u8]) -> Result<Stops, TableError>
+    requires small { IsSmall text.now }
     ensures { (all : List (List (List ℕ))) → AreRecordsOf text.now all
         → Gives (λ stops. stops) result (stops_of all) }
 {

@@ -1,10 +1,11 @@
 //! `transfers.txt` read by itself.
 
-ghost use Rattle.std.specs.Prelude.{⊤, ◌≡◌, ◌++◌, List, ℕ, length, true};
+ghost use Rattle.std.specs.Prelude.{⊤, ◌≡◌, ◌<◌, ◌+◌, ◌^◌, ◌++◌, OnOk, List, ℕ, length, true};
 ghost use Rattle.csv.specs.Records.{fields_of};
 ghost use Rattle.gtfs_tables.specs.Builders.{transfers_view};
 ghost use Rattle.gtfs_tables.specs.Checks.{Gives, all_utf8};
 ghost use Rattle.gtfs_tables.specs.Sheets.{cell};
+ghost use Rattle.gtfs_tables.specs.Sizes.{IsSmall};
 ghost use Rattle.gtfs_tables.specs.Stops.{stop_ids};
 ghost use Rattle.gtfs_tables.specs.Texts.{AreRecordsOf};
 ghost use Rattle.gtfs_tables.specs.Transfers.{Transfers, needed_transfer_columns, other_transfer_columns, transfer_step, transfers_of, stop_of, number_if_any, transfer_of, is_for_all, listed, with_transfer};
@@ -123,14 +124,13 @@ fn read_transfer(
 impl TransferTable<'_> {
     /// Counts a row, and adds the change that it lists.
     fn add(&mut self, transfer: Option<TransferRow>) -> Result<(), TableError>
+        requires room { self.old.count + 1 < 2 ^ 64 }
         ensures stops { self.new.stops ≡ self.old.stops }
+        ensures count { OnOk result (self.new.count ≡ self.old.count + 1) }
         ensures made { Gives (λ u. transfers_view self.new) result
             (Ok (with_transfer transfer (transfers_view self.old))) }
     {
-        let Some(count) = self.count.checked_add(1) else {
-            return Err(TableError::OutOfMemory);
-        };
-        self.count = count;
+        self.count += 1;
         if let Some(transfer) = transfer {
             self.rows.push(transfer)?;
         }
@@ -151,6 +151,8 @@ impl TableBuilder for TransferTable<'_> {
 
     ghost IsSound = { λ _. ⊤ };
 
+    ghost size = { λ t. t.count };
+
     ghost columns = { needed_transfer_columns ++ other_transfer_columns };
 
     ghost step = { transfer_step };
@@ -170,6 +172,7 @@ pub(crate) fn read_transfers(
     text: &[u8],
     stops: &Stops,
 ) -> Result<Transfers, TableError>
+    requires small { IsSmall text.now }
     ensures { (all : List (List (List ℕ))) → AreRecordsOf text.now all
         → Gives (λ t. record { rows = t.rows; count = t.count }) result
         (transfers_of (stop_ids stops.now) all) }

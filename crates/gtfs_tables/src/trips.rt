@@ -1,11 +1,12 @@
 //! `trips.txt` read by itself.
 
-ghost use Rattle.std.specs.Prelude.{◌≡◌, ℕ, List, Some, IsTrue, OnOk};
+ghost use Rattle.std.specs.Prelude.{◌≡◌, ◌≤◌, ◌+◌, ◌^◌, ℕ, List, Some, IsTrue, IfOk, OnOk};
 ghost use Rattle.gtfs_tables.specs.Checks.{Gives};
 ghost use Rattle.gtfs_tables.specs.Numberings.{IsNumbered, names_of};
 ghost use Rattle.gtfs_tables.specs.Numbers.{number_from};
+ghost use Rattle.gtfs_tables.specs.Sizes.{IsSmall, GrowsByRow, GrowsByTable};
 ghost use Rattle.gtfs_tables.specs.Texts.{AreRecordsOf};
-ghost use Rattle.gtfs_tables.specs.TripTables.{trips_view, IsTripTable};
+ghost use Rattle.gtfs_tables.specs.TripTables.{trips_view, trips_size, IsTripTable};
 ghost use Rattle.gtfs_tables.specs.Trips.{ListedTrips, trip_columns, trip_ids, with_trip, trip_step, trips_of};
 
 use crate::builders::{TableBuilder, build_table};
@@ -40,7 +41,10 @@ impl TripTable {
         service: &str,
         trip: &str,
     ) -> Result<(), TableError>
-        requires { IsTripTable self.old }
+        requires numbered { IsTripTable self.old }
+        requires room { trips_size (trips_view self.old) + 3 ≤ 2 ^ 32 }
+        ensures size { OnOk result (GrowsByRow (trips_size (trips_view self.old))
+            (trips_size (trips_view self.new))) }
         ensures numbered { OnOk result (IsTripTable self.new) }
         ensures made { Gives (λ _. trips_view self.new) result
             (with_trip row route.now service.now trip.now (trips_view self.old)) }
@@ -71,6 +75,8 @@ impl TableBuilder for TripTable {
     ghost given = { λ _. tt };
 
     ghost IsSound = { IsTripTable };
+
+    ghost size = { λ t. trips_size (trips_view t) };
 
     ghost columns = { trip_columns };
 
@@ -150,7 +156,9 @@ impl Trips {
 /// The trips of a feed (GTFS Schedule, trips.txt), or the first fault in its table, by the list of
 /// all records of the text: DuplicateKey for a second row of a trip_id.
 pub(crate) fn read_trips(alloc: Global, text: &[u8]) -> Result<Trips, TableError>
-    ensures { (all : List (List (List ℕ))) → AreRecordsOf text.now all
+    requires small { IsSmall text.now }
+    ensures size { IfOk result (λ trips. GrowsByTable 0 (trips_size trips)) }
+    ensures trips { (all : List (List (List ℕ))) → AreRecordsOf text.now all
         → Gives (λ trips. trips) result (trips_of all) }
 {
     let needed = [Column::RouteId, Column::ServiceId, Column::TripId];

@@ -1,9 +1,10 @@
 //! `waiting_rules.txt`, a table of this project's own, read by itself.
 
-ghost use Rattle.std.specs.Prelude.{◌≡◌, List, ℕ, [], OnOk, IfOk, IfErr};
-ghost use Rattle.gtfs_tables.specs.Builders.{rules_view};
+ghost use Rattle.std.specs.Prelude.{◌≡◌, ◌<◌, ◌≤◌, ◌+◌, ◌^◌, List, ℕ, [], length, OnOk, IfOk, IfErr};
+ghost use Rattle.gtfs_tables.specs.Builders.{rules_view, rules_size};
 ghost use Rattle.gtfs_tables.specs.Checks.{Gives};
 ghost use Rattle.gtfs_tables.specs.Numberings.{IsNumbered, names_of};
+ghost use Rattle.gtfs_tables.specs.Sizes.{IsSmall, GrowsByRow, GrowsByTable};
 ghost use Rattle.gtfs_tables.specs.Texts.{AreRecordsOf};
 ghost use Rattle.gtfs_tables.specs.WaitingRules.{Rules, rule_columns, rule_step, waiting_rules_of, is_stop_or_station, waiting_place, wait_of, route_in, routes_with, with_rule};
 ghost use Rattle.gtfs_tables.specs.declared.faults.TableError.TheVariants.{OutOfMemory};
@@ -64,7 +65,10 @@ fn number_route(
     alloc: Global,
     name: &str,
 ) -> Result<Option<RouteNo>, TableError>
-    requires { IsNumbered routes.old }
+    requires numbered { IsNumbered routes.old }
+    requires room { length (names_of routes.old) < 2 ^ 32 }
+    ensures size { OnOk result (length (names_of routes.new)
+        ≤ length (names_of routes.old) + 1) }
     ensures route { IfOk result (λ route. route ≡ route_in name.now (names_of routes.old)) }
     ensures names { OnOk result (names_of routes.new ≡ routes_with name.now (names_of routes.old)) }
     ensures numbered { OnOk result (IsNumbered routes.new) }
@@ -86,7 +90,9 @@ impl RuleTable<'_> {
         place: Option<StopNo>,
         longest: u32,
     ) -> Result<(), TableError>
-        requires { IsNumbered self.old.routes }
+        requires numbered { IsNumbered self.old.routes }
+        requires room { rules_size self.old + 3 ≤ 2 ^ 32 }
+        ensures size { OnOk result (GrowsByRow (rules_size self.old) (rules_size self.new)) }
         ensures numbered { OnOk result (IsNumbered self.new.routes) }
         ensures stops { self.new.stops ≡ self.old.stops }
         ensures made { Gives (λ u. rules_view self.new) result
@@ -118,6 +124,8 @@ impl TableBuilder for RuleTable<'_> {
 
     ghost IsSound = { λ t. IsNumbered t.routes };
 
+    ghost size = { rules_size };
+
     ghost columns = { rule_columns };
 
     ghost step = { rule_step };
@@ -140,7 +148,11 @@ pub(crate) fn read_waiting_rules(
     stops: &Stops,
     routes: &mut Numbering,
 ) -> Result<Rows<RuleRow>, TableError>
-    requires { IsNumbered routes.old }
+    requires numbered { IsNumbered routes.old }
+    requires small { IsSmall text.now }
+    requires room { length (names_of routes.old) ≤ 2 ^ 31 }
+    ensures size { IfOk result (λ rows. GrowsByTable (length (names_of routes.old))
+        (length (names_of routes.new) + length rows)) }
     ensures numbered { OnOk result (IsNumbered routes.new) }
     ensures rows { (all : List (List (List ℕ))) → AreRecordsOf text.now all
         → Gives (λ rows. record { routes = names_of routes.new; rows = rows }) result

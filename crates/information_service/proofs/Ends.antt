@@ -1,6 +1,6 @@
 -- How answering ends: what was taken, and what the lines leave.
 use Rattle.information_service.proofs.Words.{◌≡◌, ◌∙◌, ℕ, List, [], ◌++◌, arith, Option, Some, None, Result, Ok, Err, sym, ap, refl, subst, true, false, Appends-nil, append-nil, none-some, same_Some, Consumes, IsAtEnd, Network, State, table, Line, lines_of, Reader, consumes_none, Names, WhereLinesStop, AreAnswered, AppendsReplies, IsOutput, ServiceState}
-use Rattle.std.specs.Prelude.{IfErr, OnOk}
+use Rattle.std.specs.Prelude.{IfErr, OnOk, IsErrOf}
 use Rattle.std.specs.Result.{IsErrAnd}
 use Rattle.information_service.specs.Causes.{TookAtMost, TookFewer}
 use Rattle.information_service.specs.Fronts.{IsTaken}
@@ -56,6 +56,32 @@ each_fault (Err f) P all = all f
 pub handed_on : {E : Type 0} (run : Result (Unit {0}) E) (f : E) (Q : E → Type 0) → IsErrAnd run (λ e. e ≡ f) → Q f → IfErr run Q
 handed_on (Ok u) f Q is q = tt
 handed_on (Err e) f Q is q = subst Q (sym is) q
+
+-- a run that stopped for this did not stop for a failed write
+pub memory_not_write : OutOfMemory ≡ WriteFault → ⊥
+memory_not_write is = cc
+
+pub read_not_write : ReadFault ≡ WriteFault → ⊥
+read_not_write is = cc
+
+pub long_not_write : TooLong ≡ WriteFault → ⊥
+long_not_write is = cc
+
+-- an error is no other one, and none where all went well
+pub same_err : {E : Type 0} (run : Result (Unit {0}) E) (e f : E) → run ≡ Err e → run ≡ Err f → e ≡ f
+same_err run e f one other = cc
+
+pub ok_not_err : {E : Type 0} (run : Result (Unit {0}) E) (u : Unit {0}) (f : E) → run ≡ Ok u → run ≡ Err f → ⊥
+ok_not_err run u f one other = absurd cc
+
+-- the error that was handed on is the same one
+pub same_fault : {E : Type 0} {g : E} (run : Result (Unit {0}) E) (f : E) → IsErrAnd run (λ e. e ≡ f) → IsErrOf run g → f ≡ g
+same_fault (Ok u) f handed is = absurd handed
+same_fault (Err e) f handed is = sym handed ∙ same_err (Err e) e _ refl is
+
+-- so it is none that another one is not
+pub not_write_if : {E : Type 0} {g : E} (run : Result (Unit {0}) E) (f : E) → (f ≡ g → ⊥) → IsErrAnd run (λ e. e ≡ f) → IsErrOf run g → ⊥
+not_write_if run f other handed is = other (same_fault run f handed is)
 
 -- what holds whether a run went well or not
 pub either-way : {E P : Type 0} (run : Result (Unit {0}) E) → OnOk run P → IfErr run (λ f. P) → P

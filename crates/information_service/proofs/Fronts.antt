@@ -2,40 +2,78 @@
 use Rattle.information_service.proofs.Words.{◌≡◌, ◌∙◌, ◌+◌, ◌≤◌, ℕ, zero, suc, List, [], ◌++◌, Option, sym, subst, ap, refl, append_assoc, arith, true, inr, Appends-nil, Appends-trans, append-nil, Appends, Network, State, header, rows_from, rows_of_train, Line, lines_of, Reader, Names, AreAnswered, AppendsFirstReplies, AppendsFront, Begun, ServiceState}
 use Rattle.std.proofs.Common.{◌-◌, Bool, inl, false, take, drop}
 use Rattle.std.proofs.lemmas.List.{take-append-drop}
-use Rattle.std.specs.Prelude.{Result, Ok, Err, OnOk, IfErr}
+use Rattle.std.specs.Prelude.{Result, Ok, Err, OnOk, IfErr, IsErrOf}
+use Rattle.std.proofs.lemmas.List.{length-append}
+use Rattle.std.proofs.Common.{length-drop}
+use Rattle.information_service.specs.declared.fault.LinesFault.{LinesFault}
+use Rattle.information_service.specs.declared.fault.LinesFault.TheVariants.{WriteFault}
+use Rattle.information_service.proofs.Ends.{same_err, ok_not_err}
 use Rattle.mt_io.specs.Causes.{AppendsPart}
 use Rattle.mt_io.specs.Reader.{ahead}
 use Rattle.std.proofs.lemmas.Bool.{cases_Bool}
 use Rattle.mt_io.specs.Runs.{HasAnswered}
 use Rattle.mt_io.proofs.Gives.{open_ended}
-use Rattle.information_service.specs.Fronts.{AppendsFirst, AppendsOutputFront, EndWasRead, IsTaken}
+use Rattle.information_service.specs.Fronts.{AppendsFirst, AppendsOutputFront, AppendsTakenFront, EndWasRead, IsTaken}
 
-pub front_none : (a : Option (List ℕ)) (bytes : List ℕ) → AppendsFront a a bytes
-front_none a bytes = record { front = []; rest = bytes; written = Appends-nil a; all = refl }
+pub front_none : {Failed : Type 0} → (Failed → ⊥) → (a : Option (List ℕ)) (bytes : List ℕ) → AppendsFront Failed a a bytes
+front_none no_fault a bytes = record { front = []; rest = bytes; written = Appends-nil a; all = refl; not_all = λ is. absurd (no_fault is) }
 
-pub front_all : (a b : Option (List ℕ)) (bytes : List ℕ) → Appends a b bytes → AppendsFront a b bytes
-front_all a b bytes w = record { front = bytes; rest = []; written = w; all = append-nil bytes }
+pub front_all : {Failed : Type 0} → (Failed → ⊥) → (a b : Option (List ℕ)) (bytes : List ℕ) → Appends a b bytes → AppendsFront Failed a b bytes
+front_all no_fault a b bytes w = record { front = bytes; rest = []; written = w; all = append-nil bytes; not_all = λ is. absurd (no_fault is) }
 
-pub front_part : (a b : Option (List ℕ)) (bytes : List ℕ) → AppendsPart a b bytes → AppendsFront a b bytes
-front_part a b bytes part = record { front = take part.0 bytes; rest = drop part.0 bytes; written = part.2; all = take-append-drop part.0 bytes }
+pub front_part : {Failed : Type 0} (a b : Option (List ℕ)) (bytes : List ℕ) → AppendsPart a b bytes → AppendsFront Failed a b bytes
+front_part a b bytes part =
+    record {
+      front = take part.0 bytes;
+      rest = drop part.0 bytes;
+      written = part.2;
+      all = take-append-drop part.0 bytes;
+      not_all = λ is. omega (arith, part.1, length-drop part.0 bytes);
+    }
 
-pub front_longer : (a b : Option (List ℕ)) (bytes more : List ℕ) → AppendsFront a b bytes → AppendsFront a b (bytes ++ more)
+pub front_longer : {Failed : Type 0} (a b : Option (List ℕ)) (bytes more : List ℕ) → AppendsFront Failed a b bytes → AppendsFront Failed a b (bytes ++ more)
 front_longer a b bytes more f =
-    record { front = f.front; rest = f.rest ++ more; written = f.written; all = sym (append_assoc f.front f.rest more) ∙ ap (λ (bs : List ℕ). bs ++ more) f.all }
+    record {
+      front = f.front;
+      rest = f.rest ++ more;
+      written = f.written;
+      all = sym (append_assoc f.front f.rest more) ∙ ap (λ (bs : List ℕ). bs ++ more) f.all;
+      not_all = λ is. omega (arith, f.not_all is, length-append f.rest more);
+    }
 
-pub front_after : (a b c : Option (List ℕ)) (bytes more : List ℕ) → Appends a b bytes → AppendsFront b c more → AppendsFront a c (bytes ++ more)
+pub front_after : {Failed : Type 0} (a b c : Option (List ℕ)) (bytes more : List ℕ) → Appends a b bytes → AppendsFront Failed b c more → AppendsFront Failed a c (bytes ++ more)
 front_after a b c bytes more w f =
     record {
       front = bytes ++ f.front;
       rest = f.rest;
       written = Appends-trans a b c bytes f.front w f.written;
       all = append_assoc bytes f.front f.rest ∙ ap (λ (bs : List ℕ). bytes ++ bs) f.all;
+      not_all = f.not_all;
     }
 
+-- a front where less is known of a write
+pub front_if : {Failed Known : Type 0} (known : Known → Failed) (a b : Option (List ℕ)) (bytes : List ℕ) → AppendsFront Failed a b bytes → AppendsFront Known a b bytes
+front_if known a b bytes f = record { front = f.front; rest = f.rest; written = f.written; all = f.all; not_all = λ is. f.not_all (known is) }
+
 -- what was written, whether all went well or not, is a front
-pub front_of_result : {E : Type 0} (run : Result (Unit {0}) E) (a b : Option (List ℕ)) (bytes : List ℕ) → OnOk run (Appends a b bytes) → IfErr run (λ f. AppendsFront a b bytes) → AppendsFront a b bytes
-front_of_result (Ok u) a b bytes all part = front_all a b bytes all
-front_of_result (Err f) a b bytes all part = part
+pub front_of_result : (run : Result (Unit {0}) LinesFault) (a b : Option (List ℕ)) (bytes : List ℕ) → OnOk run (Appends a b bytes) → IfErr run (λ f. AppendsFront (f ≡ WriteFault) a b bytes) → AppendsFront (IsErrOf run WriteFault) a b bytes
+front_of_result (Ok u) a b bytes all part = front_all (ok_not_err (Ok u) u WriteFault refl) a b bytes all
+front_of_result (Err f) a b bytes all part = front_if (same_err (Err f) f WriteFault refl) a b bytes part
+
+-- the same of the replies to the first lines, and of what was taken
+first_if : {Failed Known : Type 0} {Are : List Line → List ℕ → Type 0} {lines : List Line} {old new : Option (List ℕ)} (known : Known → Failed) → AppendsFirst Failed Are lines old new → AppendsFirst Known Are lines old new
+first_if {old = old} {new = new} known f = record { first = f.first; later = f.later; shown = f.shown; split = f.split; is = f.is; front = front_if known old new f.shown f.front }
+
+pub taken_if : {Failed Known : Type 0} {IsWhole Are : List Line → List ℕ → Type 0} {budget : ℕ} {left left_now written written_now : Option (List ℕ)} (known : Known → Failed)
+    → AppendsTakenFront Failed IsWhole Are budget left left_now written written_now → AppendsTakenFront Known IsWhole Are budget left left_now written written_now
+taken_if {written = written} {written_now = written_now} known t = record {
+  bytes = t.bytes;
+  took = t.took;
+  front = elim t.front [
+    | inl first ↦ inl (first_if known first)
+    | inr whole ↦ inr (whole.0, elim whole.1 [ inl first ↦ inl (first_if known first) | inr all ↦ inr (all.0, all.1, front_if known written written_now all.0 all.2) ])
+  ];
+}
 
 -- the rows of the first trains are a front of the rows of more
 rows-split : (names : Names) (nw : Network) (st : State) (first m n : ℕ) → rows_from names nw st first (m + n) ≡ rows_from names nw st first m ++ rows_from names nw st (first + m) n
@@ -57,10 +95,10 @@ rows-more names nw st n =
     ∙ ap (λ (rest : List ℕ). rows_from names nw st 0 n ++ rest) (append-nil (rows_of_train names nw st (0 + n)) ∙ ap (rows_of_train names nw st) (let e : 0 + n ≡ n = omega arith in e))
 
 -- a front of the header and of the rows of the first trains is a front of the table
-pub table_front : (names : Names) (nw : Network) (st : State) (a b : Option (List ℕ)) (m count : ℕ) → m ≤ count → AppendsFront a b (header ++ rows_from names nw st 0 m) → AppendsFront a b (header ++ rows_from names nw st 0 count)
-table_front names nw st a b m count l f =
+pub table_front : {Failed : Type 0} (names : Names) (nw : Network) (st : State) (a b : Option (List ℕ)) (m count : ℕ) → m ≤ count → AppendsFront Failed a b (header ++ rows_from names nw st 0 m) → AppendsFront Failed a b (header ++ rows_from names nw st 0 count)
+table_front {Failed = Failed} names nw st a b m count l f =
     let is : m + (count - m) ≡ count = omega (arith, l) in
-    subst (AppendsFront a b)
+    subst (AppendsFront Failed a b)
     (append_assoc header (rows_from names nw st 0 m) (rows_from names nw st (0 + m) (count - m))
     ∙ ap (λ (bs : List ℕ). header ++ bs) (sym (rows-split names nw st 0 m (count - m)) ∙ ap (rows_from names nw st 0) is))
     (front_longer a b (header ++ rows_from names nw st 0 m) (rows_from names nw st (0 + m) (count - m)) f)
@@ -75,7 +113,7 @@ pub end_was_read : {r : Reader} {left left_now : Option (List ℕ)} {bytes : Lis
 end_was_read budget is t ended = record { left = t.end ended; fewer = omega (arith, is, t.within.ended ended, t.lines_so_far.taken) }
 
 -- a front of the replies to the first of some lines is one of more lines
-first_of : {Are : List Line → List ℕ → Type 0} {lines : List Line} {old new : Option (List ℕ)} (all more : List Line) → all ≡ lines ++ more → AppendsFirst Are lines old new → AppendsFirst Are all old new
+first_of : {Failed : Type 0} {Are : List Line → List ℕ → Type 0} {lines : List Line} {old new : Option (List ℕ)} (all more : List Line) → all ≡ lines ++ more → AppendsFirst Failed Are lines old new → AppendsFirst Failed Are all old new
 first_of all more is f = record {
   first = f.first;
   later = f.later ++ more;
@@ -86,8 +124,8 @@ first_of all more is f = record {
 }
 
 -- what was written of the replies to the lines that were taken is a front of an output
-pub output_front : {first : ServiceState} {r : Reader} {left left_now written written_now : Option (List ℕ)} {taken : List ℕ} {lines : List Line} (budget : ℕ) → r.budget ≡ budget
-    → Begun first r left left_now written written_now taken lines → AppendsOutputFront first.network first.names first.state budget left left_now written written_now
+pub output_front : {Failed : Type 0} {first : ServiceState} {r : Reader} {left left_now written written_now : Option (List ℕ)} {taken : List ℕ} {lines : List Line} (budget : ℕ) → r.budget ≡ budget
+    → Begun Failed first r left left_now written written_now taken lines → AppendsOutputFront Failed first.network first.names first.state budget left left_now written written_now
 output_front {first = first} {r = r} {left = left} {left_now = left_now} {taken = taken} {lines = lines} budget is b = elim (cases_Bool r.ended) [
   | inl was ↦
       let more = first_lines r true taken lines (λ is. refl) b.taken.lines_so_far in
@@ -98,16 +136,16 @@ output_front {first = first} {r = r} {left = left} {left_now = left_now} {taken 
 ]
 
 -- the replies to the lines that were answered, and to none of those behind them
-pub first_replies : {first now : ServiceState} {r : Reader} {left left_now written written_now : Option (List ℕ)} {bytes : List ℕ} {lines : List Line} (later : List Line)
-    → AreAnswered first now r left left_now written written_now bytes lines → AppendsFirstReplies first.network first.names first.state (lines ++ later) written written_now
-first_replies {written = written} {written_now = written_now} {lines = lines} later a =
-    record { first = lines; later = later; shown = a.output.shown; split = refl; is = a.output.is; front = front_all written written_now a.output.shown a.output.written }
+pub first_replies : {Failed : Type 0} {first now : ServiceState} {r : Reader} {left left_now written written_now : Option (List ℕ)} {bytes : List ℕ} {lines : List Line} → (Failed → ⊥) → (later : List Line)
+    → AreAnswered first now r left left_now written written_now bytes lines → AppendsFirstReplies Failed first.network first.names first.state (lines ++ later) written written_now
+first_replies {written = written} {written_now = written_now} {lines = lines} no_fault later a =
+    record { first = lines; later = later; shown = a.output.shown; split = refl; is = a.output.is; front = front_all no_fault written written_now a.output.shown a.output.written }
 
 -- lines that were answered have begun
-pub begun_by : {first now : ServiceState} {r : Reader} {left left_now written written_now : Option (List ℕ)} {bytes : List ℕ} {lines : List Line}
-    → AreAnswered first now r left left_now written written_now bytes lines → Begun first r left left_now written written_now bytes lines
-begun_by {first = first} {written = written} {written_now = written_now} {lines = lines} a =
+pub begun_by : {Failed : Type 0} {first now : ServiceState} {r : Reader} {left left_now written written_now : Option (List ℕ)} {bytes : List ℕ} {lines : List Line} → (Failed → ⊥)
+    → AreAnswered first now r left left_now written written_now bytes lines → Begun Failed first r left left_now written written_now bytes lines
+begun_by {Failed = Failed} {first = first} {written = written} {written_now = written_now} {lines = lines} no_fault a =
     record {
       taken = a.taken;
-      output = subst (λ (ls : List Line). AppendsFirstReplies first.network first.names first.state ls written written_now) (append-nil lines) (first_replies [] a);
+      output = subst (λ (ls : List Line). AppendsFirstReplies Failed first.network first.names first.state ls written written_now) (append-nil lines) (first_replies no_fault [] a);
     }

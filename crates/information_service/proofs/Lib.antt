@@ -4,3 +4,4 @@ pub mod Fronts
 pub mod InStep
 pub mod Networks
 pub mod OneMore
+pub mod ShortLines

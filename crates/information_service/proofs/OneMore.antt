@@ -182,9 +182,9 @@ pub counts-one : (t next : ServiceState) (x : Line) → next ≡ after_line t x 
 counts-one t next x is = omega (arith, ap (λ (r : ServiceState). r.count) is, few-said t (said_by x))
 
 -- a front of the reply to one line more
-pub front_more : {first now : ServiceState} {r : Reader} {left left_now written written_old written_new : Option (List ℕ)} {bytes : List ℕ} {lines : List Line} (next : ServiceState) (x : Line) (number : ℕ) (reply : Reply)
-    → AreAnswered first now r left left_now written written_old bytes lines → number ≡ length lines + 1 → IsReplyTo now number x reply → next ≡ after_line now x → AppendsFront written_old written_new (text_of_reply next.names reply)
-    → AppendsFirstReplies first.network first.names first.state (lines ++ x ∷ []) written written_new
+pub front_more : {Failed : Type 0} {first now : ServiceState} {r : Reader} {left left_now written written_old written_new : Option (List ℕ)} {bytes : List ℕ} {lines : List Line} (next : ServiceState) (x : Line) (number : ℕ) (reply : Reply)
+    → AreAnswered first now r left left_now written written_old bytes lines → number ≡ length lines + 1 → IsReplyTo now number x reply → next ≡ after_line now x → AppendsFront Failed written_old written_new (text_of_reply next.names reply)
+    → AppendsFirstReplies Failed first.network first.names first.state (lines ++ x ∷ []) written written_new
 front_more {first = first} {now = now} {written = written} {written_old = written_old} {written_new = written_new} {lines = lines} next x number reply a is_number is is_next f =
     let text = text_of_reply next.names reply in
     record {
@@ -197,10 +197,10 @@ front_more {first = first} {now = now} {written = written} {written_old = writte
     }
 
 -- a call that answers one line, of whose reply a front is written
-pub one_line_begun : {first now : ServiceState} {old new : Reader} {left left_old left_new written written_old written_new : Option (List ℕ)} {bytes : List ℕ} {lines : List Line} (x : Line)
+pub one_line_begun : {Failed : Type 0} {first now : ServiceState} {old new : Reader} {left left_old left_new written written_old written_new : Option (List ℕ)} {bytes : List ℕ} {lines : List Line} (x : Line)
     → AreAnswered first now old left left_old written written_old bytes lines → (old.ended ≡ true → left_new ≡ left_old) → GivesNext old new left_old left_new (x ∷ [])
-    → AppendsFirstReplies first.network first.names first.state (lines ++ x ∷ []) written written_new
-    → (all : List ℕ) × (ls : List Line) × Begun first new left left_new written written_new all ls
+    → AppendsFirstReplies Failed first.network first.names first.state (lines ++ x ∷ []) written written_new
+    → (all : List ℕ) × (ls : List Line) × Begun Failed first new left left_new written written_new all ls
 one_line_begun {lines = lines} x a same gives f =
     let more = taken-more a.taken same gives in
     (more.0, lines ++ x ∷ [], record { taken = more.1; output = f })

@@ -17,30 +17,33 @@ pub record AppendsAll (Is : List ℕ → Type 0) (old new : Option (List ℕ)) :
   pub is : Is shown
   pub written : Appends old new shown
 
--- a front of these bytes was written: all of them, a part, or none
-pub record AppendsFront (old new : Option (List ℕ)) (bytes : List ℕ) : Type 0 where
+-- a front of these bytes was written: all of them, a part, or none. Where a write has `Failed`, it
+-- was not all of them
+pub record AppendsFront (Failed : Type 0) (old new : Option (List ℕ))
+    (bytes : List ℕ) : Type 0 where
   pub front : List ℕ
   pub rest : List ℕ
   pub written : Appends old new front
   pub all : front ++ rest ≡ bytes
+  pub not_all : Failed → 0 < length rest
 
 -- a front of replies to the first of these lines was written, however the later ones would be
 -- answered. `Are` says which bytes are replies to lines that begin an input
-pub record AppendsFirst (Are : List Line → List ℕ → Type 0) (lines : List Line)
+pub record AppendsFirst (Failed : Type 0) (Are : List Line → List ℕ → Type 0) (lines : List Line)
     (old new : Option (List ℕ)) : Type 0 where
   pub first : List Line
   pub later : List Line
   pub shown : List ℕ
   pub split : first ++ later ≡ lines
   pub is : Are first shown
-  pub front : AppendsFront old new shown
+  pub front : AppendsFront Failed old new shown
 
 -- a front of a whole output of these lines was written: of the replies to the first of them, or of
 -- all of it. `IsWhole` says which bytes are a whole output
-abbrev pub AppendsWholeFront : (List Line → List ℕ → Type 0) → (List Line → List ℕ → Type 0)
-    → List Line → Option (List ℕ) → Option (List ℕ) → Type 0
-AppendsWholeFront IsWhole Are lines old new =
-    AppendsFirst Are lines old new ⊎ ((all : List ℕ) × IsWhole lines all × AppendsFront old new all)
+abbrev pub AppendsWholeFront : Type 0 → (List Line → List ℕ → Type 0)
+    → (List Line → List ℕ → Type 0) → List Line → Option (List ℕ) → Option (List ℕ) → Type 0
+AppendsWholeFront Failed IsWhole Are lines old new = AppendsFirst Failed Are lines old new
+    ⊎ ((all : List ℕ) × IsWhole lines all × AppendsFront Failed old new all)
 
 -- the end of an input was read: nothing is left of it, and fewer bytes were taken than may be
 pub record EndWasRead (budget : ℕ) (left_now : Option (List ℕ)) (bytes : List ℕ) : Type 0 where
@@ -50,13 +53,13 @@ pub record EndWasRead (budget : ℕ) (left_now : Option (List ℕ)) (bytes : Lis
 -- a front was written of what is to be written for the bytes that were taken from an input: of the
 -- replies to the first of the lines that are whole among them; or, where the end of the input was
 -- read, of the replies to the first of all their lines, or of a whole output
-pub record AppendsTakenFront (IsWhole Are : List Line → List ℕ → Type 0) (budget : ℕ)
-    (left left_now written written_now : Option (List ℕ)) : Type 0 where
+pub record AppendsTakenFront (Failed : Type 0) (IsWhole Are : List Line → List ℕ → Type 0)
+    (budget : ℕ) (left left_now written written_now : Option (List ℕ)) : Type 0 where
   pub bytes : List ℕ
   pub took : Consumes left left_now bytes
-  pub front : AppendsFirst Are (lines_of false bytes) written written_now
+  pub front : AppendsFirst Failed Are (lines_of false bytes) written written_now
       ⊎ (EndWasRead budget left_now bytes
-      × AppendsWholeFront IsWhole Are (lines_of true bytes) written written_now)
+      × AppendsWholeFront Failed IsWhole Are (lines_of true bytes) written written_now)
 
 -- replies to these lines, which begin an input, were written
 abbrev pub AppendsReplies : Network → Names → State → List Line → Option (List ℕ)
@@ -69,17 +72,17 @@ abbrev pub AppendsOutput : Network → Names → State → List Line → Option 
 AppendsOutput nw names st lines = AppendsAll (IsOutput nw names st lines)
 
 -- a front of replies to the first of these lines was written
-abbrev pub AppendsFirstReplies : Network → Names → State → List Line → Option (List ℕ)
+abbrev pub AppendsFirstReplies : Type 0 → Network → Names → State → List Line → Option (List ℕ)
     → Option (List ℕ) → Type 0
-AppendsFirstReplies nw names st = AppendsFirst (AreReplies nw names st [])
+AppendsFirstReplies Failed nw names st = AppendsFirst Failed (AreReplies nw names st [])
 
 -- a front was written of an output for the bytes that were taken: of the replies to the first of
 -- the lines, or, at the end of the input, of all replies and the table. Every query has an answer,
 -- so the first replies too begin an output of all lines
-abbrev pub AppendsOutputFront : Network → Names → State → ℕ → Option (List ℕ) → Option (List ℕ)
-    → Option (List ℕ) → Option (List ℕ) → Type 0
-AppendsOutputFront nw names st =
-    AppendsTakenFront (IsOutput nw names st) (AreReplies nw names st [])
+abbrev pub AppendsOutputFront : Type 0 → Network → Names → State → ℕ → Option (List ℕ)
+    → Option (List ℕ) → Option (List ℕ) → Option (List ℕ) → Type 0
+AppendsOutputFront Failed nw names st =
+    AppendsTakenFront Failed (IsOutput nw names st) (AreReplies nw names st [])
 
 -- these bytes were taken from the input, no more than may be, and these are the lines of them that
 -- were read
@@ -100,7 +103,9 @@ pub record AreAnswered (first now : ServiceState) (r : Reader)
   pub service : now ≡ service_after first.network first.names first.state lines
 
 -- these lines were taken from the input, and a front of replies to the first of them is written
-pub record Begun (first : ServiceState) (r : Reader) (left left_now written written_now : Option
-    (List ℕ)) (bytes : List ℕ) (lines : List Line) : Type 0 where
+pub record Begun (Failed : Type 0) (first : ServiceState) (r : Reader)
+    (left left_now written written_now : Option (List ℕ)) (bytes : List ℕ)
+    (lines : List Line) : Type 0 where
   pub taken : IsTaken r left left_now bytes lines
-  pub output : AppendsFirstReplies first.network first.names first.state lines written written_now
+  pub output : AppendsFirstReplies Failed first.network first.names first.state lines written
+      written_now

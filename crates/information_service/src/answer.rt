@@ -1,6 +1,6 @@
 //! The answer to a line: the reply, and what the line does to the timetable and its names.
 
-ghost use Rattle.std.specs.Prelude.{◌≡◌, ◌<◌, ◌-◌, ◌^◌, Ok, Err, IfOk, IfErr, OnOk};
+ghost use Rattle.std.specs.Prelude.{◌≡◌, ◌<◌, ◌-◌, ◌^◌, Ok, Err, IfOk, IfErr, OnOk, length};
 ghost use Rattle.message_reader.specs.declared.wire.Line.TheVariants.{Message as Says};
 ghost use Rattle.message_reader.specs.Resolved.{resolved};
 ghost use Rattle.message_reader.specs.ResolvedQueries.{query_resolved};
@@ -145,12 +145,13 @@ fn reply_to_said(
 }
 
 impl InformationService {
-    /// The reply to a line of the input, without its line end, which has this number from 1 on. Its
-    /// message is taken if the timetable accepts it, its query is answered by a journey, a flush by
-    /// the number of accepted messages, and a bad line by its fault. Want of memory is the only
-    /// error, and then nothing has changed.
+    /// The reply to a line of the input, without its line end, which has this number from 1 on and
+    /// fewer than 2^31 bytes. Its message is taken if the timetable accepts it, its query is
+    /// answered by a journey, a flush by the number of accepted messages, and a bad line by its
+    /// fault. Want of memory is the only error, and then nothing has changed.
     pub fn answer(&mut self, alloc: Global, number: u64, line: &[u8]) -> Result<Reply, OutOfMemory>
         requires count { self.old.count < 2 ^ 64 - 1 }
+        requires few { length line.now < 2 ^ 31 }
         ensures reply { IfOk result (IsReplyTo self.old number (short line.now)) }
         ensures next { OnOk result (self.new ≡ after_line self.old (short line.now)) }
         ensures unchanged { IfErr result (λ _. self.new ≡ self.old) }

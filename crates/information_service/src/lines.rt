@@ -1,8 +1,9 @@
 //! The lines of the input, each answered at once.
 
-ghost use Rattle.std.specs.Prelude.{◌≡◌, List, ℕ, false, OnOk, IfErr, IsErrOf};
+ghost use Rattle.std.specs.Prelude.{◌≡◌, ◌<◌, ◌^◌, List, ℕ, Some, false, OnOk, IfErr, IsErrOf};
 ghost use Rattle.std.specs.Io.KnownBytes.{Appends};
 ghost use Rattle.delay_report.specs.Replies.{text_of_reply};
+ghost use Rattle.mt_io.specs.Causes.{IsFull};
 ghost use Rattle.mt_io.specs.Lines.{Line, lines_of};
 ghost use Rattle.mt_io.specs.Reader.{IsDone};
 ghost use Rattle.mt_io.specs.Runs.{fresh};
@@ -23,16 +24,18 @@ fn write_reply<K: Sink>(
     alloc: Global,
     directory: &Directory,
     out: &mut K,
-    reply: &Reply,
+    reply: Reply,
 ) -> Result<(), LinesFault>
     ensures ok { OnOk result (Appends (K.written out.old) (K.written out.new)
-        (text_of_reply directory.now reply.now)) }
-    ensures front { IfErr result (λ f. AppendsFront (K.written out.old) (K.written out.new)
-        (text_of_reply directory.now reply.now)) }
+        (text_of_reply directory.now reply)) }
+    ensures front { IfErr result (λ f. AppendsFront (f ≡ LinesFault.WriteFault)
+        (K.written out.old) (K.written out.new) (text_of_reply directory.now reply)) }
     ensures fault { IfErr result IsNotOfInput }
-    ensures writes { K.faults out.new ≡ writes_failed result (K.faults out.old) }
+    ensures writes { Some (K.faults out.new) ≡ writes_failed result (K.faults out.old) }
+    ensures full { IsErrOf result LinesFault.WriteFault
+        → IsFull (K.faults out.new) (K.written out.new) }
 {
-    let text = reply_text(alloc, reply, directory)?;
+    let text = reply_text(alloc, &reply, directory)?;
     put(out, text.as_slice())?;
     Ok(())
 }
@@ -41,7 +44,7 @@ fn write_reply<K: Sink>(
 /// read, until the input is at its end: for a new reader, and a service that has accepted no
 /// message. It fails with `ReadFault` or `TooLong` where the reader does, when all lines before are
 /// answered, with `WriteFault` where a write of the output failed, and with `OutOfMemory` where
-/// there was none, or behind line 2^64 - 2; then the last line may have no reply, or a part of one.
+/// there was none; then the last line may have no reply, or a part of one.
 pub(crate) fn answer_lines<S: Source, K: Sink>(
     alloc: Global,
     service: &mut InformationService,
@@ -49,8 +52,9 @@ pub(crate) fn answer_lines<S: Source, K: Sink>(
     input: &mut S,
     out: &mut K,
 ) -> Result<(), LinesFault>
-    // a new reader, and no message accepted
+    // a new reader, which counts bytes in 64 bits, and no message accepted
     requires reader { reader.old ≡ fresh reader.old.budget }
+    requires budget { reader.old.budget < 2 ^ 64 }
     requires count { service.old.count ≡ 0 }
 
     // what is answered at the end, or where it stops
@@ -62,12 +66,14 @@ pub(crate) fn answer_lines<S: Source, K: Sink>(
         × AreAnswered service.old service.new reader.new (S.left input.old) (S.left input.new)
         (K.written out.old) (K.written out.new) bytes lines)) }
     ensures begun { IfErr result (λ f. (bytes : List ℕ) × (lines : List Line)
-        × Begun service.old reader.new (S.left input.old) (S.left input.new) (K.written out.old)
-        (K.written out.new) bytes lines) }
+        × Begun (f ≡ LinesFault.WriteFault) service.old reader.new (S.left input.old)
+        (S.left input.new) (K.written out.old) (K.written out.new) bytes lines) }
 
     // how many reads and writes failed, and when the input is too long
-    ensures reads { S.faults input.new ≡ reads_failed result (S.faults input.old) }
-    ensures writes { K.faults out.new ≡ writes_failed result (K.faults out.old) }
+    ensures reads { Some (S.faults input.new) ≡ reads_failed result (S.faults input.old) }
+    ensures writes { Some (K.faults out.new) ≡ writes_failed result (K.faults out.old) }
+    ensures full { IsErrOf result LinesFault.WriteFault
+        → IsFull (K.faults out.new) (K.written out.new) }
     ensures too_long { IsErrOf result LinesFault.TooLong
         → TookAll reader.old.budget (S.left input.old) (S.left input.new) }
     ensures read_early { IsErrOf result LinesFault.ReadFault
@@ -76,18 +82,19 @@ pub(crate) fn answer_lines<S: Source, K: Sink>(
     // the reader has its budget
     ensures budget { reader.new.budget ≡ reader.old.budget }
 {
-    for number in 1..u64::MAX {
+    let mut before = 0;
+    'lines: loop {
         let reply = match reader.next(input) {
-            Next::Line(line) => service.answer(alloc, number, line)?,
+            Next::Line(line) => service.answer(alloc, before + 1, line)?,
             Next::LongLine => Reply::Bad {
-                line: number,
+                line: before + 1,
                 bad: BadLine::Long,
             },
             Next::End => return Ok(()),
             Next::ReadFault => return Err(LinesFault::ReadFault),
             Next::Budget => return Err(LinesFault::TooLong),
         };
-        write_reply(alloc, &service.directory, out, &reply)?;
+        write_reply(alloc, &service.directory, out, reply)?;
+        before += 1;
     }
-    Err(LinesFault::OutOfMemory)
 }

@@ -2,9 +2,9 @@
 
 ghost use Rattle.std.specs.Prelude.{◌≡◌, List, ℕ, Some, true, false, OnOk, IfErr, IsErrOf};
 ghost use Rattle.std.specs.Io.KnownBytes.{Consumes, IsAtEnd};
+ghost use Rattle.mt_io.specs.Causes.{IsFull};
 ghost use Rattle.mt_io.specs.Lines.{lines_of};
-ghost use Rattle.information_service.specs.Causes.{WhereLinesStop, TookAll, TookAtMost};
-ghost use Rattle.information_service.specs.Causes.{TookFewer, reads_failed, writes_failed};
+ghost use Rattle.information_service.specs.Causes.{HasCounts, WhereLinesStop};
 ghost use Rattle.information_service.specs.Fronts.{AppendsReplies, AppendsOutput};
 ghost use Rattle.information_service.specs.Fronts.{AppendsOutputFront};
 
@@ -19,8 +19,8 @@ use std::alloc::Global;
 /// service that has accepted no message. It fails with `ReadFault` where a read of the input
 /// failed, and with `TooLong` where `budget` bytes of it were taken and no end was read; then the
 /// lines that are whole among the bytes taken are answered. It fails with `WriteFault` where a
-/// write of the output failed, and with `OutOfMemory` where there was none, or behind line
-/// 2^64 - 2; then a front of an output is written. It takes no more than `budget` bytes.
+/// write of the output failed, and with `OutOfMemory` where there was none; then a front of an
+/// output is written. It takes no more than `budget` bytes.
 pub fn write_output<S: Source, K: Sink>(
     alloc: Global,
     service: &mut InformationService,
@@ -41,20 +41,14 @@ pub fn write_output<S: Source, K: Sink>(
         × Consumes (S.left input.old) (S.left input.new) bytes
         × AppendsReplies service.old.network service.old.names service.old.state
         (lines_of false bytes) (K.written out.old) (K.written out.new))) }
-    ensures front { AppendsOutputFront service.old.network service.old.names service.old.state
-        budget (S.left input.old) (S.left input.new) (K.written out.old) (K.written out.new) }
+    ensures front { AppendsOutputFront (IsErrOf result LinesFault.WriteFault) service.old.network
+        service.old.names service.old.state budget (S.left input.old) (S.left input.new)
+        (K.written out.old) (K.written out.new) }
 
-    // how many bytes are taken
-    ensures at_most { TookAtMost budget (S.left input.old) (S.left input.new) }
-    ensures fewer { OnOk result (TookFewer budget (S.left input.old) (S.left input.new)) }
-    ensures read_early { IsErrOf result LinesFault.ReadFault
-        → TookFewer budget (S.left input.old) (S.left input.new) }
-
-    // how many reads and writes failed, and when the input is too long
-    ensures reads { S.faults input.new ≡ reads_failed result (S.faults input.old) }
-    ensures writes { K.faults out.new ≡ writes_failed result (K.faults out.old) }
-    ensures too_long { IsErrOf result LinesFault.TooLong
-        → TookAll budget (S.left input.old) (S.left input.new) }
+    // the faults, and how many bytes are taken
+    ensures counts { HasCounts budget result (S.left input.old) (S.left input.new)
+        (S.faults input.old) (S.faults input.new) (K.faults out.old) (K.faults out.new)
+        (IsFull (K.faults out.new) (K.written out.new)) }
 {
     let mut reader = LineReader::build(alloc, budget)?;
     answer_lines(alloc, service, &mut reader, input, out)?;

@@ -1,8 +1,9 @@
 //! The table of all times.
 
-ghost use Rattle.std.specs.Prelude.{◌≡◌, OnOk, IfErr};
+ghost use Rattle.std.specs.Prelude.{◌≡◌, Some, OnOk, IfErr, IsErrOf};
 ghost use Rattle.std.specs.Io.KnownBytes.{Appends};
 ghost use Rattle.delay_report.specs.Table.{table};
+ghost use Rattle.mt_io.specs.Causes.{IsFull};
 ghost use Rattle.information_service.specs.Causes.{IsNotOfInput, writes_failed};
 ghost use Rattle.information_service.specs.Fronts.{AppendsFront};
 
@@ -23,10 +24,13 @@ pub(crate) fn write_table<K: Sink>(
 ) -> Result<(), LinesFault>
     ensures ok { OnOk result (Appends (K.written out.old) (K.written out.new)
         (table service.now.network service.now.names service.now.state)) }
-    ensures front { IfErr result (λ f. AppendsFront (K.written out.old) (K.written out.new)
+    ensures front { IfErr result (λ f. AppendsFront (f ≡ LinesFault.WriteFault)
+        (K.written out.old) (K.written out.new)
         (table service.now.network service.now.names service.now.state)) }
     ensures fault { IfErr result IsNotOfInput }
-    ensures writes { K.faults out.new ≡ writes_failed result (K.faults out.old) }
+    ensures writes { Some (K.faults out.new) ≡ writes_failed result (K.faults out.old) }
+    ensures full { IsErrOf result LinesFault.WriteFault
+        → IsFull (K.faults out.new) (K.written out.new) }
 {
     put(out, times_header())?;
     for train in 0..service.timetable.graph().trains().count() {

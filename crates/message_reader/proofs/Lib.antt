@@ -1,2 +1,3 @@
+pub mod FewItems
 pub mod Rest
 pub mod SpelledLemmas

@@ -25,7 +25,7 @@ use Rattle.message_reader.specs.Messages.{event_of, cancel_of, ref_texts, ref_of
 use Rattle.message_reader.specs.Queries.{wire_time_of, query_of}
 use Rattle.message_reader.specs.ResolvedQueries.{stop_or_station_named, query_resolved}
 use Rattle.message_reader.specs.Spelled.{time_text, date_text, ref_object, call_object, call_objects, object_of, query_object, HasLabels}
-use Rattle.message_reader.specs.Wires.{IsWireCall, IsWire}
+use Rattle.message_reader.specs.Wires.{IsWireCall, IsProper}
 
 digit_back : (k : ℕ) → k < 10 → digit (48 + k) ≡ Some k
 digit_back k lt = grind (arith, nat_tests)
@@ -125,7 +125,7 @@ unfolding said_by_value head_of kind_of message_of extra_of
 extra_back trip date route calls civil each le =
     rw (shapes_back calls, counts_back calls, le-leb 2 (length calls) le, dates_back date civil, calls_back calls (recursion_from_All IsWireCall calls each)) refl
 
-pub messages_back : (w : Wire) → IsWire w → HasLabels w → said_by_value (object_of w) ≡ Ok (Message w)
+pub messages_back : (w : Wire) → IsProper w → HasLabels w → said_by_value (object_of w) ≡ Ok (Message w)
 messages_back (Event kind trip date call dep secs) is labels = event_back kind trip date call dep secs is.0 is.1 labels
 messages_back (Cancel trip date from to) is labels = cancel_back trip date from to is labels.0 labels.1
 messages_back (Reroute trip date from to via) is labels = reroute_back trip date from to via is.0 is.1 labels.0 labels.1

@@ -1,6 +1,6 @@
 -- What an object says, by the type of its line. Every needed member has its kind (Shape) before any
 -- date or time is read (Time).
-use Rattle.std.specs.Prelude.{ℕ, suc, nat_le, List, [], ◌∷◌, Result, Ok, codes}
+use Rattle.std.specs.Prelude.{ℕ, suc, ◌<◌, ◌^◌, nat_le, List, [], ◌∷◌, IfSome, Result, Ok, codes}
 use Rattle.serde_json.specs.Data.{Data, Items, no_items, item}
 use Rattle.serde_json.specs.Find.{get}
 use Rattle.message_reader.specs.declared.bad_line.BadLine.{BadLine}
@@ -113,6 +113,10 @@ calls_of (item d ds) = do
 unfoldable pub count : Items → ℕ
 count no_items = 0
 count (item d ds) = suc (count ds)
+
+-- each list that is a member of an object has fewer than 2^31 items
+abbrev pub HasFewItems : Data → Type 0
+HasFewItems d = (key : List ℕ) → IfSome (items_at key d) (λ items. count items < 2 ^ 31)
 
 -- `reroute`: a train, the labels `from` and `to` of two of its calls, and `via`, a list of calls
 -- that may be empty

@@ -1,5 +1,5 @@
 -- What is true of each message and each query that was read.
-use Rattle.std.specs.Prelude.{◌≤◌, All, IfSome, length}
+use Rattle.std.specs.Prelude.{◌<◌, ◌≤◌, ◌^◌, All, IfSome, length}
 use Rattle.mt_base.specs.Civil.{IsCivil}
 use Rattle.message_reader.specs.declared.wire.WireCall.{WireCall}
 use Rattle.message_reader.specs.declared.wire.Wire.{Wire}
@@ -14,12 +14,24 @@ abbrev pub IsWireCall : WireCall → Type 0
 IsWireCall c = (c.arr ≤ 359999) × (c.dep ≤ 359999)
 
 -- every date is civil, every time is at most 99:59:59, and an extra train has at least two calls
+abbrev pub IsProper : Wire → Type 0
+IsProper (Event kind trip date call dep secs) = IsCivil date × (secs ≤ 359999)
+IsProper (Cancel trip date from to) = IsCivil date
+IsProper (Reroute trip date from to via) = IsCivil date × All IsWireCall via
+IsProper (Extra trip date route calls) = IsCivil date × All IsWireCall calls × (2 ≤ length calls)
+IsProper (Connect kind feeder train) = IsCivil feeder.date × IsCivil train.date
+
+-- the message makes fewer than 2^31 new calls, so that each has a label
+abbrev pub MakesFewCalls : Wire → Type 0
+MakesFewCalls (Event kind trip date call dep secs) = Unit {0}
+MakesFewCalls (Cancel trip date from to) = Unit {0}
+MakesFewCalls (Reroute trip date from to via) = length via < 2 ^ 31
+MakesFewCalls (Extra trip date route calls) = length calls < 2 ^ 31
+MakesFewCalls (Connect kind feeder train) = Unit {0}
+
+-- what is true of each message that was read from a line of fewer than 2^31 bytes
 abbrev pub IsWire : Wire → Type 0
-IsWire (Event kind trip date call dep secs) = IsCivil date × (secs ≤ 359999)
-IsWire (Cancel trip date from to) = IsCivil date
-IsWire (Reroute trip date from to via) = IsCivil date × All IsWireCall via
-IsWire (Extra trip date route calls) = IsCivil date × All IsWireCall calls × (2 ≤ length calls)
-IsWire (Connect kind feeder train) = IsCivil feeder.date × IsCivil train.date
+IsWire w = IsProper w × MakesFewCalls w
 
 -- the date is civil, and the time of day is at most 99:59:59
 abbrev pub IsWireTime : WireTime → Type 0

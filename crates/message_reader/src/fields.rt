@@ -1,8 +1,9 @@
 //! Members of an object.
 
-ghost use Rattle.std.specs.Prelude.{◌≡◌, option_map};
+ghost use Rattle.std.specs.Prelude.{◌≡◌, ◌<◌, ◌^◌, IfSome, length, option_map};
 ghost use Rattle.serde_json.specs.View.{view, items_view};
 ghost use Rattle.message_reader.specs.Fields.{text_at, number_at, label_at, items_at, departure_of};
+ghost use Rattle.message_reader.specs.Messages.{HasFewItems};
 
 use mt_base::numbers::Label;
 use serde_json::Value;
@@ -30,9 +31,11 @@ pub fn label_at(value: &Value, key: &str) -> Option<Label>
     Some(Label::new(label))
 }
 
-/// The list of a member. None where it is absent or no list.
+/// The list of a member, which has fewer than 2^31 items. None where it is absent or no list.
 pub fn items_at<'v>(value: &'v Value, key: &str) -> Option<&'v [Value]>
-    ensures { option_map (λ s. items_view s.now) result ≡ items_at key.now (view value.now) }
+    requires few { HasFewItems (view value.now) }
+    ensures exact { option_map (λ s. items_view s.now) result ≡ items_at key.now (view value.now) }
+    ensures few { IfSome result (λ s. length s.now < 2 ^ 31) }
 {
     let list = value.get(key).and_then(Value::as_array)?;
     Some(list.as_slice())

@@ -10,7 +10,7 @@ ghost use Rattle.mt_base.specs.Texts.{seconds_of, date_of};
 ghost use Rattle.message_reader.specs.Lines.{said_by_value};
 ghost use Rattle.message_reader.specs.ResolvedQueries.{stop_or_station_named, query_resolved};
 ghost use Rattle.message_reader.specs.Spelled.{time_text, date_text, object_of, query_object, HasLabels};
-ghost use Rattle.message_reader.specs.Wires.{IsWire};
+ghost use Rattle.message_reader.specs.Wires.{IsProper};
 ghost use Rattle.schedule_build.specs.Directory.{Names, day_named, base_of};
 
 /// Every time of day up to 99:59:59 is read from its text.
@@ -26,7 +26,8 @@ pub fn dates_are_read_back()
 /// Every message with civil dates, times up to 99:59:59 and, for an extra train, two calls, is read
 /// from the object that says it.
 pub fn messages_are_read_back()
-    ensures { (w : AWire) → IsWire w → HasLabels w → said_by_value (object_of w) ≡ Ok (Message w) }
+    ensures { (w : AWire) → IsProper w → HasLabels w
+        → said_by_value (object_of w) ≡ Ok (Message w) }
 {}
 
 /// Every query at a time up to 99:59:59 of a civil date is read from the object that asks it.

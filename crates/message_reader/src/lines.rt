@@ -1,10 +1,11 @@
 //! A line: its text, its value, its type, and what it says.
 
-ghost use Rattle.std.specs.Prelude.{◌≡◌, IfOk};
+ghost use Rattle.std.specs.Prelude.{◌≡◌, ◌<◌, ◌^◌, IfOk, length};
 ghost use Rattle.std.specs.Result.{result_map_both};
 ghost use Rattle.serde_json.specs.View.{view};
 ghost use Rattle.message_reader.specs.Errors.{Gives, GivesAs, bad_in};
 ghost use Rattle.message_reader.specs.Lines.{utf8_of, json_of, head_of, message_of, said_by_value, line_of};
+ghost use Rattle.message_reader.specs.Messages.{HasFewItems};
 ghost use Rattle.message_reader.specs.Wires.{IsLine};
 
 use crate::bad_line::{BadLine, LineError};
@@ -20,7 +21,8 @@ use std::alloc::Global;
 use train_nodes::kinds::ValueKind;
 
 fn utf8(bytes: &[u8]) -> Result<&str, BadLine>
-    ensures { result_map_both (λ s. s.now) (λ bad. bad) result ≡ utf8_of bytes.now }
+    ensures exact { result_map_both (λ s. s.now) (λ bad. bad) result ≡ utf8_of bytes.now }
+    ensures same { IfOk result (λ s. s.now ≡ bytes.now) }
 {
     match str::from_utf8(bytes) {
         Ok(text) => Ok(text),
@@ -29,7 +31,9 @@ fn utf8(bytes: &[u8]) -> Result<&str, BadLine>
 }
 
 fn json(alloc: Global, text: &str) -> Result<Value, LineError>
-    ensures { GivesAs bad_in view result (json_of text.now) }
+    requires few { length text.now < 2 ^ 31 }
+    ensures exact { GivesAs bad_in view result (json_of text.now) }
+    ensures few { IfOk result (λ value. HasFewItems (view value)) }
 {
     match Value::from_str(alloc, text) {
         Ok(value) => Ok(value),
@@ -52,6 +56,7 @@ fn head(value: &Value) -> Result<Kind, BadLine>
 
 #[tactic(auto, unfolding(crate::specs::Lines::message_of))]
 fn message(alloc: Global, kind: Kind, value: &Value) -> Result<Line, LineError>
+    requires few { HasFewItems (view value.now) }
     ensures exact { Gives bad_in result (message_of kind (view value.now)) }
     ensures kept { IfOk result IsLine }
 {
@@ -72,6 +77,7 @@ fn message(alloc: Global, kind: Kind, value: &Value) -> Result<Line, LineError>
 
 #[tactic(auto, unfolding(crate::specs::Lines::said_by_value))]
 fn said(alloc: Global, value: &Value) -> Result<Line, LineError>
+    requires few { HasFewItems (view value.now) }
     ensures exact { Gives bad_in result (said_by_value (view value.now)) }
     ensures kept { IfOk result IsLine }
 {
@@ -81,9 +87,10 @@ fn said(alloc: Global, value: &Value) -> Result<Line, LineError>
 
 /// What a line says, or the first fault that holds: `Utf8`, `Json`, `Shape`, or in a message
 /// `Time`. The faults of a query's places, date and time are told by `resolve_query`. `OutOfMemory`
-/// may come at any line.
+/// may come at any line. No message has more new calls than its line has bytes.
 #[tactic(auto, unfolding(crate::specs::Lines::line_of))]
 pub fn read_line(alloc: Global, bytes: &[u8]) -> Result<Line, LineError>
+    requires few { length bytes.now < 2 ^ 31 }
     ensures exact { Gives bad_in result (line_of bytes.now) }
     ensures kept { IfOk result IsLine }
 {

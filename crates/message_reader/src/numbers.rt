@@ -97,15 +97,12 @@ pub(crate) fn new_calls(
 ) -> Result<Rows<NewCall>, ResolveError>
     requires loaded { day < 31 }
     requires within { All IsWireCall wire_calls.now }
+    requires few { length wire_calls.now < 2 ^ 31 }
     ensures exact { Gives refusal_in result (new_calls dir.now day wire_calls.now) }
     ensures small { IfOk result (λ calls. All IsSmallCall calls) }
     ensures all { IfOk result (λ calls. length calls ≡ length wire_calls.now) }
     ensures few { IfOk result (λ calls. length calls < 2 ^ 31) }
 {
-    // There are no labels for so many calls, which is answered as want of memory.
-    if wire_calls.len() >= 1 << 31 {
-        return Err(ResolveError::OutOfMemory);
-    }
     let mut calls = Vec::new(alloc);
     for wire_call in wire_calls {
         let call = new_call(dir, day, wire_call)?;

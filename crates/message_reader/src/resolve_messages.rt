@@ -1,6 +1,6 @@
 //! Messages by name as messages by number.
 
-ghost use Rattle.std.specs.Prelude.{◌≡◌, ◌≤◌, All, IfOk, length};
+ghost use Rattle.std.specs.Prelude.{◌≡◌, ◌<◌, ◌≤◌, ◌^◌, All, IfOk, length};
 ghost use Rattle.delay_model.specs.Messages.{IsWellFormed};
 ghost use Rattle.message_reader.specs.Resolved.{event_resolved, cancel_resolved, reroute_resolved, extra_resolved, connect_resolved, resolved};
 ghost use Rattle.message_reader.specs.Errors.{Gives, refusal_in};
@@ -80,7 +80,8 @@ fn reroute(
     to: Label,
     via: &[WireCall],
 ) -> Result<Message, ResolveError>
-    requires { All IsWireCall via.now }
+    requires within { All IsWireCall via.now }
+    requires few { length via.now < 2 ^ 31 }
     ensures exact { Gives refusal_in result
         (reroute_resolved dir.now trip.now date from to via.now) }
     ensures kept { IfOk result IsWellFormed }
@@ -108,6 +109,7 @@ fn extra(
 ) -> Result<Message, ResolveError>
     requires within { All IsWireCall calls.now }
     requires two { 2 ≤ length calls.now }
+    requires few { length calls.now < 2 ^ 31 }
     ensures exact { Gives refusal_in result
         (extra_resolved dir.now trip.now date route.now calls.now) }
     ensures kept { IfOk result IsWellFormed }

@@ -3,7 +3,7 @@
 ghost use Rattle.std.specs.Prelude.{◌≡◌, IfOk, length};
 ghost use Rattle.serde_json.specs.View.{view, items_view};
 ghost use Rattle.message_reader.specs.Errors.{Gives, bad_in};
-ghost use Rattle.message_reader.specs.Messages.{reroute_of, extra_of, count};
+ghost use Rattle.message_reader.specs.Messages.{reroute_of, extra_of, count, HasFewItems};
 ghost use Rattle.message_reader.specs.Wires.{IsWire};
 
 use crate::bad_line::{BadLine, LineError};
@@ -19,6 +19,7 @@ use std::alloc::Global;
 /// else `Time`. `OutOfMemory` where there is no memory.
 #[tactic(auto, unfolding(crate::specs::Messages::reroute_of))]
 pub fn reroute(alloc: Global, value: &Value) -> Result<Wire, LineError>
+    requires few { HasFewItems (view value.now) }
     ensures exact { Gives bad_in result (reroute_of (view value.now)) }
     ensures kept { IfOk result IsWire }
 {
@@ -51,6 +52,7 @@ fn count(values: &[Value]) -> usize
 /// `OutOfMemory` where there is no memory.
 #[tactic(auto, unfolding(crate::specs::Messages::extra_of))]
 pub fn extra(alloc: Global, value: &Value) -> Result<Wire, LineError>
+    requires few { HasFewItems (view value.now) }
     ensures exact { Gives bad_in result (extra_of (view value.now)) }
     ensures kept { IfOk result IsWire }
 {

@@ -1,3 +1,4 @@
+ghost use Rattle.std.specs.Prelude.{IfOk};
 ghost use Rattle.message_reader.specs.Wires.{IsLine};
 
 use crate::small_timetable::directory;
@@ -10,20 +11,30 @@ use std::alloc::Global;
 use std::test::Fail;
 use train_nodes::kinds::ValueKind;
 
+/// What a line says. `Long` where it has 65,536 bytes or more.
+fn read(alloc: Global, line: &[u8]) -> Result<Line, LineError>
+    ensures { IfOk result IsLine }
+{
+    if line.len() >= 65_536 {
+        return Err(LineError::Bad(BadLine::Long));
+    }
+    read_line(alloc, line)
+}
+
 /// Why a line is bad. None where it is read, and where there is no memory.
 fn fault(alloc: Global, line: &[u8]) -> Option<BadLine> {
-    match read_line(alloc, line) {
+    match read(alloc, line) {
         Err(LineError::Bad(bad)) => Some(bad),
         _ => None,
     }
 }
 
 fn is_read(alloc: Global, line: &[u8]) -> bool {
-    read_line(alloc, line).is_ok()
+    read(alloc, line).is_ok()
 }
 
 fn message(alloc: Global, line: &[u8]) -> Option<Wire> {
-    match read_line(alloc, line) {
+    match read(alloc, line) {
         Ok(Line::Message(wire)) => Some(wire),
         _ => None,
     }
@@ -262,7 +273,7 @@ fn resolved(line: &Line, dir: &Directory) -> Option<Result<AskedQuery, BadLine>>
 /// The same, by the names of the small timetable. None where there is no memory, too.
 fn asked(alloc: Global, line: &[u8]) -> Option<Result<AskedQuery, BadLine>> {
     let dir = directory(alloc).ok()?;
-    let said = read_line(alloc, line).ok()?;
+    let said = read(alloc, line).ok()?;
     resolved(&said, &dir)
 }
 
@@ -280,7 +291,7 @@ fn query(rt: HostRuntime) {
     let alloc = rt.alloc();
     let line =
         br#"{"v":1,"type":"query","client":"c1","from":"A","to":"B","date":"20260106","time":"8:00:59"}"#;
-    match read_line(alloc, line) {
+    match read(alloc, line) {
         Ok(line) => assert!(rt; is_query(&line)),
         Err(_) => assert!(rt; false),
     }
@@ -314,7 +325,7 @@ fn query_faults(rt: HostRuntime) {
 }
 
 fn is_flush(alloc: Global, line: &[u8]) -> bool {
-    match read_line(alloc, line) {
+    match read(alloc, line) {
         Ok(Line::Flush) => true,
         _ => false,
     }

@@ -1,4 +1,5 @@
 mod Cuts
+pub mod FewLines
 mod Fills
 mod Finish
 pub mod Gives

@@ -1,5 +1,5 @@
 //! The lines of a source, one at a time, whatever the pieces in which its bytes come.
-ghost use Rattle.std.specs.Prelude.{◌≡◌, ◌≢◌, ◌<◌, ◌≤◌, ◌+◌, ◌-◌, ◌++◌, ◌∷◌, [], List, ℕ, Bool, true, false, length, take, drop, IfSome, IfNone, IfOk, OnOk, OnErr, MatchOption, MatchResult, slice_range, vec_len};
+ghost use Rattle.std.specs.Prelude.{◌≡◌, ◌≢◌, ◌<◌, ◌≤◌, ◌+◌, ◌-◌, ◌++◌, ◌∷◌, [], List, ℕ, Bool, true, false, length, take, drop, Some, IfSome, IfNone, IfOk, OnOk, OnErr, MatchOption, MatchResult, slice_range, vec_len};
 ghost use Rattle.std.specs.Io.KnownBytes.{Consumes, IsAtEnd, Keeps};
 ghost use Rattle.mt_io.specs.Causes.{HasCause, counted};
 ghost use Rattle.mt_io.specs.Reader.{Reader, HoldsNoLine, Gives, GivesNext, ahead, work};
@@ -115,7 +115,7 @@ impl LineReader {
             GivesNext self.old new (S.left source.old) (S.left source.new) (next_lines result)
             × LeavesNext result self.old new)) }
         ensures read_fault { result ≡ Next.ReadFault
-            → S.faults source.new ≡ counted (S.faults source.old) }
+            → Some (S.faults source.new) ≡ counted (S.faults source.old) }
         ensures answered { result ≢ Next.ReadFault → S.faults source.new ≡ S.faults source.old }
         ensures holds { ¬ (HoldsNoLine self.old) → source.new ≡ source.old }
         ensures ended { self.old.ended ≡ true → source.new ≡ source.old }
@@ -146,7 +146,7 @@ impl LineReader {
 
         // the faults of the source
         ensures read_fault { result ≡ Found.ReadFault
-            → S.faults source.new ≡ counted (S.faults source.old) }
+            → Some (S.faults source.new) ≡ counted (S.faults source.old) }
         ensures answered { result ≢ Found.ReadFault → S.faults source.new ≡ S.faults source.old }
 
         // when the source is not read
@@ -172,7 +172,7 @@ impl LineReader {
 
         // the faults of the source
         ensures read_fault { result ≡ Found.ReadFault
-            → S.faults source.new ≡ counted (S.faults source.old) }
+            → Some (S.faults source.new) ≡ counted (S.faults source.old) }
         ensures answered { result ≢ Found.ReadFault → S.faults source.new ≡ S.faults source.old }
 
         // when the source is not read

@@ -3,8 +3,8 @@
 ghost use Rattle.std.specs.Prelude.{◌≡◌, ◌↔◌, ◌⊎◌, ◌<◌, ◌≤◌, ◌-◌, ◌∷◌, [], length, drop, take, min, Contains, IsErr, IsErrOf, IfOk, IfSome, OnOk, OnErr, Some, option_map, vec_len, vec_capacity, IsTrue, ◌++◌, ◌+◌};
 ghost use Rattle.std.specs.Io.{ReadsAtMost, WritesAtMost};
 ghost use Rattle.std.specs.Io.KnownBytes.{ReadConsumes, WriteAppends};
-ghost use Rattle.mt_io.specs.Causes.{HasCause, counted};
-ghost use Rattle.mt_io.specs.Memory.{MemoryReader, MemoryWriter, MemoryTables, after_read, after_read_fault, after_write, after_write_fault, after_table, after_table_fault};
+ghost use Rattle.mt_io.specs.Causes.{HasCause, IsFull, counted};
+ghost use Rattle.mt_io.specs.Memory.{MemoryReader, MemoryWriter, MemoryTables, reader_faults, writer_faults, tables_faults, after_read, after_read_fault, after_write, after_write_fault, after_table, after_table_fault};
 ghost use Rattle.mt_io.specs.Tables.{IsTooLong, table_in};
 
 use crate::moves::{append, give, is_listed};
@@ -66,13 +66,13 @@ impl MemSource {
 impl Source for MemSource {
     ghost left = { λ s. Some s.left };
 
-    ghost faults = { λ s. s.faults };
+    ghost faults = { reader_faults };
 
     fn read(&mut self, buf: &mut [u8]) -> Result<usize, Failed>
         // what every source promises
         ensures bound { ReadsAtMost result buf.new }
         ensures bytes { ReadConsumes (Some self.old.left) (Some self.new.left) result buf.new }
-        ensures cause { HasCause self.old.faults self.new.faults result }
+        ensures cause { HasCause (reader_faults self.old) (reader_faults self.new) result }
 
         // when it fails, and how many bytes it gives
         ensures fails { IsErr result ↔ Contains self.old.failing self.old.calls }
@@ -151,14 +151,15 @@ impl MemSink {
 impl Sink for MemSink {
     ghost written = { λ s. Some s.held };
 
-    ghost faults = { λ s. s.faults };
+    ghost faults = { writer_faults };
 
     fn write(&mut self, bytes: &[u8]) -> Result<usize, Failed>
         // what every sink promises
         ensures bound { WritesAtMost result bytes.now }
         ensures bytes { WriteAppends (Some self.old.held) (Some self.new.held) result bytes.now }
         ensures progress { IfOk result (λ n. 0 < length bytes.now → 0 < n) }
-        ensures cause { HasCause self.old.faults self.new.faults result }
+        ensures cause { HasCause (writer_faults self.old) (writer_faults self.new) result }
+        ensures full { OnErr result (IsFull (writer_faults self.new) (Some self.new.held)) }
 
         // when it fails, and how many bytes it takes
         ensures fails { IsErr result ↔ (Contains self.old.failing self.old.calls
@@ -235,7 +236,7 @@ impl MemFeed {
 impl Feed for MemFeed {
     ghost tables = { λ s. Some (table_in s.tables) };
 
-    ghost faults = { λ s. s.faults };
+    ghost faults = { tables_faults };
 
     fn table(&mut self, folder: &str, name: &str) -> Result<Option<Vec<u8>>, FeedFault>
         // what every feed promises
@@ -245,9 +246,9 @@ impl Feed for MemFeed {
         ensures long { IsErrOf result FeedFault.TooLong
             → IsTooLong (table_in self.old.tables folder.now name.now) }
         ensures failed { IsErrOf result FeedFault.Failed
-            → self.new.faults ≡ counted self.old.faults }
+            → Some (tables_faults self.new) ≡ counted (tables_faults self.old) }
         ensures answered { ¬ (IsErrOf result FeedFault.Failed)
-            → self.new.faults ≡ self.old.faults }
+            → tables_faults self.new ≡ tables_faults self.old }
         ensures same { Some (table_in self.new.tables) ≡ Some (table_in self.old.tables) }
 
         // when it fails, and the feed afterwards

@@ -2,7 +2,7 @@
 ghost use Rattle.std.specs.Prelude.{◌≡◌, ◌<◌, ◌≤◌, ◌∷◌, [], length, drop, min, IsOk, IsOkAnd, IfOk, IfSome, IsErrOf, OnOk, OnErr, Some, None, option_map, vec_len};
 ghost use Rattle.std.specs.Io.{ReadsAtMost, WritesAtMost};
 ghost use Rattle.std.specs.Io.KnownBytes.{ReadConsumes};
-ghost use Rattle.mt_io.specs.Causes.{HasCause};
+ghost use Rattle.mt_io.specs.Causes.{HasCause, no_faults};
 ghost use Rattle.mt_io.specs.Memory.{SureReader};
 ghost use Rattle.mt_io.specs.Tables.{IsTooLong, table_in};
 
@@ -52,12 +52,12 @@ impl SureSource {
 impl Source for SureSource {
     ghost left = { λ s. Some s.left };
 
-    ghost faults = { λ _. 0 };
+    ghost faults = { λ _. no_faults };
 
     fn read(&mut self, buf: &mut [u8]) -> Result<usize, Failed>
         ensures bound { ReadsAtMost result buf.new }
         ensures bytes { ReadConsumes (Some self.old.left) (Some self.new.left) result buf.new }
-        ensures cause { HasCause 0 0 result }
+        ensures cause { HasCause no_faults no_faults result }
         ensures gives { IsOkAnd result (λ n.
             (n ≡ min (min (length self.old.left) self.old.piece) (length buf.old))
             × (self.new ≡ record self.old { left = drop n self.old.left })) }
@@ -82,12 +82,12 @@ impl SureSink {
 impl Sink for SureSink {
     ghost written = { λ _. None };
 
-    ghost faults = { λ _. 0 };
+    ghost faults = { λ _. no_faults };
 
     fn write(&mut self, bytes: &[u8]) -> Result<usize, Failed>
         ensures bound { WritesAtMost result bytes.now }
         ensures progress { IfOk result (λ n. 0 < length bytes.now → 0 < n) }
-        ensures cause { HasCause 0 0 result }
+        ensures cause { HasCause no_faults no_faults result }
         ensures takes { IsOkAnd result (λ n. n ≡ length bytes.now) }
     {
         Ok(bytes.len())
@@ -132,7 +132,7 @@ impl SureFeed {
 impl Feed for SureFeed {
     ghost tables = { λ s. Some (table_in s) };
 
-    ghost faults = { λ _. 0 };
+    ghost faults = { λ _. no_faults };
 
     fn table(&mut self, folder: &str, name: &str) -> Result<Option<Vec<u8>>, FeedFault>
         ensures bytes { IfOk result (λ table.

@@ -4,6 +4,7 @@
 ghost use Rattle.std.specs.Prelude.{◌≡◌, ◌≢◌, ◌<◌, ◌≤◌, Err, IfOk, None, Ok, Some, length, take};
 ghost use Rattle.std.specs.Io.{WritesAtMost};
 ghost use Rattle.std.specs.Io.KnownBytes.{Appends};
+ghost use Rattle.mt_io.specs.Causes.{failed_times};
 
 use crate::shelf::LONGEST;
 use crate::traits::{Failed, Feed, FeedFault, Sink, Source};
@@ -22,7 +23,7 @@ pub struct StdSource<R> {
 impl<R: Read> StdSource<R> {
     /// A source over this reader.
     pub fn build(inner: R) -> StdSource<R>
-        ensures { ⟦<StdSource<R> as Source>⟧.faults result ≡ 0 }
+        ensures { ⟦<StdSource<R> as Source>⟧.faults result ≡ failed_times 0 }
     {
         StdSource { inner, faults: 0 }
     }
@@ -31,7 +32,7 @@ impl<R: Read> StdSource<R> {
 impl<R: Read> Source for StdSource<R> {
     ghost left = { λ s. R.remaining s.inner };
 
-    ghost faults = { λ s. s.faults };
+    ghost faults = { λ s. failed_times s.faults };
 
     fn read(&mut self, buf: &mut [u8]) -> Result<usize, Failed> {
         match self.inner.read(buf) {
@@ -55,7 +56,7 @@ pub struct StdSink<W> {
 impl<W: Write> StdSink<W> {
     /// A sink over this writer.
     pub fn build(inner: W) -> StdSink<W>
-        ensures { ⟦<StdSink<W> as Sink>⟧.faults result ≡ 0 }
+        ensures { ⟦<StdSink<W> as Sink>⟧.faults result ≡ failed_times 0 }
     {
         StdSink { inner, faults: 0 }
     }
@@ -64,7 +65,7 @@ impl<W: Write> StdSink<W> {
 impl<W: Write> Sink for StdSink<W> {
     ghost written = { λ _. None };
 
-    ghost faults = { λ s. s.faults };
+    ghost faults = { λ s. failed_times s.faults };
 
     fn write(&mut self, bytes: &[u8]) -> Result<usize, Failed> {
         let result = write_front(&mut self.inner, bytes);
@@ -103,7 +104,7 @@ pub struct FolderFeed<R> {
 impl<R: Files> FolderFeed<R> {
     /// A feed over the file system.
     pub fn build(rt: R, alloc: Global) -> FolderFeed<R>
-        ensures { ⟦<FolderFeed<R> as Feed>⟧.faults result ≡ 0 }
+        ensures { ⟦<FolderFeed<R> as Feed>⟧.faults result ≡ failed_times 0 }
     {
         FolderFeed {
             rt,
@@ -127,7 +128,7 @@ impl<R: Files> FolderFeed<R> {
 impl<R: Files> Feed for FolderFeed<R> {
     ghost tables = { λ _. None };
 
-    ghost faults = { λ s. s.faults };
+    ghost faults = { λ s. failed_times s.faults };
 
     fn table(&mut self, folder: &str, name: &str) -> Result<Option<Vec<u8>>, FeedFault> {
         let result = match self.front(folder, name) {

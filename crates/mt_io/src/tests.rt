@@ -1,4 +1,5 @@
 ghost use Rattle.std.specs.Prelude.{Some};
+ghost use Rattle.mt_io.specs.Causes.{no_faults};
 
 mod files;
 mod streams;
@@ -51,7 +52,7 @@ struct CountedSource {
 impl Source for CountedSource {
     ghost left = { λ s. Some s.inner.left };
 
-    ghost faults = { λ _. 0 };
+    ghost faults = { λ _. no_faults };
 
     fn read(&mut self, buf: &mut [u8]) -> Result<usize, Failed> {
         self.reads = self.reads.saturating_add(1);

@@ -1,8 +1,8 @@
 //! What bytes and tables come from, and what bytes go to. Each object counts its faults.
-ghost use Rattle.std.specs.Prelude.{◌≡◌, ◌<◌, ◌≤◌, List, ℕ, length, IfOk, OnOk, OnErr, Option, IfSome, IsErrOf, option_map};
+ghost use Rattle.std.specs.Prelude.{◌≡◌, ◌<◌, ◌≤◌, List, ℕ, length, IfOk, OnOk, OnErr, Option, Some, IfSome, IsErrOf, option_map};
 ghost use Rattle.std.specs.Io.{ReadsAtMost, WritesAtMost};
 ghost use Rattle.std.specs.Io.KnownBytes.{Appends, ReadConsumes, WriteAppends};
-ghost use Rattle.mt_io.specs.Causes.{HasCause, AppendsPart, counted};
+ghost use Rattle.mt_io.specs.Causes.{Faults, HasCause, IsFull, AppendsPart, counted};
 ghost use Rattle.mt_io.specs.Tables.{IsTooLong};
 
 /// The object failed.
@@ -14,8 +14,8 @@ pub trait Source {
     /// The bytes that are left, where it tells them.
     ghost left: { Self → Option (List ℕ) };
 
-    /// How often it has failed.
-    ghost faults: { Self → ℕ };
+    /// How often it has failed, and when it can.
+    ghost faults: { Self → Faults };
 
     /// Moves the next bytes into the front of `buf`. None come only at the end, or where `buf` is
     /// empty.
@@ -30,15 +30,16 @@ pub trait Sink {
     /// The bytes that were written, where it tells them.
     ghost written: { Self → Option (List ℕ) };
 
-    /// How often it has failed.
-    ghost faults: { Self → ℕ };
+    /// How often it has failed, and when it can.
+    ghost faults: { Self → Faults };
 
     /// Appends a front of `bytes`, of at least one byte where there is one.
     fn write(&mut self, bytes: &[u8]) -> Result<usize, Failed>
         ensures bound { WritesAtMost result bytes.now }
         ensures bytes { WriteAppends (written self.old) (written self.new) result bytes.now }
         ensures progress { IfOk result (λ n. 0 < length bytes.now → 0 < n) }
-        ensures cause { HasCause (faults self.old) (faults self.new) result };
+        ensures cause { HasCause (faults self.old) (faults self.new) result }
+        ensures full { OnErr result (IsFull (faults self.new) (written self.new)) };
 }
 
 /// Why a table was not given.
@@ -57,8 +58,8 @@ pub trait Feed {
     /// The bytes of each table that there is, by folder and name, where it tells them.
     ghost tables: { Self → Option (List ℕ → List ℕ → Option (List ℕ)) };
 
-    /// How often it has failed.
-    ghost faults: { Self → ℕ };
+    /// How often it has failed, and when it can.
+    ghost faults: { Self → Faults };
 
     /// The bytes of a table, or None where there is no such table.
     fn table(&mut self, folder: &str, name: &str) -> Result<Option<Vec<u8>>, FeedFault>
@@ -68,7 +69,7 @@ pub trait Feed {
         ensures long { IsErrOf result FeedFault.TooLong → IfSome (tables self.old) (λ told.
             IsTooLong (told folder.now name.now)) }
         ensures failed { IsErrOf result FeedFault.Failed
-            → faults self.new ≡ counted (faults self.old) }
+            → Some (faults self.new) ≡ counted (faults self.old) }
         ensures answered { ¬ (IsErrOf result FeedFault.Failed)
             → faults self.new ≡ faults self.old }
         ensures same { tables self.new ≡ tables self.old };
@@ -81,6 +82,7 @@ pub fn put<K: Sink>(sink: &mut K, bytes: &[u8]) -> Result<(), Failed>
     ensures failed { OnErr result (AppendsPart (K.written sink.old)
         (K.written sink.new) bytes.now) }
     ensures cause { HasCause (K.faults sink.old) (K.faults sink.new) result }
+    ensures full { OnErr result (IsFull (K.faults sink.new) (K.written sink.new)) }
 {
     let mut done = 0;
     while done < bytes.len() {

@@ -1,7 +1,7 @@
 -- What reading a window takes from the input, and how it ends.
-use Rattle.std.specs.Prelude.{ℕ, ◌≡◌, ◌<◌, List, [], ◌∷◌, Result, Ok, Err}
+use Rattle.std.specs.Prelude.{◌≡◌, ◌<◌, List, [], ◌∷◌, Option, Some, Result, Ok, Err}
 use Rattle.information_service.specs.Lines.{said_by}
-use Rattle.mt_io.specs.Causes.{counted}
+use Rattle.mt_io.specs.Causes.{Faults, counted}
 use Rattle.mt_io.specs.Lines.{Line}
 use Rattle.mt_io.specs.Reader.{Reader, IsDone, CanReadOn, IsSpent, work}
 use Rattle.schedule_build.specs.Directory.{Names}
@@ -48,21 +48,21 @@ pub record IsReadWindow (names : Names) (end : WindowEnd) (lines : List Line)
   pub shown : window ≡ window_lines names lines
   pub ended : EndsWindow end lines old new
 
--- the count of failed reads of an input after a window that ended so, by the count before it: one
--- more where a read failed, else the same
-abbrev pub failed_at_end : WindowEnd → ℕ → ℕ
-failed_at_end ends.More before = before
-failed_at_end ends.End before = before
+-- the faults of an input after a window that ended so, by those before it: one more where a read
+-- failed, else the same
+abbrev pub failed_at_end : WindowEnd → Faults → Option Faults
+failed_at_end ends.More before = Some before
+failed_at_end ends.End before = Some before
 failed_at_end ends.ReadFault before = counted before
-failed_at_end ends.Budget before = before
+failed_at_end ends.Budget before = Some before
 
 -- the same after the next line was read, or was lost for want of memory
-abbrev pub line_reads_failed : {E : Type 0} → Result NextLine E → ℕ → ℕ
-line_reads_failed (Ok (next.Line line)) before = before
+abbrev pub line_reads_failed : {E : Type 0} → Result NextLine E → Faults → Option Faults
+line_reads_failed (Ok (next.Line line)) before = Some before
 line_reads_failed (Ok (next.Stop end)) before = failed_at_end end before
-line_reads_failed (Err fault) before = before
+line_reads_failed (Err fault) before = Some before
 
 -- the same after a window was read, or a line of it was lost for want of memory
-abbrev pub window_reads_failed : {E : Type 0} → Result WindowEnd E → ℕ → ℕ
+abbrev pub window_reads_failed : {E : Type 0} → Result WindowEnd E → Faults → Option Faults
 window_reads_failed (Ok end) before = failed_at_end end before
-window_reads_failed (Err fault) before = before
+window_reads_failed (Err fault) before = Some before

@@ -1,6 +1,6 @@
 //! The windows of an input, one after another.
 
-ghost use Rattle.std.specs.Prelude.{◌≡◌, List, IfOk, true};
+ghost use Rattle.std.specs.Prelude.{◌≡◌, List, IfOk, Some, true};
 ghost use Rattle.mt_io.specs.Lines.{Line};
 ghost use Rattle.mt_io.specs.Reader.{GivesNext};
 ghost use Rattle.query_crew.specs.Reading.{IsNextLine, IsReadWindow, line_reads_failed, window_reads_failed};
@@ -46,7 +46,7 @@ fn next_line<S: Source>(
     ensures taken { (lines : List Line)
         × GivesNext reader.old reader.new (S.left input.old) (S.left input.new) lines
         × IfOk result (λ next. IsNextLine directory.now next lines reader.old reader.new) }
-    ensures reads { S.faults input.new ≡ line_reads_failed result (S.faults input.old) }
+    ensures reads { Some (S.faults input.new) ≡ line_reads_failed result (S.faults input.old) }
     ensures ended { reader.old.ended ≡ true → input.new ≡ input.old }
 {
     match reader.next(input) {
@@ -75,7 +75,8 @@ pub fn read_window<S: Source>(
         reader.new) }
 
     // how many reads failed, and when the input is not read
-    ensures reads { S.faults input.new ≡ window_reads_failed result (S.faults input.old) }
+    ensures reads { Some (S.faults input.new)
+        ≡ window_reads_failed result (S.faults input.old) }
     ensures ended { reader.old.ended ≡ true → input.new ≡ input.old }
 {
     window.clear();

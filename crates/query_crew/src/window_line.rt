@@ -1,6 +1,6 @@
 //! What a line says in a window.
 
-ghost use Rattle.std.specs.Prelude.{◌≡◌, Ok, IfOk};
+ghost use Rattle.std.specs.Prelude.{◌≡◌, ◌<◌, ◌^◌, Ok, IfOk, length};
 ghost use Rattle.message_reader.specs.ResolvedQueries.{query_resolved};
 ghost use Rattle.message_reader.specs.Wires.{IsLine, IsWireQuery};
 ghost use Rattle.mt_io.specs.Lines.{short};
@@ -75,13 +75,14 @@ fn line_in_window(directory: &Directory, said: Line) -> WindowLine
     }
 }
 
-/// What a line of the input, without its line end, says in a window. The names of a query are
-/// looked up in the directory. `OutOfMemory` where there is no memory.
+/// What a line of the input, without its line end and of fewer than 2^31 bytes, says in a window.
+/// The names of a query are looked up in the directory. `OutOfMemory` where there is no memory.
 pub(crate) fn read_window_line(
     alloc: Global,
     directory: &Directory,
     line: &[u8],
 ) -> Result<WindowLine, OutOfMemory>
+    requires few { length line.now < 2 ^ 31 }
     ensures said { IfOk result (λ w. w ≡ window_line directory.now (said_by (short line.now))) }
     ensures kept { IfOk result IsWindowLine }
 {

@@ -1,5 +1,5 @@
 -- How a run of `gen` ends.
-use Rattle.std.proofs.Common.{◌≡◌, ◌≢◌, ◌⊎◌, ◌∙◌, ◌<◌, ℕ, List, Option, Some, Result, Ok, Err, arith, refl, sym, subst, inl, inr, length}
+use Rattle.std.proofs.Common.{◌++◌, ◌≡◌, ◌≢◌, ◌⊎◌, ◌∙◌, ◌<◌, ℕ, List, Option, Some, Result, Ok, Err, arith, refl, sym, subst, inl, inr, length}
 use Rattle.std.proofs.lemmas.Option.{none-some}
 use Rattle.std.specs.Result.{IfErr, IsErrAnd}
 use Rattle.command_words.specs.declared.gen_words.AskedGen.{AskedGen}
@@ -8,38 +8,42 @@ use Rattle.gtfs_tables.specs.declared.refusals.FeedError.{FeedError}
 use Rattle.gtfs_tables.specs.declared.refusals.FeedError.TheVariants as feeds
 use Rattle.gtfs_tables.specs.declared.refusals.FeedRefusal.{FeedRefusal}
 use Rattle.gtfs_tables.specs.Refusals.{IsErrorOf}
-use Rattle.information_service.specs.Causes.{TookAll, reads_failed}
+use Rattle.std.proofs.lemmas.List.{length-append}
+use Rattle.information_service.specs.Causes.{HasCounts}
+use Rattle.information_service.specs.Fronts.{AppendsFront}
 use Rattle.information_service.specs.declared.fault.LinesFault.{LinesFault}
 use Rattle.information_service.specs.declared.fault.LinesFault.TheVariants as lines
-use Rattle.information_service.proofs.Fronts.{front_part}
-use Rattle.mt_io.specs.Causes.{AppendsPart, counted}
+use Rattle.information_service.proofs.Fronts.{front_if, front_part}
+use Rattle.mt_io.specs.Causes.{AppendsPart, Rose, counted, no_faults}
 use Rattle.traind.specs.Causes.{HasFaultCause}
-use Rattle.traind.specs.Contract.{StreamSeen, Tells}
-use Rattle.traind.specs.GenContract.{GenEndsAs, MeetsGenContract}
+use Rattle.traind.specs.Failing.{Tells, WritesCannotFail}
+use Rattle.traind.specs.GenContract.{GenEndsAs, GenWriteFailed, MeetsGenContract}
+use Rattle.traind.specs.Seen.{StreamSeen}
 use Rattle.traind.specs.Statuses.{error_line, feed_fault, lines_fault, status_of}
-use Rattle.traind.specs.Summaries.{IsOnlySummary}
+use Rattle.traind.specs.Summaries.{IsOnlySummary, WritesSummary}
 use Rattle.traind.specs.declared.status.Fault.{Fault}
 use Rattle.traind.specs.declared.status.Fault.TheVariants as faults
 use Rattle.traind.specs.declared.status.Status.{Status}
 use Rattle.traind.specs.declared.status.Status.TheVariants as statuses
-use Rattle.traind.proofs.Endings.{is-err, stops}
-use Rattle.traind.proofs.Statuses.{IsMemoryTold, ended-well, few-taken, not-stopped, went-well}
+use Rattle.traind.proofs.Endings.{is-err}
+use Rattle.traind.proofs.Failing.{full-by, more-of, never-counted, rose, same-room, told-after}
+use Rattle.traind.proofs.Statuses.{IsMemoryTold, ended-well, few-taken, not-stopped, went-well, write-failed}
 
 -- ---- why there is no summary
 
 -- a timetable that is held is loaded, unless there is no memory
-pub only-memory : {T : Type 0} (f : FeedError) (held : Result T FeedRefusal) (t : T) → held ≡ Ok t → IsErrorOf f held → (f ≡ feeds.ReadFault → 0 ≡ counted 0) → feed_fault f ≡ faults.OutOfMemory
+pub only-memory : {T : Type 0} (f : FeedError) (held : Result T FeedRefusal) (t : T) → held ≡ Ok t → IsErrorOf f held → (f ≡ feeds.ReadFault → Some no_faults ≡ counted no_faults) → feed_fault f ≡ faults.OutOfMemory
 only-memory (feeds.Refused why) held t is gives failed = grind (arith, is, gives)
-only-memory feeds.ReadFault held t is gives failed = absurd (omega (arith, failed refl))
+only-memory feeds.ReadFault held t is gives failed = absurd (never-counted no_faults no_faults refl (failed refl))
 only-memory feeds.OutOfMemory held t is gives failed = refl
 
 -- lines that are given without a fault, and that are fewer than may be taken, are answered, unless
 -- there is no memory
-pub only-memory-left : (f : LinesFault) (budget : ℕ) (all : List ℕ) (left : Option (List ℕ)) → length all < budget → 0 ≡ reads_failed {T = Unit {0}} (Err f) 0 → ¬ (f ≡ lines.WriteFault) → (f ≡ lines.TooLong → TookAll budget (Some all) left) → lines_fault f ≡ faults.OutOfMemory
-only-memory-left lines.ReadFault budget all left short reads not_written spent = absurd (omega (arith, reads))
-only-memory-left lines.WriteFault budget all left short reads not_written spent = absurd (not_written refl)
-only-memory-left lines.OutOfMemory budget all left short reads not_written spent = refl
-only-memory-left lines.TooLong budget all left short reads not_written spent = let took = spent refl in absurd (omega (arith, few-taken (Some all) left took.0 all took.1 refl, took.2, short))
+pub only-memory-left : {T : Type 0} (f : LinesFault) (budget : ℕ) (all : List ℕ) (left : Option (List ℕ)) → length all < budget → HasCounts {T = T} budget (Err f) (Some all) left no_faults no_faults no_faults no_faults ⊥ → lines_fault f ≡ faults.OutOfMemory
+only-memory-left lines.ReadFault budget all left short counts = absurd (never-counted no_faults no_faults refl counts.reads)
+only-memory-left lines.WriteFault budget all left short counts = absurd (never-counted no_faults no_faults refl counts.writes)
+only-memory-left lines.OutOfMemory budget all left short counts = refl
+only-memory-left lines.TooLong budget all left short counts = let took = counts.too_long refl in absurd (omega (arith, few-taken (Some all) left took.0 all took.1 refl, took.2, short))
 
 -- a result that hands a fault on
 pub handed-on : {T : Type 0} (run : Result T Fault) (f g : Fault) → IsErrAnd run (λ e. e ≡ f) → f ≡ g → IfErr run (λ e. e ≡ g)
@@ -54,12 +58,9 @@ untouched : (run : Result (Unit {0}) Fault) (usage write same : Type 0) → IfEr
 untouched run usage write same cause leaves (inl is) = leaves is
 untouched run usage write same cause leaves (inr is) = absurd (rw is.1 at cause)
 
-write-failed : (run : Result (Unit {0}) Fault) (s : Status) → (s ≡ status_of run) ⊎ (s ≡ statuses.OutOfMemory) → s ≡ statuses.WriteFault → run ≡ Err faults.WriteFault
-write-failed run s status is = grind (arith, status, is)
-
 module _ {K : Type 0} (words : List (List ℕ)) (out : StreamSeen) (old new : K) where
   -- a summary that is not written
-  pub gen-not-written : (run : Result (Unit {0}) Fault) (asked : AskedGen) (line : List ℕ) → gen_asked_of words ≡ Some asked → IsOnlySummary asked.trains line → IsErrAnd run (λ e. e ≡ faults.WriteFault) → out.faults_after ≡ counted out.faults
+  pub gen-not-written : (run : Result (Unit {0}) Fault) (asked : AskedGen) (line : List ℕ) → gen_asked_of words ≡ Some asked → IsOnlySummary asked.trains line → IsErrAnd run (λ e. e ≡ faults.WriteFault) → GenWriteFailed out
       → AppendsPart out.bytes out.bytes_after line → GenEndsAs words out old new run
   gen-not-written run asked line asked_is only is counts part =
       subst (GenEndsAs words out old new) (is-err run faults.WriteFault is)
@@ -70,9 +71,21 @@ module _ {K : Type 0} (words : List (List ℕ)) (out : StreamSeen) (old new : K)
         fault = counts;
         no_fault = λ not_written. absurd (not_written refl);
         memory = λ is_memory. absurd cc;
-        part = λ failed. record { asked = asked; line = line; asked_is = asked_is; is = only; written = part };
         front = inr (record { asked = asked; line = line; asked_is = asked_is; is = only; written = front_part out.bytes out.bytes_after line part });
       })
+
+-- where nothing fails, no write did
+no-gen-write : {K : Type 0} {words : List (List ℕ)} {out : StreamSeen} {old new : K} (run : Result (Unit {0}) Fault)
+    → ((new ≡ old) × ¬ (run ≡ Err faults.WriteFault)) ⊎ WritesSummary (AppendsFront (run ≡ Err faults.WriteFault)) words out.bytes out.bytes_after
+    → (¬ (Rose out.faults out.faults_after)) ⊎ WritesCannotFail (WritesSummary (AppendsFront ⊥) words out.bytes) out → run ≡ Err faults.WriteFault → GenWriteFailed out → ⊥
+no-gen-write {out = out} run front (inl none) is failed = none (rose out.faults.can out.faults.count out.faults_after.count out.faults_after.can failed.0)
+no-gen-write {out = out} run front (inr (inl never_fails)) is failed = never-counted out.faults out.faults_after never_fails failed.0
+no-gen-write run (inl none) (inr (inr room)) is failed = none.1 is
+no-gen-write {out = out} run (inr f) (inr (inr room)) is failed =
+    let now = told-after out.bytes out.bytes_after room.held f.written.front room.told f.written.written in
+    let more = more-of out.bytes now.0 f.line is (rw now.1 at f.written) in
+    let full = full-by room.room out.faults_after now.0 (same-room room.room out.faults out.faults_after room.can failed.0) (rw now.1 at failed.1) in
+    absurd (omega (arith, full, more.1, length-append now.0 more.0, room.fits (now.0 ++ more.0) (record { asked = f.asked; line = f.line; asked_is = f.asked_is; is = f.is; written = more.2 })))
 
 -- a run whose end is told meets the contract of `gen`
 pub gen-contract-met : {K : Type 0} {words : List (List ℕ)} {out err : StreamSeen} {old new : K} (run : Result (Unit {0}) Fault) (s : Status) → GenEndsAs words out old new run → (s ≡ status_of run) ⊎ (s ≡ statuses.OutOfMemory)
@@ -85,11 +98,13 @@ gen-contract-met run s e status no_memory told =
       usage_untouched = e.usage_untouched;
       ok = λ is. went-well run s _ status is e.ok;
       memory = λ is. untouched run _ _ _ e.fault e.memory (no_memory is);
-      part = λ is. e.part (write-failed run s status is);
-      front = e.front;
+      front = elim e.front [
+        | inl none ↦ inl (none.0, λ is. none.1 (write-failed run s status is))
+        | inr f ↦ inr (record { asked = f.asked; line = f.line; asked_is = f.asked_is; is = f.is; written = front_if (write-failed run s status) _ _ f.line f.written })
+      ];
       never = never;
       write_fault = grind (arith, status, e.fault);
       no_fault = λ not_written. e.no_fault (not-stopped run s faults.WriteFault status no_memory not_written (λ is. absurd cc) (λ why is. absurd cc));
-      complete = λ asked asked_is out_well. ended-well run s _ _ _ _ _ status e.fault (λ none. none-some asked (sym none ∙ asked_is)) (λ why r. r) (λ r. r) (λ w. out_well (omega (arith, w))) (λ l. l);
+      complete = λ asked asked_is out_well. ended-well run s _ _ _ _ _ status e.fault (λ none. none-some asked (sym none ∙ asked_is)) (λ why r. r) (λ r. r) (no-gen-write run e.front out_well) (λ l. l);
       error_line = told never.0;
     }

@@ -1,4 +1,5 @@
 pub mod Endings
+mod Failing
 pub mod GenEndings
 pub mod Made
 pub mod MadeLines

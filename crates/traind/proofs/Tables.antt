@@ -80,16 +80,16 @@ module _ {words : List (List ℕ)} {tables : Option Files} {c : Command} {a : As
   pub replies-are : (lines : List Line) (old new : Option (List ℕ)) → AppendsAll ((output_for c).AreReplies loaded names_loaded st_loaded lines) old new → AppendsAll ((output_of loads.asked).AreReplies nw names st lines) old new
   replies-are lines old new w = record { shown = w.shown; is = replies lines w.shown w.is; written = w.written }
 
-  first-are : (lines : List Line) (old new : Option (List ℕ)) → AppendsFirst ((output_for c).AreReplies loaded names_loaded st_loaded) lines old new → AppendsFirst ((output_of loads.asked).AreReplies nw names st) lines old new
+  first-are : {Failed : Type 0} (lines : List Line) (old new : Option (List ℕ)) → AppendsFirst Failed ((output_for c).AreReplies loaded names_loaded st_loaded) lines old new → AppendsFirst Failed ((output_of loads.asked).AreReplies nw names st) lines old new
   first-are lines old new f = record { first = f.first; later = f.later; shown = f.shown; split = f.split; is = replies f.first f.shown f.is; front = f.front }
 
-  whole-front-is : (lines : List Line) (old new : Option (List ℕ)) → AppendsWholeFront ((output_for c).IsWhole loaded names_loaded st_loaded) ((output_for c).AreReplies loaded names_loaded st_loaded) lines old new
-      → AppendsWholeFront ((output_of loads.asked).IsWhole nw names st) ((output_of loads.asked).AreReplies nw names st) lines old new
+  whole-front-is : {Failed : Type 0} (lines : List Line) (old new : Option (List ℕ)) → AppendsWholeFront Failed ((output_for c).IsWhole loaded names_loaded st_loaded) ((output_for c).AreReplies loaded names_loaded st_loaded) lines old new
+      → AppendsWholeFront Failed ((output_of loads.asked).IsWhole nw names st) ((output_of loads.asked).AreReplies nw names st) lines old new
   whole-front-is lines old new (inl f) = inl (first-are lines old new f)
   whole-front-is lines old new (inr all) = inr (all.0, whole lines all.0 all.1, all.2)
 
-  pub front-is : (budget : ℕ) (left left_now old new : Option (List ℕ)) → AppendsTakenFront ((output_for c).IsWhole loaded names_loaded st_loaded) ((output_for c).AreReplies loaded names_loaded st_loaded) budget left left_now old new
-      → AppendsTakenFront ((output_of loads.asked).IsWhole nw names st) ((output_of loads.asked).AreReplies nw names st) budget left left_now old new
+  pub front-is : {Failed : Type 0} (budget : ℕ) (left left_now old new : Option (List ℕ)) → AppendsTakenFront Failed ((output_for c).IsWhole loaded names_loaded st_loaded) ((output_for c).AreReplies loaded names_loaded st_loaded) budget left left_now old new
+      → AppendsTakenFront Failed ((output_of loads.asked).IsWhole nw names st) ((output_of loads.asked).AreReplies nw names st) budget left left_now old new
   front-is budget left left_now old new w = record {
     bytes = w.bytes;
     took = w.took;
@@ -105,9 +105,9 @@ unfolding lines_of
 none-written a nw names st written = record { shown = []; is = no-replies a.command nw names st; written = Appends-nil written }
 
 -- and nothing is a front of what is written
-pub none-front : (a : Asked) (nw : Network) (names : Names) (st : State) (budget : ℕ) (left written : Option (List ℕ)) → AppendsTakenFront ((output_of a).IsWhole nw names st) ((output_of a).AreReplies nw names st) budget left left written written
-none-front a nw names st budget left written = record {
+pub none-front : {Failed : Type 0} → ¬ Failed → (a : Asked) (nw : Network) (names : Names) (st : State) (budget : ℕ) (left written : Option (List ℕ)) → AppendsTakenFront Failed ((output_of a).IsWhole nw names st) ((output_of a).AreReplies nw names st) budget left left written written
+none-front no_fault a nw names st budget left written = record {
   bytes = [];
   took = consumes_none left;
-  front = inl (record { first = []; later = lines_of false []; shown = []; split = refl; is = no-replies a.command nw names st; front = front_none written [] });
+  front = inl (record { first = []; later = lines_of false []; shown = []; split = refl; is = no-replies a.command nw names st; front = front_none no_fault written [] });
 }

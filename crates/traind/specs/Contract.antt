@@ -1,16 +1,17 @@
 -- What a command of the program promises of each run, whatever its feed, its input and its outputs
 -- do.
 use Rattle.std.specs.Prelude.{ℕ, ◌≡◌, ◌≢◌, ◌⊎◌, ◌^◌, List, None, Some, Result, Err, OnOk, IfErr}
-use Rattle.std.specs.declared.option.Option.{Option}
-use Rattle.std.specs.Io.KnownBytes.{Appends, IsAtEnd}
+use Rattle.std.specs.Io.KnownBytes.{IsAtEnd}
 use Rattle.command_words.specs.Words.{Asked, asked_of}
 use Rattle.gtfs_tables.specs.declared.refusals.FeedRefusal.{FeedRefusal}
 use Rattle.information_service.specs.Causes.{TookAll, TookAtMost, TookFewer}
-use Rattle.mt_io.specs.Causes.{Rose, counted}
 use Rattle.gtfs_tables.specs.Feeds.{Files}
 use Rattle.traind.specs.Causes.{HasFaultCause}
+use Rattle.traind.specs.Failing.{FeedReadFailed, InputReadFailed, NothingFailed, NothingFails}
+use Rattle.traind.specs.Failing.{Tells, WriteFailed}
 use Rattle.traind.specs.Runs.{CanEnd, FillsBudget, IsRefused, Output, WritesAll, WritesFront}
 use Rattle.traind.specs.Runs.{WritesReplies}
+use Rattle.traind.specs.Seen.{FeedSeen, StreamSeen}
 use Rattle.traind.specs.Statuses.{error_line, refusal_line}
 use Rattle.traind.specs.declared.status.Fault.{Fault}
 use Rattle.traind.specs.declared.status.Fault.TheVariants as faults
@@ -21,73 +22,6 @@ use Rattle.traind.specs.declared.status.Status.TheVariants.{WriteFault, OutOfMem
 -- how many bytes of the input the program takes, if it finds no end before
 abbrev pub byte_budget : ℕ
 byte_budget = 2 ^ 40
-
--- a feed, as a run finds it and leaves it
-pub record FeedSeen : Type 0 where
-  -- its files, where the feed tells them
-  pub tables : Option Files
-  -- how many of its reads had failed when the run began, and when it had ended
-  pub faults : ℕ
-  pub faults_after : ℕ
-
--- a feed that was the first before the run and the second after it, by what it tells
-abbrev pub feed_seen : {F : Type 0} → (F → Option Files) → (F → ℕ) → F → F → FeedSeen
-feed_seen tables faults old new =
-    record { tables = tables old; faults = faults old; faults_after = faults new }
-
--- the input, the output or the error stream, as a run finds it and leaves it
-pub record StreamSeen : Type 0 where
-  -- the bytes before the run and after it, where the stream tells them: those that are left to take
-  -- from an input, or those that were written to an output
-  pub bytes : Option (List ℕ)
-  pub bytes_after : Option (List ℕ)
-  -- how many of its reads or writes had failed when the run began, and when it had ended
-  pub faults : ℕ
-  pub faults_after : ℕ
-
--- a stream that was the first before the run and the second after it, by what it tells
-abbrev pub stream_seen : {S : Type 0} → (S → Option (List ℕ)) → (S → ℕ) → S → S → StreamSeen
-stream_seen bytes faults old new = record {
-  bytes = bytes old;
-  bytes_after = bytes new;
-  faults = faults old;
-  faults_after = faults new;
-}
-
--- no read of the feed or the input failed in the run, and no write of the output
-pub record NothingFailed (feed : FeedSeen) (input out : StreamSeen) : Type 0 where
-  pub feed_reads : feed.faults_after ≡ feed.faults
-  pub input_reads : input.faults_after ≡ input.faults
-  pub writes : out.faults_after ≡ out.faults
-
--- one read of the feed failed, and nothing else
-pub record FeedReadFailed (feed : FeedSeen) (input out : StreamSeen) : Type 0 where
-  pub feed_reads : feed.faults_after ≡ counted feed.faults
-  pub input_reads : input.faults_after ≡ input.faults
-  pub writes : out.faults_after ≡ out.faults
-
--- one read of the input failed, and nothing else
-pub record InputReadFailed (feed : FeedSeen) (input out : StreamSeen) : Type 0 where
-  pub feed_reads : feed.faults_after ≡ feed.faults
-  pub input_reads : input.faults_after ≡ counted input.faults
-  pub writes : out.faults_after ≡ out.faults
-
--- one write of the output failed, and nothing else
-pub record WriteFailed (feed : FeedSeen) (input out : StreamSeen) : Type 0 where
-  pub feed_reads : feed.faults_after ≡ feed.faults
-  pub input_reads : input.faults_after ≡ input.faults
-  pub writes : out.faults_after ≡ counted out.faults
-
--- no count of faults rose
-pub record NoneRose (feed : FeedSeen) (input out : StreamSeen) : Type 0 where
-  pub feed_reads : ¬ (Rose feed.faults feed.faults_after)
-  pub input_reads : ¬ (Rose input.faults input.faults_after)
-  pub writes : ¬ (Rose out.faults out.faults_after)
-
--- what is written to the error stream is this, unless a write to it fails
-abbrev pub Tells : StreamSeen → List ℕ → Type 0
-Tells err line =
-    ¬ (Rose err.faults err.faults_after) → Appends err.bytes err.bytes_after line
 
 -- How a run of a command ends, before its status is told. It had these words; it found the feed,
 -- the input and the output as the first of each pair and left them as the second
@@ -126,8 +60,8 @@ pub record EndsAs {F S K : Type 0} (output : Asked → Output) (budget : ℕ)
   pub stopped : (run ≡ Err faults.ReadFault) ⊎ (run ≡ Err faults.TooLong)
       → WritesReplies output words feed.tables input.bytes input.bytes_after out.bytes
       out.bytes_after
-  pub front : WritesFront output budget words feed.tables input.bytes input.bytes_after out.bytes
-      out.bytes_after
+  pub front : WritesFront (run ≡ Err faults.WriteFault) output budget words feed.tables input.bytes
+      input.bytes_after out.bytes out.bytes_after
   -- how many bytes are taken
   pub at_most : TookAtMost budget input.bytes input.bytes_after
   pub fewer : OnOk run (TookFewer budget input.bytes input.bytes_after)
@@ -180,9 +114,10 @@ pub record MeetsContract {F S K : Type 0} (output : Asked → Output) (budget : 
   pub stopped : (status ≡ ReadFault) ⊎ (status ≡ TooLong) → WritesReplies output words feed.tables
       input.bytes input.bytes_after out.bytes out.bytes_after
   -- however the run ended, what is written is a front of the replies to the lines that are whole
-  -- among the bytes taken, or, where the end of the input was read, of a whole output
-  pub front : WritesFront output budget words feed.tables input.bytes input.bytes_after out.bytes
-      out.bytes_after
+  -- among the bytes taken, or, where the end of the input was read, of a whole output; where a
+  -- write failed it is not all of that
+  pub front : WritesFront (status ≡ WriteFault) output budget words feed.tables input.bytes
+      input.bytes_after out.bytes out.bytes_after
   -- ---- faults
 
   -- the run stops at its first fault: a read fault comes where one read of the feed failed, before
@@ -198,12 +133,14 @@ pub record MeetsContract {F S K : Type 0} (output : Asked → Output) (budget : 
   -- the input is too long where as many bytes were taken as may be
   pub too_long : status ≡ TooLong → TookAll budget input.bytes input.bytes_after
   -- words that ask for a feed that holds a timetable, an input with as many bytes as may be taken
-  -- or more, and no fault: the input is too long, unless there is no memory
+  -- or more, and nothing that fails: the input is too long, unless there is no memory
   pub too_long_exactly : FillsBudget words feed.tables input.bytes budget
-      → NoneRose feed input out → (status ≡ TooLong) ⊎ (status ≡ OutOfMemory)
+      → NothingFails output budget words feed input out
+      → (status ≡ TooLong) ⊎ (status ≡ OutOfMemory)
   -- words that ask for a feed that holds a timetable, an input with fewer bytes than may be taken,
-  -- and no fault: all goes well, unless there is no memory
-  pub complete : CanEnd words feed.tables input.bytes budget → NoneRose feed input out
-      → (status ≡ Ok) ⊎ (status ≡ OutOfMemory)
+  -- and nothing that fails: all goes well, unless there is no memory. So it is over objects in
+  -- memory that cannot fail, whatever the run does
+  pub complete : CanEnd words feed.tables input.bytes budget
+      → NothingFails output budget words feed input out → (status ≡ Ok) ⊎ (status ≡ OutOfMemory)
   -- the error stream has the line of the status
   pub error_line : status ≢ FeedRefused → Tells err (error_line status)

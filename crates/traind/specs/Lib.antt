@@ -1,7 +1,9 @@
 pub mod Causes
 pub mod Contract
+pub mod Failing
 pub mod Feeds
 pub mod GenContract
 pub mod Runs
+pub mod Seen
 pub mod Statuses
 pub mod Summaries

@@ -95,12 +95,12 @@ WritesReplies output words tables left left_now written written_now =
 
 -- what was written is a front of an output for the bytes that were taken, however the run ended: of
 -- the replies to the first of the lines that are whole among them, or, where the end of the input
--- was read, of a whole output
-abbrev pub WritesFront : (Asked → Output) → ℕ → List (List ℕ) → Option Files → Option (List ℕ)
-    → Option (List ℕ) → Option (List ℕ) → Option (List ℕ) → Type 0
-WritesFront output budget words tables left left_now written written_now =
+-- was read, of a whole output. Where a write has `Failed`, it is not all of that
+abbrev pub WritesFront : Type 0 → (Asked → Output) → ℕ → List (List ℕ) → Option Files
+    → Option (List ℕ) → Option (List ℕ) → Option (List ℕ) → Option (List ℕ) → Type 0
+WritesFront Failed output budget words tables left left_now written written_now =
     (nw : Network) (st : State) (names : Names) → (loads : Loads words tables nw st names)
-    → AppendsTakenFront ((output loads.asked).IsWhole nw names st)
+    → AppendsTakenFront Failed ((output loads.asked).IsWhole nw names st)
     ((output loads.asked).AreReplies nw names st) budget left left_now written written_now
 
 -- the feed holds a timetable, and the input tells its bytes, of which the number is one of these

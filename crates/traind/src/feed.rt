@@ -66,7 +66,7 @@ pub(crate) fn load_timetable<F: Feed>(
 
     // a read fault comes where one read failed, and else none failed
     ensures failed { IsErrOf result FeedError.ReadFault
-        → F.faults feed.new ≡ counted (F.faults feed.old) }
+        → Some (F.faults feed.new) ≡ counted (F.faults feed.old) }
     ensures answered { ¬ (IsErrOf result FeedError.ReadFault)
         → F.faults feed.new ≡ F.faults feed.old }
 {
@@ -106,7 +106,7 @@ pub(crate) fn load_service<F: Feed>(
 
     // a read fault comes where one read failed, and else none failed
     ensures failed { IsErrOf result FeedError.ReadFault
-        → F.faults feed.new ≡ counted (F.faults feed.old) }
+        → Some (F.faults feed.new) ≡ counted (F.faults feed.old) }
     ensures answered { ¬ (IsErrOf result FeedError.ReadFault)
         → F.faults feed.new ≡ F.faults feed.old }
 {

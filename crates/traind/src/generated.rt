@@ -1,7 +1,7 @@
 //! The command `gen`: a feed and an input that are made from a number of trains.
 
 ghost use Rattle.std.specs.Prelude.{◌≡◌, ◌≤◌, map, IfOk, IfErr, string_bytes};
-ghost use Rattle.traind.specs.Contract.{stream_seen};
+ghost use Rattle.traind.specs.Seen.{stream_seen};
 ghost use Rattle.traind.specs.GenContract.{GenEndsAs, MeetsGenContract};
 ghost use Rattle.traind.specs.Summaries.{IsOnlySummary};
 

@@ -2,7 +2,8 @@
 
 ghost use Rattle.std.specs.Prelude.{◌≡◌, ◌≤◌, map, true, false, string_bytes};
 ghost use Rattle.command_words.specs.GenWords.{is_gen};
-ghost use Rattle.traind.specs.Contract.{EndsAs, MeetsContract, byte_budget, feed_seen, stream_seen};
+ghost use Rattle.traind.specs.Contract.{EndsAs, MeetsContract, byte_budget};
+ghost use Rattle.traind.specs.Seen.{feed_seen, stream_seen};
 ghost use Rattle.traind.specs.GenContract.{MeetsGenContract};
 ghost use Rattle.traind.specs.Runs.{AskFor, output_of};
 

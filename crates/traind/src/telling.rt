@@ -1,9 +1,9 @@
 //! What the error stream gets at the end of a run.
 
 ghost use Rattle.std.specs.Prelude.{◌≡◌, ◌≢◌, ◌⊎◌, Err};
-ghost use Rattle.std.specs.Io.KnownBytes.{Appends};
 ghost use Rattle.gtfs_tables.specs.declared.refusals.FeedRefusal.{FeedRefusal};
-ghost use Rattle.mt_io.specs.Causes.{Rose};
+ghost use Rattle.traind.specs.Failing.{Tells};
+ghost use Rattle.traind.specs.Seen.{stream_seen};
 ghost use Rattle.traind.specs.Statuses.{error_line, refusal_line, status_of};
 ghost use Rattle.traind.specs.declared.status.Fault.TheVariants as faults;
 
@@ -13,23 +13,28 @@ use gtfs_tables::FeedRefusal;
 use mt_io::{Sink, put};
 use std::alloc::Global;
 
+/// Writes a line. Where a write fails, the rest of the line is left out, and nobody is told.
+fn tell_line<E: Sink>(line: &[u8], err: &mut E)
+    ensures { Tells (stream_seen E.written E.faults err.old err.new) line.now }
+{
+    let _ = put(err, line);
+}
+
 /// Writes why a feed is refused.
 fn tell_refusal<E: Sink>(alloc: Global, why: &FeedRefusal, err: &mut E) -> Status
     ensures status { (result ≡ Status.FeedRefused) ⊎ (result ≡ Status.OutOfMemory) }
     ensures refused_line { result ≡ Status.FeedRefused
-        → ¬ (Rose (E.faults err.old) (E.faults err.new))
-        → Appends (E.written err.old) (E.written err.new) (refusal_line why.now) }
+        → Tells (stream_seen E.written E.faults err.old err.new) (refusal_line why.now) }
     ensures error_line { result ≢ Status.FeedRefused
-        → ¬ (Rose (E.faults err.old) (E.faults err.new))
-        → Appends (E.written err.old) (E.written err.new) (error_line result) }
+        → Tells (stream_seen E.written E.faults err.old err.new) (error_line result) }
 {
     match refusal_line(alloc, why) {
         Ok(line) => {
-            let _ = put(err, line.as_bytes());
+            tell_line(line.as_bytes(), err);
             Status::FeedRefused
         }
         Err(_) => {
-            let _ = put(err, Status::OutOfMemory.error_line());
+            tell_line(Status::OutOfMemory.error_line(), err);
             Status::OutOfMemory
         }
     }
@@ -42,16 +47,14 @@ pub(crate) fn tell<E: Sink>(alloc: Global, run: Result<(), Fault>, err: &mut E) 
         ⊎ ((why : FeedRefusal) × (run ≡ Err (faults.FeedRefused why))) }
     ensures refused_line { result ≡ Status.FeedRefused → (why : FeedRefusal)
         × (run ≡ Err (faults.FeedRefused why))
-        × (¬ (Rose (E.faults err.old) (E.faults err.new))
-        → Appends (E.written err.old) (E.written err.new) (refusal_line why)) }
+        × Tells (stream_seen E.written E.faults err.old err.new) (refusal_line why) }
     ensures error_line { result ≢ Status.FeedRefused
-        → ¬ (Rose (E.faults err.old) (E.faults err.new))
-        → Appends (E.written err.old) (E.written err.new) (error_line result) }
+        → Tells (stream_seen E.written E.faults err.old err.new) (error_line result) }
 {
     if let Err(Fault::FeedRefused(why)) = run {
         return tell_refusal(alloc, &why, err);
     }
     let status = status_of(run);
-    let _ = put(err, status.error_line());
+    tell_line(status.error_line(), err);
     status
 }

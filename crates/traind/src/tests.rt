@@ -1,6 +1,7 @@
 mod exhaustion;
 mod failing_calls;
 mod generated;
+mod in_memory;
 mod limited;
 mod refused_memory;
 mod serve;
@@ -186,18 +187,28 @@ fn is_end(ended: &Ended, status: Status, out: &str, err: &str) -> bool {
         && ended.err.bytes() == err.as_bytes()
 }
 
-/// The words `times feed --from 20260105`.
-fn words(alloc: Global) -> Result<Vec<String>, Fail> {
+/// The words that blanks part in this text.
+fn words_of(alloc: Global, text: &str) -> Result<Vec<String>, Fail> {
     let mut words = Vec::new(alloc);
-    for word in ["times", "feed", "--from", "20260105"] {
+    for word in text.split_whitespace() {
         words.push(String::from_str(alloc, word)?)?;
     }
     Ok(words)
 }
 
+/// The words `times feed --from 20260105`.
+fn words(alloc: Global) -> Result<Vec<String>, Fail> {
+    words_of(alloc, "times feed --from 20260105")
+}
+
 /// A feed with this table of calls, which never fails.
 fn feed(alloc: Global, stop_times: &[u8]) -> Result<MemFeed, Fail> {
-    let mut feed = MemFeed::build(alloc, Vec::new(alloc));
+    failing_feed(alloc, stop_times, Vec::new(alloc))
+}
+
+/// A feed with this table of calls, of which the calls with these numbers fail.
+fn failing_feed(alloc: Global, stop_times: &[u8], failing: Vec<u64>) -> Result<MemFeed, Fail> {
+    let mut feed = MemFeed::build(alloc, failing);
     for (name, table) in [
         ("stops.txt", STOPS.as_bytes()),
         ("trips.txt", TRIPS.as_bytes()),
@@ -218,6 +229,15 @@ fn input(alloc: Global, text: &str) -> Result<MemSource, Fail> {
 /// An output with ample room, which never fails.
 fn output(alloc: Global) -> Result<MemSink, Fail> {
     Ok(MemSink::build(alloc, 4_096, Vec::new(alloc))?)
+}
+
+/// Whether this is the next line of an input.
+fn is_next(alloc: Global, input: &mut MemSource, line: &str) -> Result<bool, Fail> {
+    let mut reader = LineReader::build(alloc, 1_000)?;
+    match reader.next(input) {
+        Next::Line(left) => Ok(left == line.as_bytes()),
+        _ => Ok(false),
+    }
 }
 
 /// A run of these words over this feed, on this input and output, with ample memory.
@@ -311,10 +331,7 @@ fn reports_and_kept_connections(rt: HostRuntime) -> Result<(), Fail> {
 #[test]
 fn query_before_and_after_a_missed_connection(rt: HostRuntime) -> Result<(), Fail> {
     let alloc = rt.alloc();
-    let mut words = words(alloc)?;
-    for word in ["--slack", "0"] {
-        words.push(String::from_str(alloc, word)?)?;
-    }
+    let words = words_of(alloc, "times feed --from 20260105 --slack 0")?;
     let text = format!(in alloc; "{QUERY}\n{MISSED}\n{QUERY}\n")?;
     let want = format!(in alloc; "{QUERY_REPLIES}{HEADER}{T1_MISSED}{T2}")?;
     let mut feed = feed(alloc, STOP_TIMES.as_bytes())?;
@@ -342,11 +359,8 @@ fn no_table(rt: HostRuntime) -> Result<(), Fail> {
     let ended = run_over(&rt, alloc, &words, &mut feed, &mut input, output(alloc)?)?;
     let told = "traind: feed refused: missing stops.txt\n";
     assert!(rt; is_end(&ended, Status::FeedRefused, "", told));
-    let mut reader = LineReader::build(alloc, 1_000)?;
-    match reader.next(&mut input) {
-        Next::Line(left) => assert_eq!(rt; left, FORECAST.as_bytes()),
-        _ => assert!(rt; false, "the input was read"),
-    }
+    let is_unread = is_next(alloc, &mut input, FORECAST)?;
+    assert!(rt; is_unread);
     Ok(())
 }
 

@@ -102,19 +102,19 @@ module _ {K : Type 0} {Receives : K → K → Names → List Reply → Type 0} {
     stands = subst (λ (ls : List Line). StandsAt o posted_now names_now (service_after nw names st ls)) (sym (lines-more ws w)) answered.stands;
   }
 
-module _ {K : Type 0} {Receives Begins : K → K → Names → List Reply → Type 0} {o : Option TimetableState} {nw : Network} {names names_mid : Names} {st : State} {ws : List (List Line)} {posted : List Message} {out out_mid : K}
+module _ {K Failed : Type 0} {Receives Begins : K → K → Names → List Reply → Type 0} {o : Option TimetableState} {nw : Network} {names names_mid : Names} {st : State} {ws : List (List Line)} {posted : List Message} {out out_mid : K}
     (so_far : AreAnswered Receives o nw names st ws posted names_mid out out_mid) where
   -- the windows so far, and perhaps a beginning of one more
-  first-received : (w : List Line) {out_now : K} → All IsClosedWindow ws → IsClosedWindow w → IsBegun Begins nw names st (lines_of ws) w out_mid out_now → AreFirstReceived Receives Begins nw names st (lines_of ws ++ w) out out_now
+  first-received : (w : List Line) {out_now : K} → All IsClosedWindow ws → IsClosedWindow w → IsBegun Failed Begins nw names st (lines_of ws) w out_mid out_now → AreFirstReceived Failed Receives Begins nw names st (lines_of ws ++ w) out out_now
   first-received w closed one (inl none) = record { windows = ws; window = w; later = []; split = sym (append-nil (lines_of ws ++ w)); closed = closed; mid = out_mid; received = so_far.output; more = inl none }
   first-received w closed one (inr begun) = record { windows = ws; window = w; later = []; split = sym (append-nil (lines_of ws ++ w)); closed = closed; mid = out_mid; received = so_far.output; more = inr (one, begun) }
 
-  none-more : (w : List Line) → All IsClosedWindow ws → AreFirstReceived Receives Begins nw names st (lines_of ws ++ w) out out_mid
-  none-more w closed = record { windows = ws; window = w; later = []; split = sym (append-nil (lines_of ws ++ w)); closed = closed; mid = out_mid; received = so_far.output; more = inl refl }
+  none-more : ¬ Failed → (w : List Line) → All IsClosedWindow ws → AreFirstReceived Failed Receives Begins nw names st (lines_of ws ++ w) out out_mid
+  none-more no_fault w closed = record { windows = ws; window = w; later = []; split = sym (append-nil (lines_of ws ++ w)); closed = closed; mid = out_mid; received = so_far.output; more = inl (refl, no_fault) }
 
   -- the same at the last lines of the input
-  last-received : {w : List Line} {out_now : K} (r : Reader) → All IsClosedWindow ws → IsOpenWindow w → IsDone r → IsBegun Begins nw names st (lines_of ws) w out_mid out_now
-      → AreFirstReceived Receives Begins nw names st (lines_of ws ++ w) out out_now ⊎ (IsDone r × AreAllReceived Receives Begins nw names st (lines_of ws ++ w) out out_now)
+  last-received : {w : List Line} {out_now : K} (r : Reader) → All IsClosedWindow ws → IsOpenWindow w → IsDone r → IsBegun Failed Begins nw names st (lines_of ws) w out_mid out_now
+      → AreFirstReceived Failed Receives Begins nw names st (lines_of ws ++ w) out out_now ⊎ (IsDone r × AreAllReceived Receives Begins nw names st (lines_of ws ++ w) out out_now)
   last-received {w = w} r closed rest done (inl none) = inl (record { windows = ws; window = w; later = []; split = sym (append-nil (lines_of ws ++ w)); closed = closed; mid = out_mid; received = so_far.output; more = inl none })
   last-received {w = w} r closed rest done (inr begun) =
       inr (done, record { windows = ws; last = w; are_read = record { closed = closed; rest = rest }; joined = refl; mid = out_mid; received = so_far.output; ends = begun })
@@ -150,23 +150,23 @@ module _ {K : Type 0} {Receives : K → K → Names → List Reply → Type 0} {
         output = record { windows = ws; last = w; are_read = record { closed = read.closed; rest = rest }; joined = refl; received = so_far.output };
       }
 
-module _ {K : Type 0} {Receives Begins : K → K → Names → List Reply → Type 0} {o : Option TimetableState} {nw : Network} {names names_mid : Names} {st : State} {posted : List Message} {out out_mid : K}
+module _ {K Failed : Type 0} {Receives Begins : K → K → Names → List Reply → Type 0} {o : Option TimetableState} {nw : Network} {names names_mid : Names} {st : State} {posted : List Message} {out out_mid : K}
     {mid now : Reader} {left left_mid left_now : Option (List ℕ)} {count : ℕ} {bytes : List ℕ} {ws : List (List Line)} {w : List Line}
     (read : AreRead mid left left_mid count bytes ws) (next : GivesNext mid now left_mid left_now w) (same : mid.ended ≡ true → left_now ≡ left_mid)
     (so_far : AreAnswered Receives o nw names st ws posted names_mid out out_mid) where
-  begun-by : {out_now : K} → AreFirstReceived Receives Begins nw names st (lines_of ws ++ w) out out_now ⊎ (IsDone now × AreAllReceived Receives Begins nw names st (lines_of ws ++ w) out out_now) → HasBegun Receives Begins nw names st now left left_now out out_now
+  begun-by : {out_now : K} → AreFirstReceived Failed Receives Begins nw names st (lines_of ws ++ w) out out_now ⊎ (IsDone now × AreAllReceived Receives Begins nw names st (lines_of ws ++ w) out out_now) → HasBegun Failed Receives Begins nw names st now left left_now out out_now
   begun-by output = record { bytes = (all-taken read next same).0; lines = lines_of ws ++ w; read = (all-taken read next same).1; output = output }
 
-  pub begun-before : HasBegun Receives Begins nw names st now left left_now out out_mid
-  begun-before = begun-by (inl (none-more so_far w read.closed))
+  pub begun-before : ¬ Failed → HasBegun Failed Receives Begins nw names st now left left_now out out_mid
+  begun-before no_fault = begun-by (inl (none-more so_far no_fault w read.closed))
 
-  pub begun-more : {out_now : K} → IsClosedWindow w → IsBegun Begins nw names st (lines_of ws) w out_mid out_now → HasBegun Receives Begins nw names st now left left_now out out_now
+  pub begun-more : {out_now : K} → IsClosedWindow w → IsBegun Failed Begins nw names st (lines_of ws) w out_mid out_now → HasBegun Failed Receives Begins nw names st now left left_now out out_now
   begun-more closed begun = begun-by (inl (first-received so_far w read.closed closed begun))
 
-  pub begun-last : {out_now : K} → IsOpenWindow w → IsDone now → IsBegun Begins nw names st (lines_of ws) w out_mid out_now → HasBegun Receives Begins nw names st now left left_now out out_now
+  pub begun-last : {out_now : K} → IsOpenWindow w → IsDone now → IsBegun Failed Begins nw names st (lines_of ws) w out_mid out_now → HasBegun Failed Receives Begins nw names st now left left_now out out_now
   begun-last rest done begun = begun-by (last-received so_far now read.closed rest done begun)
 
 -- between two windows
-pub begun-so-far : {K : Type 0} {Receives Begins : K → K → Names → List Reply → Type 0} {o : Option TimetableState} {nw : Network} {names names_mid : Names} {st : State} {posted : List Message} {out out_mid : K} {mid : Reader} {left left_mid : Option (List ℕ)} {count : ℕ} {bytes : List ℕ} {ws : List (List Line)}
-    → AreRead mid left left_mid count bytes ws → AreAnswered Receives o nw names st ws posted names_mid out out_mid → HasBegun Receives Begins nw names st mid left left_mid out out_mid
-begun-so-far {mid = mid} {left_mid = left_mid} read so_far = begun-before read ([], gives_nothing mid left_mid) (λ is. refl) so_far
+pub begun-so-far : {K Failed : Type 0} {Receives Begins : K → K → Names → List Reply → Type 0} {o : Option TimetableState} {nw : Network} {names names_mid : Names} {st : State} {posted : List Message} {out out_mid : K} {mid : Reader} {left left_mid : Option (List ℕ)} {count : ℕ} {bytes : List ℕ} {ws : List (List Line)}
+    → ¬ Failed → AreRead mid left left_mid count bytes ws → AreAnswered Receives o nw names st ws posted names_mid out out_mid → HasBegun Failed Receives Begins nw names st mid left left_mid out out_mid
+begun-so-far {mid = mid} {left_mid = left_mid} no_fault read so_far = begun-before read ([], gives_nothing mid left_mid) (λ is. refl) so_far no_fault

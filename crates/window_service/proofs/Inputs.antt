@@ -1,7 +1,8 @@
 -- What is received of the whole input, by what running its windows leaves.
 use Rattle.window_service.proofs.Words.{◌≡◌, ◌⊎◌, ◌∙◌, ◌++◌, ℕ, List, [], Option, true, false, refl, ap, inl, inr, append_assoc, Network, State, LinesFault}
 use Rattle.window_service.proofs.Words.{IsNotOfInput, WhereLinesStop, IsTaken, Line, Reader, IsDone, Names, Reply, IsClosedWindow, AreFirstReceived, AreAllReceived, IsReceivedWhole, IsReceivedInPart, IsReceivedAtFirst, HasEnded, HasStopped, HasBegun}
-use Rattle.std.specs.Prelude.{Result, Ok, Err, IfErr}
+use Rattle.std.specs.Prelude.{Result, Ok, Err, IfErr, Some}
+use Rattle.mt_io.specs.Causes.{Faults}
 use Rattle.information_service.specs.Causes.{reads_failed}
 use Rattle.information_service.specs.declared.fault.LinesFault.TheVariants.{ReadFault, WriteFault, OutOfMemory, TooLong}
 use Rattle.information_service.specs.Fronts.{EndWasRead}
@@ -22,8 +23,8 @@ module _ {K : Type 0} {Receives : K → K → Names → List Reply → Type 0} {
   received-in-part h = record { bytes = h.bytes; took = h.read.source; whole = rw h.are h.output }
 
 -- the first of some lines are the first of more
-first-more : {K : Type 0} {Receives Begins : K → K → Names → List Reply → Type 0} {nw : Network} {names : Names} {st : State} {lines : List Line} {old new : K} (all more : List Line) → all ≡ lines ++ more
-    → AreFirstReceived Receives Begins nw names st lines old new → AreFirstReceived Receives Begins nw names st all old new
+first-more : {K Failed : Type 0} {Receives Begins : K → K → Names → List Reply → Type 0} {nw : Network} {names : Names} {st : State} {lines : List Line} {old new : K} (all more : List Line) → all ≡ lines ++ more
+    → AreFirstReceived Failed Receives Begins nw names st lines old new → AreFirstReceived Failed Receives Begins nw names st all old new
 first-more all more is f = record {
   windows = f.windows;
   window = f.window;
@@ -35,25 +36,25 @@ first-more all more is f = record {
   more = f.more;
 }
 
-module _ {K : Type 0} {Receives Begins : K → K → Names → List Reply → Type 0} {nw : Network} {names : Names} {st : State} {left left_now : Option (List ℕ)} {old new : K} where
-  first-by : {r : Reader} {taken : List ℕ} {lines : List Line} (budget : ℕ) → r.budget ≡ budget → IsTaken r left left_now taken lines → AreFirstReceived Receives Begins nw names st lines old new ⊎ (IsDone r × AreAllReceived Receives Begins nw names st lines old new)
-      → AreFirstReceived Receives Begins nw names st (lines_of false taken) old new
-      ⊎ (EndWasRead budget left_now taken × (AreFirstReceived Receives Begins nw names st (lines_of true taken) old new ⊎ AreAllReceived Receives Begins nw names st (lines_of true taken) old new))
+module _ {K Failed : Type 0} {Receives Begins : K → K → Names → List Reply → Type 0} {nw : Network} {names : Names} {st : State} {left left_now : Option (List ℕ)} {old new : K} where
+  first-by : {r : Reader} {taken : List ℕ} {lines : List Line} (budget : ℕ) → r.budget ≡ budget → IsTaken r left left_now taken lines → AreFirstReceived Failed Receives Begins nw names st lines old new ⊎ (IsDone r × AreAllReceived Receives Begins nw names st lines old new)
+      → AreFirstReceived Failed Receives Begins nw names st (lines_of false taken) old new
+      ⊎ (EndWasRead budget left_now taken × (AreFirstReceived Failed Receives Begins nw names st (lines_of true taken) old new ⊎ AreAllReceived Receives Begins nw names st (lines_of true taken) old new))
   first-by {r = r} {taken = taken} {lines = lines} budget is h (inl f) = elim (cases_Bool r.ended) [
     | inl was ↦ let more = first_lines r true taken lines (λ is. refl) h.lines_so_far in inr (end_was_read budget is h was, inl (first-more (lines_of true taken) more.0 more.1 f))
     | inr not_yet ↦ let more = first_lines r false taken lines (λ is. open_ended r.ended not_yet is) h.lines_so_far in inl (first-more (lines_of false taken) more.0 more.1 f)
   ]
   first-by {r = r} {taken = taken} {lines = lines} budget is h (inr all) = inr (end_was_read budget is h all.0.ended, inr (rw (ends taken lines r h.lines_so_far all.0) all.1))
 
-  pub received-at-first : {r : Reader} (budget : ℕ) → r.budget ≡ budget → HasBegun Receives Begins nw names st r left left_now old new → IsReceivedAtFirst Receives Begins nw names st budget left left_now old new
+  pub received-at-first : {r : Reader} (budget : ℕ) → r.budget ≡ budget → HasBegun Failed Receives Begins nw names st r left left_now old new → IsReceivedAtFirst Failed Receives Begins nw names st budget left left_now old new
   received-at-first budget is h = record { bytes = h.bytes; took = h.read.source; first = first-by budget is h.read h.output }
 
 -- an output that received nothing
-pub nothing-received : {K : Type 0} {Receives Begins : K → K → Names → List Reply → Type 0} {nw : Network} {names : Names} {st : State} {budget : ℕ} {left : Option (List ℕ)} {out : K} → IsReceivedAtFirst Receives Begins nw names st budget left left out out
-nothing-received {Receives = Receives} {nw = nw} {names = names} {st = st} {left = left} {out = out} = record {
+pub nothing-received : {K Failed : Type 0} {Receives Begins : K → K → Names → List Reply → Type 0} {nw : Network} {names : Names} {st : State} {budget : ℕ} {left : Option (List ℕ)} {out : K} → ¬ Failed → IsReceivedAtFirst Failed Receives Begins nw names st budget left left out out
+nothing-received {Receives = Receives} {nw = nw} {names = names} {st = st} {left = left} {out = out} no_fault = record {
   bytes = [];
   took = consumes_none left;
-  first = inl (record { windows = []; window = []; later = lines_of false []; split = refl; closed = All-nil IsClosedWindow; mid = out; received = none-received Receives nw names st out; more = inl refl });
+  first = inl (record { windows = []; window = []; later = lines_of false []; split = refl; closed = All-nil IsClosedWindow; mid = out; received = none-received Receives nw names st out; more = inl (refl, no_fault) });
 }
 
 -- where no fault is of the input, the run did not stop at it
@@ -64,7 +65,7 @@ never-stops T OutOfMemory none = tt
 never-stops T TooLong none = absurd none
 
 -- and no read failed
-pub no-more-reads : {T : Type 0} (run : Result T LinesFault) (n : ℕ) → IfErr run IsNotOfInput → reads_failed run n ≡ n
+pub no-more-reads : {T : Type 0} (run : Result T LinesFault) (n : Faults) → IfErr run IsNotOfInput → reads_failed run n ≡ Some n
 no-more-reads (Ok value) n none = refl
 no-more-reads (Err ReadFault) n none = absurd none
 no-more-reads (Err WriteFault) n none = refl

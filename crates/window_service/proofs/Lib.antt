@@ -2,6 +2,7 @@ pub mod Words
 pub mod Answered
 pub mod Inputs
 pub mod Networks
+mod Numbers
 pub mod SameSums
 pub mod SumLemmas
 pub mod Written

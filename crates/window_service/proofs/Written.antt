@@ -2,10 +2,13 @@
 use Rattle.window_service.proofs.Words.{◌≡◌, ◌⊎◌, ◌∙◌, ◌∷◌, ◌++◌, ℕ, List, [], All, Option, refl, sym, subst, arith, inl, inr, append_assoc, append-nil, Appends-trans, Appends-nil, Appends, Network, State, lines_of}
 use Rattle.window_service.proofs.Words.{AppendsAll, AppendsFront, front_all, front_after, Line, Names, Reply, names_after, text_of_replies, AreServed, IsServed, IsClosedWindow, IsOpenWindow}
 use Rattle.window_service.proofs.Words.{AreWholeWindowsServed, AppendsServed, AppendsWholeWindows, AppendsFirstWindows, AppendsServedFront, ReceivesTexts, BeginsTexts, AreReceivedFrom, AreReceived, AreWholeReceived, IsOneReceived, AreFirstReceived, AreAllReceived}
-use Rattle.std.specs.Prelude.{Result, Ok, Err, OnOk, IfErr, Some, true, false}
+use Rattle.std.specs.Prelude.{Result, Ok, Err, OnOk, IfErr, IsErrOf, Some, true, false}
+use Rattle.information_service.specs.declared.fault.LinesFault.{LinesFault}
+use Rattle.information_service.specs.declared.fault.LinesFault.TheVariants.{WriteFault}
 use Rattle.std.proofs.lemmas.List.Elements.{All-nil}
 use Rattle.information_service.specs.Fronts.{AppendsWholeFront, EndWasRead}
-use Rattle.information_service.proofs.Ends.{all_taken}
+use Rattle.information_service.proofs.Ends.{all_taken, ok_not_err, same_err}
+use Rattle.information_service.proofs.Fronts.{taken_if}
 use Rattle.mt_io.specs.Lines.{lines_of as lines_in}
 use Rattle.window_service.specs.Received.{IsReceivedAtFirst, IsReceivedWhole}
 use Rattle.query_crew.specs.Served.{text_from}
@@ -54,9 +57,9 @@ module _ {K : Type 0} (written : K → Option (List ℕ)) (nw : Network) (names 
       let so_far = texts-served a.windows old new a.received in
       record { shown = so_far.shown; is = record { windows = a.windows; last = a.last; are_read = a.are_read; joined = a.joined; served = so_far.is }; written = so_far.written }
 
-  first-by : (lines : List Line) (old new : K) (a : AreFirstReceived (ReceivesTexts written) (BeginsTexts written) nw names st lines old new) → (new ≡ a.mid) ⊎ (IsClosedWindow a.window × IsOneReceived (BeginsTexts written) nw names st (lines_of a.windows) a.window a.mid new)
-      → AppendsFirstWindows nw names st lines (written old) (written new)
-  first-by lines old new a (inl none) =
+  first-by : {Failed : Type 0} (lines : List Line) (old new : K) (a : AreFirstReceived Failed (ReceivesTexts written) (BeginsTexts written Failed) nw names st lines old new) → ((new ≡ a.mid) × ¬ Failed) ⊎ (IsClosedWindow a.window × IsOneReceived (BeginsTexts written Failed) nw names st (lines_of a.windows) a.window a.mid new)
+      → AppendsFirstWindows Failed nw names st lines (written old) (written new)
+  first-by {Failed = Failed} lines old new a (inl none) =
       let so_far = texts-served a.windows old a.mid a.received in
       record {
         first = lines_of a.windows;
@@ -64,7 +67,7 @@ module _ {K : Type 0} (written : K → Option (List ℕ)) (nw : Network) (names 
         shown = so_far.shown;
         split = sym (append_assoc (lines_of a.windows) a.window a.later) ∙ sym a.split;
         is = whole-served a.closed so_far.is;
-        front = subst (λ (x : K). AppendsFront (written old) (written x) so_far.shown) (sym none) (front_all (written old) (written a.mid) so_far.shown so_far.written);
+        front = subst (λ (x : K). AppendsFront Failed (written old) (written x) so_far.shown) (sym none.0) (front_all none.1 (written old) (written a.mid) so_far.shown so_far.written);
       }
   first-by lines old new a (inr more) =
       let so_far = texts-served a.windows old a.mid a.received in
@@ -79,11 +82,11 @@ module _ {K : Type 0} (written : K → Option (List ℕ)) (nw : Network) (names 
         front = front_after (written old) (written a.mid) (written new) so_far.shown text so_far.written more.1.received;
       }
 
-  first-written : (lines : List Line) (old new : K) → AreFirstReceived (ReceivesTexts written) (BeginsTexts written) nw names st lines old new → AppendsFirstWindows nw names st lines (written old) (written new)
+  first-written : {Failed : Type 0} (lines : List Line) (old new : K) → AreFirstReceived Failed (ReceivesTexts written) (BeginsTexts written Failed) nw names st lines old new → AppendsFirstWindows Failed nw names st lines (written old) (written new)
   first-written lines old new a = first-by lines old new a a.more
 
   -- a front of the replies to all lines of the input
-  last-written : (lines : List Line) (old new : K) → AreAllReceived (ReceivesTexts written) (BeginsTexts written) nw names st lines old new → (all : List ℕ) × IsServed nw names st lines all × AppendsFront (written old) (written new) all
+  last-written : {Failed : Type 0} (lines : List Line) (old new : K) → AreAllReceived (ReceivesTexts written) (BeginsTexts written Failed) nw names st lines old new → (all : List ℕ) × IsServed nw names st lines all × AppendsFront Failed (written old) (written new) all
   last-written lines old new a =
       let so_far = texts-served a.windows old a.mid a.received in
       let text = text_of_replies (names_after nw names st (lines_of a.windows ++ a.last)) a.ends.replies in (
@@ -93,12 +96,12 @@ module _ {K : Type 0} (written : K → Option (List ℕ)) (nw : Network) (names 
       )
 
   -- of the bytes that were taken, where the run stops and where it ends
-  pub front-written : {budget : ℕ} {left left_now : Option (List ℕ)} (old new : K) → IsReceivedAtFirst (ReceivesTexts written) (BeginsTexts written) nw names st budget left left_now old new
-      → AppendsServedFront nw names st budget left left_now (written old) (written new)
-  front-written {budget = budget} {left_now = left_now} old new h = record { bytes = h.bytes; took = h.took; front = by h.first } where
-    by : AreFirstReceived (ReceivesTexts written) (BeginsTexts written) nw names st (lines_in false h.bytes) old new
-        ⊎ (EndWasRead budget left_now h.bytes × (AreFirstReceived (ReceivesTexts written) (BeginsTexts written) nw names st (lines_in true h.bytes) old new ⊎ AreAllReceived (ReceivesTexts written) (BeginsTexts written) nw names st (lines_in true h.bytes) old new))
-        → AppendsFirstWindows nw names st (lines_in false h.bytes) (written old) (written new) ⊎ (EndWasRead budget left_now h.bytes × AppendsWholeFront (IsServed nw names st) (AreWholeWindowsServed nw names st) (lines_in true h.bytes) (written old) (written new))
+  pub front-written : {Failed : Type 0} {budget : ℕ} {left left_now : Option (List ℕ)} (old new : K) → IsReceivedAtFirst Failed (ReceivesTexts written) (BeginsTexts written Failed) nw names st budget left left_now old new
+      → AppendsServedFront Failed nw names st budget left left_now (written old) (written new)
+  front-written {Failed = Failed} {budget = budget} {left_now = left_now} old new h = record { bytes = h.bytes; took = h.took; front = by h.first } where
+    by : AreFirstReceived Failed (ReceivesTexts written) (BeginsTexts written Failed) nw names st (lines_in false h.bytes) old new
+        ⊎ (EndWasRead budget left_now h.bytes × (AreFirstReceived Failed (ReceivesTexts written) (BeginsTexts written Failed) nw names st (lines_in true h.bytes) old new ⊎ AreAllReceived (ReceivesTexts written) (BeginsTexts written Failed) nw names st (lines_in true h.bytes) old new))
+        → AppendsFirstWindows Failed nw names st (lines_in false h.bytes) (written old) (written new) ⊎ (EndWasRead budget left_now h.bytes × AppendsWholeFront Failed (IsServed nw names st) (AreWholeWindowsServed nw names st) (lines_in true h.bytes) (written old) (written new))
     by (inl first) = inl (first-written (lines_in false h.bytes) old new first)
     by (inr (end, inl first)) = inr (end, inl (first-written (lines_in true h.bytes) old new first))
     by (inr (end, inr all)) = inr (end, inr (last-written (lines_in true h.bytes) old new all))
@@ -108,12 +111,12 @@ module _ {K : Type 0} (written : K → Option (List ℕ)) (nw : Network) (names 
   whole-told {left = left} {left_now = left_now} old new h bytes told =
       subst (λ (bs : List ℕ). AppendsServed nw names st (lines_in true bs) (written old) (written new)) (all_taken left left_now bytes h.bytes h.took h.ended.left told) (all-written (lines_in true h.bytes) old new h.all)
 
-  pub whole-front : {budget : ℕ} {left left_now : Option (List ℕ)} (old new : K) → IsReceivedWhole (ReceivesTexts written) nw names st budget left left_now old new → AppendsServedFront nw names st budget left left_now (written old) (written new)
-  whole-front old new h =
+  pub whole-front : {Failed : Type 0} {budget : ℕ} {left left_now : Option (List ℕ)} (old new : K) → ¬ Failed → IsReceivedWhole (ReceivesTexts written) nw names st budget left left_now old new → AppendsServedFront Failed nw names st budget left left_now (written old) (written new)
+  whole-front old new no_fault h =
       let all = all-written (lines_in true h.bytes) old new h.all in
-      record { bytes = h.bytes; took = h.took; front = inr (h.ended, inr (all.shown, all.is, front_all (written old) (written new) all.shown all.written)) }
+      record { bytes = h.bytes; took = h.took; front = inr (h.ended, inr (all.shown, all.is, front_all no_fault (written old) (written new) all.shown all.written)) }
 
-  pub either-front : {E : Type 0} {budget : ℕ} {left left_now : Option (List ℕ)} (run : Result (Unit {0}) E) (old new : K) → OnOk run (IsReceivedWhole (ReceivesTexts written) nw names st budget left left_now old new)
-      → IfErr run (λ f. IsReceivedAtFirst (ReceivesTexts written) (BeginsTexts written) nw names st budget left left_now old new) → AppendsServedFront nw names st budget left left_now (written old) (written new)
-  either-front (Ok u) old new whole first = whole-front old new whole
-  either-front (Err f) old new whole first = front-written old new first
+  pub either-front : {budget : ℕ} {left left_now : Option (List ℕ)} (run : Result (Unit {0}) LinesFault) (old new : K) → OnOk run (IsReceivedWhole (ReceivesTexts written) nw names st budget left left_now old new)
+      → IfErr run (λ f. IsReceivedAtFirst (f ≡ WriteFault) (ReceivesTexts written) (BeginsTexts written (f ≡ WriteFault)) nw names st budget left left_now old new) → AppendsServedFront (IsErrOf run WriteFault) nw names st budget left left_now (written old) (written new)
+  either-front (Ok u) old new whole first = whole-front old new (ok_not_err (Ok u) u WriteFault refl) whole
+  either-front (Err f) old new whole first = taken_if (same_err (Err f) f WriteFault refl) (front-written old new first)

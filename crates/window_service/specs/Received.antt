@@ -8,6 +8,7 @@ use Rattle.delay_model.specs.Windows.{lines_of}
 use Rattle.delay_report.specs.declared.replies.Reply.{Reply}
 use Rattle.information_service.specs.Fronts.{AppendsFront, EndWasRead}
 use Rattle.information_service.specs.Lines.{names_after}
+use Rattle.mt_io.specs.Causes.{Faults, no_faults}
 use Rattle.mt_io.specs.Lines.{Line, lines_of as lines_in}
 use Rattle.query_crew.specs.Served.{AreRepliesFrom, AreWindowReplies, text_of_replies}
 use Rattle.query_crew.specs.Windows.{AreReadWindows, IsClosedWindow}
@@ -17,7 +18,7 @@ use Rattle.schedule_build.specs.Directory.{Names}
 
 -- ---- outputs. `Receives` says that an output was as the first, received the replies to a window
 -- by these names, and is then as the second; `Begins` says the same where it received a part of
--- them
+-- them. `Failed` says that a write of it has failed
 
 -- the texts of the replies are written, by what is written to an output so far
 abbrev pub ReceivesTexts : {K : Type 0} → (K → Option (List ℕ)) → K → K → Names → List Reply
@@ -25,21 +26,25 @@ abbrev pub ReceivesTexts : {K : Type 0} → (K → Option (List ℕ)) → K → 
 ReceivesTexts written old new names replies =
     Appends (written old) (written new) (text_of_replies names replies)
 
--- a front of them is written
-abbrev pub BeginsTexts : {K : Type 0} → (K → Option (List ℕ)) → K → K → Names → List Reply → Type 0
-BeginsTexts written old new names replies =
-    AppendsFront (written old) (written new) (text_of_replies names replies)
+-- a front of them is written, and not all where a write has failed
+abbrev pub BeginsTexts : {K : Type 0} → (K → Option (List ℕ)) → Type 0 → K → K → Names → List Reply
+    → Type 0
+BeginsTexts written Failed old new names replies =
+    AppendsFront Failed (written old) (written new) (text_of_replies names replies)
 
 -- the replies are added up
 abbrev pub ReceivesSums : ReplySums → ReplySums → Names → List Reply → Type 0
 ReceivesSums old new names replies = new ≡ sums_after old replies
 
 -- that does not fail
-abbrev pub BeginsSums : ReplySums → ReplySums → Names → List Reply → Type 0
-BeginsSums old new names replies = ⊥
+abbrev pub BeginsSums : Type 0 → ReplySums → ReplySums → Names → List Reply → Type 0
+BeginsSums Failed old new names replies = ⊥
 
-abbrev pub never_fails : ReplySums → ℕ
-never_fails sums = 0
+abbrev pub sums_faults : ReplySums → Faults
+sums_faults sums = no_faults
+
+abbrev pub AreSumsFull : ReplySums → Type 0
+AreSumsFull sums = ⊥
 
 -- ---- windows
 
@@ -79,9 +84,10 @@ pub record IsOneReceived {K : Type 0} (Receives : K → K → Names → List Rep
   pub received : Receives old new (names_after nw names st (before ++ window)) replies
 
 -- the replies to the first windows of these lines were received, and perhaps a part of those to one
--- window more
-pub record AreFirstReceived {K : Type 0} (Receives Begins : K → K → Names → List Reply → Type 0)
-    (nw : Network) (names : Names) (st : State) (lines : List Line) (old new : K) : Type 0 where
+-- window more; where a write has `Failed`, surely a part
+pub record AreFirstReceived {K : Type 0} (Failed : Type 0)
+    (Receives Begins : K → K → Names → List Reply → Type 0) (nw : Network) (names : Names)
+    (st : State) (lines : List Line) (old new : K) : Type 0 where
   pub windows : List (List Line)
   pub window : List Line
   pub later : List Line
@@ -89,7 +95,7 @@ pub record AreFirstReceived {K : Type 0} (Receives Begins : K → K → Names �
   pub closed : All IsClosedWindow windows
   pub mid : K
   pub received : AreReceived Receives nw names st windows old mid
-  pub more : (new ≡ mid) ⊎ (IsClosedWindow window
+  pub more : ((new ≡ mid) × ¬ Failed) ⊎ (IsClosedWindow window
       × IsOneReceived Begins nw names st (lines_of windows) window mid new)
 
 -- these lines are all of an input, and the replies to all windows were received. `Ends` says how
@@ -124,13 +130,14 @@ pub record IsReceivedInPart {K : Type 0} (Receives : K → K → Names → List 
   pub whole : AreWholeReceived Receives nw names st (lines_in false bytes) old new
 
 -- the replies to the first windows of the bytes taken from the input were received, and perhaps a
--- part of those to one window more; where the end of the input was read, that may be the last one
-pub record IsReceivedAtFirst {K : Type 0} (Receives Begins : K → K → Names → List Reply → Type 0)
-    (nw : Network) (names : Names) (st : State) (budget : ℕ) (left left_now : Option (List ℕ))
-    (old new : K) : Type 0 where
+-- part of those to one window more, surely where a write has `Failed`; where the end of the input
+-- was read, that may be the last one
+pub record IsReceivedAtFirst {K : Type 0} (Failed : Type 0)
+    (Receives Begins : K → K → Names → List Reply → Type 0) (nw : Network) (names : Names)
+    (st : State) (budget : ℕ) (left left_now : Option (List ℕ)) (old new : K) : Type 0 where
   pub bytes : List ℕ
   pub took : Consumes left left_now bytes
-  pub first : AreFirstReceived Receives Begins nw names st (lines_in false bytes) old new
+  pub first : AreFirstReceived Failed Receives Begins nw names st (lines_in false bytes) old new
       ⊎ (EndWasRead budget left_now bytes
-      × (AreFirstReceived Receives Begins nw names st (lines_in true bytes) old new
+      × (AreFirstReceived Failed Receives Begins nw names st (lines_in true bytes) old new
       ⊎ AreAllReceived Receives Begins nw names st (lines_in true bytes) old new))

@@ -24,11 +24,11 @@ pub record IsAnswered {K : Type 0} (Receives : K → K → Names → List Reply 
   pub one : IsOneReceived Receives nw names st before window old new
 
 -- a part of the replies of a window that stands behind the lines `before` is received, or the
--- output is as it was
-abbrev pub IsBegun : {K : Type 0} → (K → K → Names → List Reply → Type 0) → Network → Names → State
-    → List Line → List Line → K → K → Type 0
-IsBegun Begins nw names st before window old new =
-    (new ≡ old) ⊎ IsOneReceived Begins nw names st before window old new
+-- output is as it was, and no write of it has `Failed`
+abbrev pub IsBegun : {K : Type 0} → Type 0 → (K → K → Names → List Reply → Type 0) → Network
+    → Names → State → List Line → List Line → K → K → Type 0
+IsBegun Failed Begins nw names st before window old new =
+    ((new ≡ old) × ¬ Failed) ⊎ IsOneReceived Begins nw names st before window old new
 
 -- all lines of the input were read, and the replies to their windows were received
 pub record HasEnded {K : Type 0} (Receives : K → K → Names → List Reply → Type 0) (nw : Network)
@@ -52,11 +52,11 @@ pub record HasStopped {K : Type 0} (Receives : K → K → Names → List Reply 
   pub output : AreWholeReceived Receives nw names st lines old new
 
 -- lines were read from the input, and the replies to the first of their windows were received
-pub record HasBegun {K : Type 0} (Receives Begins : K → K → Names → List Reply → Type 0)
-    (nw : Network) (names : Names) (st : State) (r : Reader) (left left_now : Option (List ℕ))
-    (old new : K) : Type 0 where
+pub record HasBegun {K : Type 0} (Failed : Type 0)
+    (Receives Begins : K → K → Names → List Reply → Type 0) (nw : Network) (names : Names)
+    (st : State) (r : Reader) (left left_now : Option (List ℕ)) (old new : K) : Type 0 where
   pub bytes : List ℕ
   pub lines : List Line
   pub read : IsTaken r left left_now bytes lines
-  pub output : AreFirstReceived Receives Begins nw names st lines old new
+  pub output : AreFirstReceived Failed Receives Begins nw names st lines old new
       ⊎ (IsDone r × AreAllReceived Receives Begins nw names st lines old new)

@@ -31,13 +31,13 @@ abbrev pub AppendsWholeWindows : Network → Names → State → List Line → O
 AppendsWholeWindows nw names st lines = AppendsAll (AreWholeWindowsServed nw names st lines)
 
 -- a front was written of the replies to the whole windows of the first of these lines
-abbrev pub AppendsFirstWindows : Network → Names → State → List Line → Option (List ℕ)
+abbrev pub AppendsFirstWindows : Type 0 → Network → Names → State → List Line → Option (List ℕ)
     → Option (List ℕ) → Type 0
-AppendsFirstWindows nw names st = AppendsFirst (AreWholeWindowsServed nw names st)
+AppendsFirstWindows Failed nw names st = AppendsFirst Failed (AreWholeWindowsServed nw names st)
 
 -- a front was written of the output for the bytes that were taken: of the replies to the whole
 -- windows of the first lines, or, at the end of the input, of all replies
-abbrev pub AppendsServedFront : Network → Names → State → ℕ → Option (List ℕ) → Option (List ℕ)
-    → Option (List ℕ) → Option (List ℕ) → Type 0
-AppendsServedFront nw names st =
-    AppendsTakenFront (IsServed nw names st) (AreWholeWindowsServed nw names st)
+abbrev pub AppendsServedFront : Type 0 → Network → Names → State → ℕ → Option (List ℕ)
+    → Option (List ℕ) → Option (List ℕ) → Option (List ℕ) → Type 0
+AppendsServedFront Failed nw names st =
+    AppendsTakenFront Failed (IsServed nw names st) (AreWholeWindowsServed nw names st)

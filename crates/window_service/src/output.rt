@@ -2,9 +2,9 @@
 
 ghost use Rattle.std.specs.Prelude.{◌≡◌, ◌≤◌, List, ℕ, Some, true, false, OnOk, IfErr, IsErrOf};
 ghost use Rattle.std.specs.Io.KnownBytes.{Consumes, IsAtEnd};
+ghost use Rattle.mt_io.specs.Causes.{IsFull};
 ghost use Rattle.mt_io.specs.Lines.{lines_of};
-ghost use Rattle.information_service.specs.Causes.{WhereLinesStop, TookAll, TookAtMost, TookFewer};
-ghost use Rattle.information_service.specs.Causes.{reads_failed, writes_failed};
+ghost use Rattle.information_service.specs.Causes.{HasCounts, WhereLinesStop};
 ghost use Rattle.schedule_build.specs.InStep.{AreInStep};
 ghost use Rattle.window_service.specs.Received.{IsReceivedWhole, IsReceivedInPart};
 ghost use Rattle.window_service.specs.Received.{IsReceivedAtFirst};
@@ -61,20 +61,14 @@ pub(crate) fn receive_windows<
         timetable.state budget (S.left input.old) (S.left input.new) out.old out.new) }
     ensures stopped { IfErr result (WhereLinesStop (IsReceivedInPart T.receives timetable.network
         directory timetable.state (S.left input.old) (S.left input.new) out.old out.new)) }
-    ensures begun { IfErr result (λ f. IsReceivedAtFirst T.receives T.begins timetable.network
-        directory timetable.state budget (S.left input.old) (S.left input.new) out.old out.new) }
+    ensures begun { IfErr result (λ f. IsReceivedAtFirst (f ≡ LinesFault.WriteFault) T.receives
+        (T.begins (f ≡ LinesFault.WriteFault)) timetable.network directory timetable.state budget
+        (S.left input.old) (S.left input.new) out.old out.new) }
 
-    // how many bytes are taken
-    ensures at_most { TookAtMost budget (S.left input.old) (S.left input.new) }
-    ensures fewer { OnOk result (TookFewer budget (S.left input.old) (S.left input.new)) }
-    ensures read_early { IsErrOf result LinesFault.ReadFault
-        → TookFewer budget (S.left input.old) (S.left input.new) }
-
-    // how many reads and writes failed, and when the input is too long
-    ensures reads { S.faults input.new ≡ reads_failed result (S.faults input.old) }
-    ensures writes { T.failed out.new ≡ writes_failed result (T.failed out.old) }
-    ensures too_long { IsErrOf result LinesFault.TooLong
-        → TookAll budget (S.left input.old) (S.left input.new) }
+    // the faults, and how many bytes are taken
+    ensures counts { HasCounts budget result (S.left input.old) (S.left input.new)
+        (S.faults input.old) (S.faults input.new) (T.faults out.old) (T.faults out.new)
+        (T.is_full out.new) }
 {
     let mut reader = LineReader::build(alloc, budget)?;
     let mut crew: Crew<Publisher<Timetable, H>, Viewer<Timetable, H>> = Crew::build(
@@ -99,9 +93,8 @@ pub(crate) fn receive_windows<
 /// takes longer. It fails with `ReadFault` where a read of the input failed, and with `TooLong`
 /// where `budget` bytes of it were taken and no end was read; then the windows that are whole among
 /// the bytes taken are answered, and no other line is. It fails with `WriteFault` where a write of
-/// the output failed, and with `OutOfMemory` where there was no memory, or where the number of
-/// lines comes near 2^64; then a front of an output is written. It takes no more than `budget`
-/// bytes.
+/// the output failed, and with `OutOfMemory` where there was no memory; then a front of an output
+/// is written. It takes no more than `budget` bytes.
 pub fn write_windows<
     H: Opening<Timetable> + Send + Sync,
     R: Threads + Wait + Sync,
@@ -141,20 +134,14 @@ pub fn write_windows<
         × Consumes (S.left input.old) (S.left input.new) bytes
         × AppendsWholeWindows timetable.network directory timetable.state
         (lines_of false bytes) (K.written out.old) (K.written out.new))) }
-    ensures front { AppendsServedFront timetable.network directory timetable.state budget
-        (S.left input.old) (S.left input.new) (K.written out.old) (K.written out.new) }
+    ensures front { AppendsServedFront (IsErrOf result LinesFault.WriteFault) timetable.network
+        directory timetable.state budget (S.left input.old) (S.left input.new)
+        (K.written out.old) (K.written out.new) }
 
-    // how many bytes are taken
-    ensures at_most { TookAtMost budget (S.left input.old) (S.left input.new) }
-    ensures fewer { OnOk result (TookFewer budget (S.left input.old) (S.left input.new)) }
-    ensures read_early { IsErrOf result LinesFault.ReadFault
-        → TookFewer budget (S.left input.old) (S.left input.new) }
-
-    // how many reads and writes failed, and when the input is too long
-    ensures reads { S.faults input.new ≡ reads_failed result (S.faults input.old) }
-    ensures writes { K.faults out.new ≡ writes_failed result (K.faults out.old) }
-    ensures too_long { IsErrOf result LinesFault.TooLong
-        → TookAll budget (S.left input.old) (S.left input.new) }
+    // the faults, and how many bytes are taken
+    ensures counts { HasCounts budget result (S.left input.old) (S.left input.new)
+        (S.faults input.old) (S.faults input.new) (K.faults out.old) (K.faults out.new)
+        (IsFull (K.faults out.new) (K.written out.new)) }
 {
     receive_windows::<H, WriteTexts, R, S, K, G>(
         rt, alloc, history, timetable, directory, trains, workers, input, out, gate, budget,

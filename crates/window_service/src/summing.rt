@@ -1,8 +1,9 @@
 //! The sums over the replies to all windows of the input.
 
-ghost use Rattle.std.specs.Prelude.{◌≡◌, ◌≤◌, List, ℕ, Some, true, IfOk, IsErrOf};
+ghost use Rattle.std.specs.Prelude.{◌≡◌, ◌≤◌, List, ℕ, Some, true, IfOk};
+ghost use Rattle.mt_io.specs.Causes.{no_faults};
 ghost use Rattle.mt_io.specs.Lines.{lines_of};
-ghost use Rattle.information_service.specs.Causes.{TookAll, reads_failed};
+ghost use Rattle.information_service.specs.Causes.{HasCounts};
 ghost use Rattle.schedule_build.specs.InStep.{AreInStep};
 ghost use Rattle.window_service.specs.Summed.{AreSummed};
 
@@ -24,13 +25,16 @@ use train_nodes::Msg;
 struct AddReplies;
 
 impl ReceiveReplies<ReplySums> for AddReplies {
-    ghost use Rattle.window_service.specs.Received.{ReceivesSums, BeginsSums, never_fails};
+    ghost use Rattle.window_service.specs.Received.{ReceivesSums, BeginsSums, AreSumsFull};
+    ghost use Rattle.window_service.specs.Received.{sums_faults};
 
     ghost receives = { ReceivesSums };
 
     ghost begins = { BeginsSums };
 
-    ghost failed = { never_fails };
+    ghost faults = { sums_faults };
+
+    ghost is_full = { AreSumsFull };
 
     fn receive(
         _alloc: Global,
@@ -46,7 +50,7 @@ impl ReceiveReplies<ReplySums> for AddReplies {
 /// Answers the windows of the input as `write_windows` does, and gives the sums over the replies in
 /// place of their texts. It fails with `ReadFault` where a read of the input failed, with `TooLong`
 /// where `budget` bytes of it were taken and no end was read, and with `OutOfMemory` where there
-/// was no memory, or where the number of lines comes near 2^64.
+/// was no memory.
 pub fn sum_windows<
     H: Opening<Timetable> + Send + Sync,
     R: Threads + Wait + Sync,
@@ -77,11 +81,9 @@ pub fn sum_windows<
     ensures ok { IfOk result (λ sums. (bytes : List ℕ) → S.left input.old ≡ Some bytes
         → AreSummed timetable.network directory timetable.state (lines_of true bytes) sums) }
 
-    // how many reads failed, when the input is too long, and that no write failed
-    ensures reads { S.faults input.new ≡ reads_failed result (S.faults input.old) }
-    ensures too_long { IsErrOf result LinesFault.TooLong
-        → TookAll budget (S.left input.old) (S.left input.new) }
-    ensures no_write { ¬ (IsErrOf result LinesFault.WriteFault) }
+    // the faults, of which no write has any, and how many bytes are taken
+    ensures counts { HasCounts budget result (S.left input.old) (S.left input.new)
+        (S.faults input.old) (S.faults input.new) no_faults no_faults ⊥ }
 {
     let mut sums = ReplySums::none();
     receive_windows::<H, AddReplies, R, S, ReplySums, G>(

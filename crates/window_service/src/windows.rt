@@ -1,6 +1,6 @@
 //! The windows of the input, each answered as a whole.
 
-ghost use Rattle.std.specs.Prelude.{◌≡◌, ◌+◌, ◌<◌, ◌^◌, [], List, Some, true, OnOk, IfErr};
+ghost use Rattle.std.specs.Prelude.{◌≡◌, ◌<◌, ◌^◌, [], List, Some, OnOk, IfErr};
 ghost use Rattle.std.specs.Prelude.{IsErrOf, length};
 ghost use Rattle.delay_model.specs.declared.network.Network.{Network};
 ghost use Rattle.delay_model.specs.declared.state.State.{State};
@@ -59,30 +59,24 @@ fn answer_window<
         (before window : List Line) → StandsAt H.opening crew.old.publisher crew.old.directory
         (service_after nw names st before)
         → first ≡ length before → lines.now ≡ window_lines crew.old.directory window
-        → IsBegun T.begins nw names st before window out.old out.new) }
+        → IsBegun (f ≡ LinesFault.WriteFault) (T.begins (f ≡ LinesFault.WriteFault)) nw names st
+        before window out.old out.new) }
     ensures ready { OnOk result (IsReady H.opening crew.new) }
 
     // no fault is of the input, and how many writes failed
     ensures fault { IfErr result IsNotOfInput }
-    ensures writes { T.failed out.new ≡ writes_failed result (T.failed out.old) }
+    ensures writes { Some (T.faults out.new) ≡ writes_failed result (T.faults out.old) }
+    ensures full { IsErrOf result LinesFault.WriteFault → T.is_full out.new }
 {
     let replies = crew.run_window(rt, alloc, lines, first, gate)?;
     T::receive(alloc, &crew.directory, replies.as_slice(), out)
-}
-
-/// Whether numbers of lines and of messages still fit after one more window.
-fn has_room(first: u64, posted: u64) -> bool
-    ensures { result ≡ true → (first + 256 < 2 ^ 64) × (posted + 256 < 2 ^ 64) }
-{
-    first.max(posted) < u64::MAX - 256
 }
 
 /// Answers each window of the input, until the input is at its end: for a new reader, and a crew to
 /// which no message was posted. It fails with `ReadFault` or `TooLong` where the reader does, when
 /// all whole windows before are answered; the window in which that came is not run. It fails with
 /// `WriteFault` where a write of the output failed, and with `OutOfMemory` where there was no
-/// memory, or where the number of lines comes near 2^64; then the last window may have no replies,
-/// or a part of them.
+/// memory; then the last window may have no replies, or a part of them.
 pub(crate) fn answer_windows<
     H: Opening<Timetable> + Send + Sync,
     T: ReceiveReplies<K>,
@@ -99,8 +93,9 @@ pub(crate) fn answer_windows<
     out: &mut K,
     gate: &G,
 ) -> Result<(), LinesFault>
-    // a new reader, and a crew to which nothing was posted
+    // a new reader, which counts bytes in 64 bits, and a crew to which nothing was posted
     requires reader { reader.old ≡ fresh reader.old.budget }
+    requires budget { reader.old.budget < 2 ^ 64 }
     requires ready { IsReady H.opening crew.old }
     requires new { crew.old.publisher ≡ [] }
 
@@ -112,12 +107,14 @@ pub(crate) fn answer_windows<
         → HasStopped T.receives t.network crew.old.directory t.state reader.new (S.left input.old)
         (S.left input.new) out.old out.new)) }
     ensures begun { IfErr result (λ f. (t : TimetableState) → H.opening ≡ Some t
-        → HasBegun T.receives T.begins t.network crew.old.directory t.state reader.new
-        (S.left input.old) (S.left input.new) out.old out.new) }
+        → HasBegun (f ≡ LinesFault.WriteFault) T.receives (T.begins (f ≡ LinesFault.WriteFault))
+        t.network crew.old.directory t.state reader.new (S.left input.old) (S.left input.new)
+        out.old out.new) }
 
     // how many reads and writes failed, and when the input is too long
-    ensures reads { S.faults input.new ≡ reads_failed result (S.faults input.old) }
-    ensures writes { T.failed out.new ≡ writes_failed result (T.failed out.old) }
+    ensures reads { Some (S.faults input.new) ≡ reads_failed result (S.faults input.old) }
+    ensures writes { Some (T.faults out.new) ≡ writes_failed result (T.faults out.old) }
+    ensures full { IsErrOf result LinesFault.WriteFault → T.is_full out.new }
     ensures too_long { IsErrOf result LinesFault.TooLong
         → TookAll reader.old.budget (S.left input.old) (S.left input.new) }
     ensures read_early { IsErrOf result LinesFault.ReadFault
@@ -128,7 +125,7 @@ pub(crate) fn answer_windows<
 {
     let mut window = Window::build(alloc)?;
     let mut first = 0;
-    'windows: while has_room(first, crew.publisher.count()) {
+    'windows: loop {
         let end = read_window(alloc, reader, input, &crew.directory, &mut window)?;
         match end {
             WindowEnd::More => {
@@ -150,5 +147,4 @@ pub(crate) fn answer_windows<
             WindowEnd::Budget => return Err(LinesFault::TooLong),
         }
     }
-    Err(LinesFault::OutOfMemory)
 }

@@ -1,9 +1,10 @@
 //! The replies to a window as texts, written at once.
 
-ghost use Rattle.std.specs.Prelude.{OnOk, IfErr, IfOk, ◌≡◌};
+ghost use Rattle.std.specs.Prelude.{◌≡◌, Some, OnOk, IfErr, IfOk, IsErrOf};
 ghost use Rattle.std.specs.Io.KnownBytes.{Appends};
 ghost use Rattle.information_service.specs.Causes.{IsNotOfInput, writes_failed};
 ghost use Rattle.information_service.specs.Fronts.{AppendsFront};
+ghost use Rattle.mt_io.specs.Causes.{IsFull};
 ghost use Rattle.query_crew.specs.Served.{text_of_replies};
 
 use crate::receiving::ReceiveReplies;
@@ -39,10 +40,12 @@ fn write_replies<K: Sink>(
 ) -> Result<(), LinesFault>
     ensures ok { OnOk result (Appends (K.written out.old) (K.written out.new)
         (text_of_replies directory.now replies.now)) }
-    ensures front { IfErr result (λ f. AppendsFront (K.written out.old) (K.written out.new)
-        (text_of_replies directory.now replies.now)) }
+    ensures front { IfErr result (λ f. AppendsFront (f ≡ LinesFault.WriteFault)
+        (K.written out.old) (K.written out.new) (text_of_replies directory.now replies.now)) }
     ensures fault { IfErr result IsNotOfInput }
-    ensures writes { K.faults out.new ≡ writes_failed result (K.faults out.old) }
+    ensures writes { Some (K.faults out.new) ≡ writes_failed result (K.faults out.old) }
+    ensures full { IsErrOf result LinesFault.WriteFault
+        → IsFull (K.faults out.new) (K.written out.new) }
 {
     let text = text_of_replies(alloc, directory, replies)?;
     put(out, text.as_slice())?;
@@ -53,13 +56,16 @@ fn write_replies<K: Sink>(
 pub(crate) struct WriteTexts;
 
 impl<K: Sink> ReceiveReplies<K> for WriteTexts {
+    ghost use Rattle.mt_io.specs.Causes.{IsFull};
     ghost use Rattle.window_service.specs.Received.{ReceivesTexts, BeginsTexts};
 
     ghost receives = { ReceivesTexts K.written };
 
     ghost begins = { BeginsTexts K.written };
 
-    ghost failed = { K.faults };
+    ghost faults = { K.faults };
+
+    ghost is_full = { λ out. IsFull (K.faults out) (K.written out) };
 
     fn receive(
         alloc: Global,

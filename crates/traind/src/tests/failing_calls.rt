@@ -4,10 +4,10 @@
 use crate::run::traind;
 use crate::status::Status;
 use crate::tests::{
-    ACCEPTED, CALENDAR, Ended, FORECAST, HEADER, NO_TRAIN, STOP_TIMES, STOPS, T1, T1_LATE, T2,
-    TRIPS, input, is_end, output, run, run_over, words,
+    ACCEPTED, Ended, FORECAST, HEADER, NO_TRAIN, STOP_TIMES, T1, T1_LATE, T2, failing_feed, feed,
+    input, is_end, is_next, output, run, run_over, words, words_of,
 };
-use mt_io::{LineReader, MemFeed, MemSink, MemSource, Next, NoGate};
+use mt_io::{MemSink, MemSource, NoGate};
 use std::alloc::Global;
 use std::test::*;
 
@@ -17,36 +17,13 @@ const UNKNOWN: &str = "{\"line\":2,\"refused\":\"Unknown\"}\n";
 /// How many bytes a read gives at most.
 const PIECE: usize = 7;
 
-/// The feed of the two trains, of which the call of this number fails.
-fn failing_feed(alloc: Global, number: u64) -> Result<MemFeed, Fail> {
-    let mut feed = MemFeed::build(alloc, vec![in alloc; number]?);
-    for (name, table) in [
-        ("stops.txt", STOPS),
-        ("trips.txt", TRIPS),
-        ("calendar.txt", CALENDAR),
-        ("stop_times.txt", STOP_TIMES),
-    ] {
-        feed.add("feed", name, Vec::from_slice(alloc, table.as_bytes())?)?;
-    }
-    Ok(feed)
-}
-
-/// Whether the forecast is the next line of the input.
-fn is_unread(alloc: Global, input: &mut MemSource) -> Result<bool, Fail> {
-    let mut reader = LineReader::build(alloc, 1_000)?;
-    match reader.next(input) {
-        Next::Line(left) => Ok(left == FORECAST.as_bytes()),
-        _ => Ok(false),
-    }
-}
-
 /// A table whose reading fails ends the run, before the input is read.
 #[test]
 fn each_table_that_fails(rt: HostRuntime) -> Result<(), Fail> {
     let alloc = rt.alloc();
     let words = words(alloc)?;
     for number in 0..100 {
-        let mut feed = failing_feed(alloc, number)?;
+        let mut feed = failing_feed(alloc, STOP_TIMES.as_bytes(), vec![in alloc; number]?)?;
         let mut input = input(alloc, FORECAST)?;
         let ended = run_over(&rt, alloc, &words, &mut feed, &mut input, output(alloc)?)?;
         if ended.status == Status::Ok {
@@ -57,7 +34,7 @@ fn each_table_that_fails(rt: HostRuntime) -> Result<(), Fail> {
             is_end(&ended, Status::ReadFault, "", "traind: read fault\n"),
             "table {number}"
         );
-        let is_unread = is_unread(alloc, &mut input)?;
+        let is_unread = is_next(alloc, &mut input, FORECAST)?;
         assert!(rt; is_unread, "table {number}");
     }
     assert!(rt; false, "a table failed each time");
@@ -110,10 +87,9 @@ fn each_read_that_fails(rt: HostRuntime) -> Result<(), Fail> {
 #[test]
 fn error_stream_that_fails(rt: HostRuntime) -> Result<(), Fail> {
     let alloc = rt.alloc();
-    let mut words = Vec::new(alloc);
-    words.push(String::from_str(alloc, "fly")?)?;
+    let words = words_of(alloc, "fly")?;
     for room in 0..40 {
-        let mut feed = failing_feed(alloc, 100)?;
+        let mut feed = feed(alloc, STOP_TIMES.as_bytes())?;
         let mut input = input(alloc, FORECAST)?;
         let mut out = output(alloc)?;
         let mut err = MemSink::build(alloc, room, Vec::new(alloc))?;

@@ -2,7 +2,7 @@
 
 use crate::run::traind_within;
 use crate::status::Status;
-use crate::tests::{Ended, STOP_TIMES, feed, input, is_end, output};
+use crate::tests::{Ended, STOP_TIMES, feed, input, is_end, output, words_of};
 use mt_io::{MemSink, NoGate};
 use std::alloc::Global;
 use std::sync::Wait;
@@ -19,12 +19,8 @@ pub(super) const USAGE: &str =
 
 /// The words `gen TRAINS --workers WORKERS`.
 fn words(alloc: Global, trains: &str, workers: &str) -> Result<Vec<String>, Fail> {
-    let mut words = Vec::new(alloc);
-    words.push(String::from_str(alloc, "gen")?)?;
-    words.push(String::from_str(alloc, trains)?)?;
-    words.push(String::from_str(alloc, "--workers")?)?;
-    words.push(String::from_str(alloc, workers)?)?;
-    Ok(words)
+    let text = format!(in alloc; "gen {trains} --workers {workers}")?;
+    words_of(alloc, text.as_str())
 }
 
 /// A run of `gen` with ample memory, beside a feed and an input that it does not ask for, with a

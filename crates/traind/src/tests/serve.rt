@@ -3,7 +3,7 @@
 use crate::run::traind_within;
 use crate::status::Status;
 use crate::tests::{
-    ACCEPTED, Ended, FORECAST, NO_TRAIN, QUERY, STOP_TIMES, feed, input, is_end, output,
+    ACCEPTED, Ended, FORECAST, NO_TRAIN, QUERY, STOP_TIMES, feed, input, is_end, output, words_of,
 };
 use mt_io::{MemSink, MemSource, NoGate};
 use std::alloc::Global;
@@ -19,11 +19,7 @@ const FLUSHED: &str = "{\"flush\":1,\"line\":2}\n";
 
 /// The words `serve feed --from 20260105 --workers 2`.
 fn words(alloc: Global) -> Result<Vec<String>, Fail> {
-    let mut words = Vec::new(alloc);
-    for word in ["serve", "feed", "--from", "20260105", "--workers", "2"] {
-        words.push(String::from_str(alloc, word)?)?;
-    }
-    Ok(words)
+    words_of(alloc, "serve feed --from 20260105 --workers 2")
 }
 
 /// A run of `serve` on this input and output with ample memory.

@@ -4,7 +4,7 @@
 
 use crate::run::traind_within;
 use crate::status::Status;
-use crate::tests::{STOP_TIMES, feed, input, output};
+use crate::tests::{STOP_TIMES, feed, input, output, words_of};
 use mt_io::{Gate, Hold, MemFeed, NoGate, Point, TurnGate};
 use std::alloc::Global;
 use std::sync::Wait;
@@ -77,20 +77,8 @@ fn gate_of(alloc: Global, first: (Point, Point), second: (Point, Point)) -> Resu
 
 /// The words of `serve` with so many workers, without slack.
 pub(super) fn words_of_serve(alloc: Global, workers: &str) -> Result<Vec<String>, Fail> {
-    let mut all = Vec::new(alloc);
-    for word in [
-        "serve",
-        "feed",
-        "--from",
-        "20260105",
-        "--slack",
-        "0",
-        "--workers",
-        workers,
-    ] {
-        all.push(String::from_str(alloc, word)?)?;
-    }
-    Ok(all)
+    let text = format!(in alloc; "serve feed --from 20260105 --slack 0 --workers {workers}")?;
+    words_of(alloc, text.as_str())
 }
 
 /// The feed with a waiting rule.

@@ -8,10 +8,10 @@ use crate::tests::serve::FLUSH;
 use crate::tests::threads::{HELD, held, journey};
 use crate::tests::worked_rows::{
     CALLS, DAYS, EXTRA, PLACES, TABLES, TIMES, TRAINS, Table, WAITS, feed_of, run_row, run_words,
-    text_of, words_of,
+    text_of,
 };
-use crate::tests::{Ended, QUERY, input, is_end, output};
-use mt_io::{LineReader, MemSink, MemSource, Next, NoGate};
+use crate::tests::{Ended, QUERY, input, is_end, is_next, output, words_of};
+use mt_io::{MemSink, MemSource, NoGate};
 use std::alloc::Global;
 use std::test::*;
 
@@ -324,15 +324,6 @@ const REFUSALS: [Refusal; 7] = [
         line: USAGE,
     },
 ];
-
-/// Whether this is the next line of the input.
-fn is_next(alloc: Global, input: &mut MemSource, line: &str) -> Result<bool, Fail> {
-    let mut reader = LineReader::build(alloc, 1_000)?;
-    match reader.next(input) {
-        Next::Line(left) => Ok(left == line.as_bytes()),
-        _ => Ok(false),
-    }
-}
 
 /// Each run is made by itself, and nothing is written to the error stream.
 #[test]

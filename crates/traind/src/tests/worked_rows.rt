@@ -6,7 +6,7 @@ use crate::status::Status;
 use crate::tests::threads::{HELD, RULES};
 use crate::tests::{
     CALENDAR, EARLIER, Ended, FORECAST, HEADER, KEEP, MISSED, QUERY, STOP_TIMES, STOPS, TRIPS,
-    input, is_end, output,
+    input, is_end, output, words_of,
 };
 use mt_io::{MemFeed, MemSink, MemSource, NoGate};
 use std::alloc::Global;
@@ -346,15 +346,6 @@ fn table_of(alloc: Global, times: &str) -> Result<String, Fail> {
         table.push('\n')?;
     }
     Ok(table)
-}
-
-/// The words that blanks part in this text.
-pub(super) fn words_of(alloc: Global, text: &str) -> Result<Vec<String>, Fail> {
-    let mut words = Vec::new(alloc);
-    for word in text.split_whitespace() {
-        words.push(String::from_str(alloc, word)?)?;
-    }
-    Ok(words)
 }
 
 /// A feed of these tables, which never fails.

@@ -1,4 +1,4 @@
-use Rattle.edge_rules.proofs.Words.{All-filter, HasEvent, flat_map, sym, ◌∙◌, ap, of_entry, planned_with}
+use Rattle.edge_rules.proofs.Words.{All-filter, HasLiveEvent, flat_map, sym, ◌∙◌, ap, of_entry, planned_with}
 use Rattle.edge_rules.proofs.NoneFound.{entries-none_near, planned-unwaited}
 use Rattle.edge_rules.proofs.transfers.entries_near.Goals as goal
 
@@ -15,4 +15,4 @@ returns-then-not-may_wait_at-clause-edges c =
     sym (planned-unwaited c.args.graph.now c.args.index.now.entries c.args.wanted.now c.args.at.now c.args.change.now c.requires (sym c.are_into-into.ensures ∙ c.if-not-into.true) (c.may_wait_at.ensures c.if-not-may_wait_at.true))
 
 pub returns-clause-there : goal.returns-clause-there
-returns-clause-there c = rw c.range.ensures (All-filter _ (HasEvent c.args.graph.now.state) c.args.index.now.entries c.requires)
+returns-clause-there c = rw c.range.ensures (All-filter _ (HasLiveEvent c.args.graph.now.state) c.args.index.now.entries c.requires)

@@ -1,4 +1,4 @@
-use Rattle.gtfs_tables.proofs.Words.{refl}
+use Rattle.gtfs_tables.proofs.Words.{arith, refl}
 use Rattle.gtfs_tables.proofs.LawTables.{tables-lawful}
 use Rattle.gtfs_tables.proofs.feeds.read_tables.Goals as goal
 
@@ -6,8 +6,18 @@ pub build-requires-3 : goal.build-requires-3
 build-requires-3 g c =
     let calendar = rw c.into_parts-trips.ensures.services at c.in_ok-calendar.ensures.some.1 in
     let rules = rw c.into_parts-trips.ensures.routes at c.in_ok-rules.ensures.some.1 in
-    let few = rw (c.into_rows.ensures, c.build.ensures, c.into_names.ensures, c.build-2.ensures, c.into_names-2.ensures, c.into_parts-trips.ensures.trips) at (c.has_few_rows.ensures c.if-not-has_few_rows.false) in
+    let few_trips = c.in_ok-trips.ensures.size in
+    let few_weekly = rw c.into_parts-trips.ensures.services at c.in_ok-calendar.ensures.size in
+    let few_dates = c.in_ok-dates.ensures.size in
+    let few_rules = rw c.into_parts-trips.ensures.routes at c.in_ok-rules.ensures.size in
     record {
       lawful = rw (c.into_rows.ensures, c.build.ensures, c.into_names.ensures, c.build-2.ensures, c.into_names-2.ensures, c.into_parts-trips.ensures.trips)
-          (tables-lawful _ _ _ _ _ _ _ _ _ _ _ _ _ _ c.in_ok-stops.ensures.some.1 c.in_ok-trips.ensures.some.1 c.in_ok-calls.ensures.some.1 calendar c.in_ok-dates.ensures.some.1 c.in_ok-transfers.ensures.some.1 rules _ refl few);
+          (tables-lawful _ _ _ _ _ _ _ _ _ _ _ _ _ _ c.in_ok-stops.ensures.some.1 c.in_ok-trips.ensures.some.1 c.in_ok-calls.ensures.some.1 calendar c.in_ok-dates.ensures.some.1 c.in_ok-transfers.ensures.some.1 rules _ refl (record {
+            routes = omega (arith, few_trips, few_rules);
+            services = omega (arith, few_trips, few_weekly, few_dates);
+            trips = omega (arith, few_trips);
+            calls = omega (arith, c.in_ok-calls.ensures.size);
+            calendar = omega (arith, few_trips, few_weekly);
+            dates = omega (arith, few_trips, few_weekly, few_dates);
+          }));
     }

@@ -4,10 +4,10 @@ use Rattle.gtfs_tables.proofs.feeds.read_trips_in.Goals as goal
 
 pub returns-clause-made : goal.returns-clause-made
 unfolding trips_in
-returns-clause-made g c = grind (arith, c.read_trips.ensures (records_of c.in-Some.text.items) (all_records _ _ c.deref.ensures.value))
+returns-clause-made g c = grind (arith, c.read_trips.ensures.trips (records_of c.in-Some.text.items) (all_records _ _ c.deref.ensures.value))
 
 pub returns-clause-some : goal.returns-clause-some
 unfolding trips_in
 returns-clause-some g c =
     IfOk-weaker c.with_table.result _ _ (λ x h. ((λ t. holds (records_of c.in-Some.text.items)), h))
-    (grind (arith, c.read_trips.ensures (records_of c.in-Some.text.items) (all_records _ _ c.deref.ensures.value)))
+    (grind (arith, c.read_trips.ensures.trips (records_of c.in-Some.text.items) (all_records _ _ c.deref.ensures.value)))

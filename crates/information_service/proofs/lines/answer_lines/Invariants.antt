@@ -1,12 +1,16 @@
-use Rattle.information_service.proofs.Words.{◌≡◌, ◌<◌, ◌+◌, List, ℕ, length, Line, AreAnswered}
+use Rattle.information_service.proofs.Words.{◌≡◌, ◌≤◌, List, ℕ, length, Line, AreAnswered}
+use Rattle.mt_io.specs.Reader.{work}
 use Rattle.information_service.proofs.lines.answer_lines.Given as goal
 
-abbrev pub invariant-loop-number : goal.invariant-loop-number
-invariant-loop-number g l = record {
+abbrev pub invariant-lines : goal.invariant-lines
+invariant-lines g l = record {
   answered : (bytes : List ℕ) × (lines : List Line) × AreAnswered l.initial.service l.service l.reader (g.S.Source.left l.initial.input) (g.S.Source.left l.input) (g.K.Sink.written l.initial.out) (g.K.Sink.written l.out) bytes lines
-      × (l.number ≡ length lines + 1);
-  count : l.service.count < l.number;
+      × (l.before ≡ length lines);
+  count : l.service.count ≤ l.before;
   budget : l.reader.budget ≡ l.initial.reader.budget;
   read : g.S.Source.faults l.input ≡ g.S.Source.faults l.initial.input;
   write : g.K.Sink.faults l.out ≡ g.K.Sink.faults l.initial.out;
 }
+
+abbrev pub decreases-lines : goal.decreases-lines
+decreases-lines g l = work l.reader

@@ -1,7 +1,8 @@
 use Rattle.information_service.proofs.Words.{consumes_none, ℕ, List, [], ◌++◌, false, subst, sym, refl, inl, inr, Appends-trans, Consumes, table, Line, lines_of, WhereLinesStop, AppendsReplies, ServiceState}
 use Rattle.std.proofs.lemmas.Result.{on_ok_weaker}
-use Rattle.information_service.proofs.Fronts.{end_was_read, front_none, front_after, front_of_result, output_front}
-use Rattle.information_service.proofs.Ends.{at_most_taken, fewer_taken, none_taken, whole_of_taken, whole_output, handed_on, where_also}
+use Rattle.information_service.proofs.Fronts.{end_was_read, front_none, front_after, front_of_result, output_front, taken_if}
+use Rattle.information_service.proofs.Ends.{whole_of_taken, whole_output, handed_on, where_also, memory_not_write, not_write_if, same_fault}
+use Rattle.information_service.specs.declared.fault.LinesFault.TheVariants.{OutOfMemory}
 use Rattle.information_service.proofs.output.write_output.Goals as goal
 
 pub returns-clause-ok : goal.returns-clause-ok
@@ -35,16 +36,11 @@ returns-in_err-answer_lines-clause-stopped g c =
 
 pub returns-in_err-reader-clause-front : goal.returns-in_err-reader-clause-front
 returns-in_err-reader-clause-front g c =
-    record { bytes = []; took = consumes_none (g.S.Source.left c.args.input.now); front = inl (record { first = []; later = lines_of false []; shown = []; split = refl; is = refl; front = front_none (g.K.Sink.written c.args.out.now) [] }) }
-
-pub returns-in_err-reader-clause-at_most : goal.returns-in_err-reader-clause-at_most
-returns-in_err-reader-clause-at_most g c = none_taken c.args.budget (g.S.Source.left c.args.input.now)
+    record { bytes = []; took = consumes_none (g.S.Source.left c.args.input.now); front = inl (record { first = []; later = lines_of false []; shown = []; split = refl; is = refl; front = front_none (λ is. not_write_if c.from_residual.result OutOfMemory memory_not_write c.from_residual.ensures.1 is) (g.K.Sink.written c.args.out.now) [] }) }
 
 pub returns-in_err-answer_lines-clause-front : goal.returns-in_err-answer_lines-clause-front
-returns-in_err-answer_lines-clause-front g c = output_front c.args.budget (rw c.in_ok-reader.ensures at c.answer_lines.ensures.budget) c.in_err-answer_lines.ensures.begun.2
-
-pub returns-in_err-answer_lines-clause-at_most : goal.returns-in_err-answer_lines-clause-at_most
-returns-in_err-answer_lines-clause-at_most g c = at_most_taken c.args.budget (rw c.in_ok-reader.ensures at c.answer_lines.ensures.budget) c.in_err-answer_lines.ensures.begun.2.taken
+returns-in_err-answer_lines-clause-front g c =
+    taken_if (same_fault c.from_residual-in_err-answer_lines.result c.in_err-answer_lines.field-0.0 c.from_residual-in_err-answer_lines.ensures.1) (output_front c.args.budget (rw c.in_ok-reader.ensures at c.answer_lines.ensures.budget) c.in_err-answer_lines.ensures.begun.2)
 
 pub returns-clause-front : goal.returns-clause-front
 returns-clause-front g c =
@@ -60,11 +56,3 @@ returns-clause-front g c =
       took = all.3.taken.source;
       front = inr (end_was_read c.args.budget (rw c.in_ok-reader.ensures at c.answer_lines.ensures.budget) all.3.taken all.2.ended, inr (shown ++ rows, whole_of_taken all.2 all.3, front_after w0 w1 w2 shown rows all.3.output.written (front_of_result c.write_table.result w1 w2 rows c.write_table.ensures.ok c.write_table.ensures.front)));
     }
-
-pub returns-clause-at_most : goal.returns-clause-at_most
-returns-clause-at_most g c = at_most_taken c.args.budget (rw c.in_ok-reader.ensures at c.answer_lines.ensures.budget) c.in_ok-answer_lines.ensures.all.3.taken
-
-pub returns-clause-fewer : goal.returns-clause-fewer
-returns-clause-fewer g c =
-    let all = c.in_ok-answer_lines.ensures.all in
-    on_ok_weaker c.write_table.result (λ wrote. fewer_taken c.args.budget (rw c.in_ok-reader.ensures at c.answer_lines.ensures.budget) all.3.taken all.2.ended) c.write_table.ensures.ok

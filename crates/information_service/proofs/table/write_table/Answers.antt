@@ -1,5 +1,6 @@
 use Rattle.information_service.proofs.Words.{◌≡◌, ◌≤◌, ◌+◌, ◌++◌, ℕ, List, length, sym, ap, subst, ◌∙◌, append_assoc, arith, Appends-trans, append-nil, Appends, State, header, rows_of_train, rows_from, table, AppendsFront, ServiceState}
-use Rattle.information_service.proofs.Ends.{each_fault}
+use Rattle.information_service.proofs.Ends.{each_fault, handed_on, memory_not_write}
+use Rattle.information_service.specs.declared.fault.LinesFault.TheVariants.{OutOfMemory, WriteFault}
 use Rattle.information_service.proofs.Fronts.{front_all, front_part, front_longer, front_after, rows-more, table_front}
 use Rattle.information_service.proofs.table.write_table.Goals as goal
 
@@ -34,7 +35,7 @@ loop-train-preserved g c =
     c.as_slice.ensures.value ∙ c.in_ok-rows.ensures ∙ ap (rows_of_train i.directory i.timetable.network i.timetable.state) c.new.ensures ∙ ap (λ (s : ServiceState). row s n) c.service.view_is in
     record {
       rows = subst (Appends w0 w2) (one-more t n) (Appends-trans w0 w1 w2 (shown t n) (row t n) c.loop-train.invariant.rows (subst (Appends w1 w2) row_is c.in_ok-put-2.ensures.ok));
-      write = omega (arith, c.loop-train.invariant.write, c.in_ok-put-2.ensures.cause.answered);
+      write = c.in_ok-put-2.ensures.cause.answered ∙ c.loop-train.invariant.write;
     }
 
 pub returns-clause-ok : goal.returns-clause-ok
@@ -53,7 +54,7 @@ returns-in_err-put-clause-front g c =
     let w0 = g.K.Sink.written c.args.out.now in
     let w1 = g.K.Sink.written c.put.new.sink in
     each_fault c.from_residual.result _ (λ f. front_longer w0 w1 header (rows_from t.names t.network t.state 0 (length t.state.trains))
-    (subst (AppendsFront w0 w1) c.times_header.ensures (front_part w0 w1 c.times_header.result.now c.in_err-put.ensures.failed)))
+    (subst (AppendsFront (f ≡ WriteFault) w0 w1) c.times_header.ensures (front_part w0 w1 c.times_header.result.now c.in_err-put.ensures.failed)))
 
 pub returns-in_err-rows-clause-front : goal.returns-in_err-rows-clause-front
 unfolding table
@@ -65,7 +66,7 @@ returns-in_err-rows-clause-front g c =
     let count : c.count-train-end.result ≡ length t.state.trains =
     c.count-train-end.ensures ∙ ap (λ (s : State). length s.trains) (c.trains.ensures.trains ∙ c.graph.ensures.state) ∙ ap (λ (s : ServiceState). length s.state.trains) c.service.view_is in
     let few : n ≤ length t.state.trains = omega (arith, count, c.loop-train-test.true) in
-    each_fault c.from_residual-in_err-rows.result _ (λ f. table_front t.names t.network t.state w0 w1 n (length t.state.trains) few (front_all w0 w1 (shown t n) c.loop-train.invariant.rows))
+    handed_on c.from_residual-in_err-rows.result OutOfMemory _ c.from_residual-in_err-rows.ensures.1 (table_front t.names t.network t.state w0 w1 n (length t.state.trains) few (front_all memory_not_write w0 w1 (shown t n) c.loop-train.invariant.rows))
 
 pub returns-in_err-put-2-clause-front : goal.returns-in_err-put-2-clause-front
 unfolding table
@@ -82,5 +83,5 @@ returns-in_err-put-2-clause-front g c =
     let row_is : c.as_slice.result.now ≡ row t n =
     c.as_slice.ensures.value ∙ c.in_ok-rows.ensures ∙ ap (rows_of_train i.directory i.timetable.network i.timetable.state) c.new.ensures ∙ ap (λ (s : ServiceState). row s n) c.service.view_is in
     each_fault c.from_residual-in_err-put-2.result _ (λ f. table_front t.names t.network t.state w0 w2 (n + 1) (length t.state.trains) few
-    (subst (AppendsFront w0 w2) (one-more t n) (front_after w0 w1 w2 (shown t n) (row t n) c.loop-train.invariant.rows
-    (subst (AppendsFront w1 w2) row_is (front_part w1 w2 c.as_slice.result.now c.in_err-put-2.ensures.failed)))))
+    (subst (AppendsFront (f ≡ WriteFault) w0 w2) (one-more t n) (front_after w0 w1 w2 (shown t n) (row t n) c.loop-train.invariant.rows
+    (subst (AppendsFront (f ≡ WriteFault) w1 w2) row_is (front_part w1 w2 c.as_slice.result.now c.in_err-put-2.ensures.failed)))))

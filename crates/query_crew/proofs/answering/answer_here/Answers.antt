@@ -1,4 +1,3 @@
-use Rattle.query_crew.proofs.Words.{length}
 use Rattle.query_crew.proofs.WorkLemmas.{few-stops, new-entry}
 use Rattle.query_crew.proofs.answering.answer_here.Goals as goal
 

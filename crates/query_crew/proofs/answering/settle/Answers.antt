@@ -1,4 +1,4 @@
-use Rattle.std.proofs.Common.{rules, subst, true}
+use Rattle.std.proofs.Common.{subst}
 use Rattle.query_crew.specs.Working.{IsWithin}
 use Rattle.query_crew.proofs.WorkLemmas.{settled-by-viewer, settled-apart}
 use Rattle.query_crew.proofs.answering.settle.Goals as goal

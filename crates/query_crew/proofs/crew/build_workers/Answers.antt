@@ -1,4 +1,4 @@
-use Rattle.std.proofs.Common.{◌≡◌, ◌∷◌, [], arith, ap, length, length-append}
+use Rattle.std.proofs.Common.{◌∷◌, [], arith, ap, length, length-append}
 use Rattle.query_crew.proofs.Building.{room-more}
 use Rattle.query_crew.proofs.crew.build_workers.Goals as goal
 

@@ -1,4 +1,4 @@
-use Rattle.std.proofs.Common.{◌≡◌, ◌∙◌, ◌<◌, ap, subst, sym, refl, get_or, length, arith}
+use Rattle.std.proofs.Common.{◌≡◌, ◌∙◌, ◌<◌, ap, subst, sym, refl, get_or, length}
 use Rattle.query_crew.specs.Joining.{IsSameBehind}
 use Rattle.query_crew.proofs.Joins.{same-behind}
 use Rattle.std.proofs.lemmas.List.{get_or_default}

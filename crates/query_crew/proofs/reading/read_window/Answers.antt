@@ -1,4 +1,4 @@
-use Rattle.query_crew.proofs.Words.{◌<◌, ◌∙◌, ◌∷◌, ◌++◌, [], length, ap, sym, refl, arith}
+use Rattle.query_crew.proofs.Words.{same_Some, ◌<◌, ◌∙◌, ◌∷◌, ◌++◌, [], length, ap, sym, refl, arith}
 use Rattle.std.proofs.lemmas.Result.{IfOk-from_err}
 use Rattle.query_crew.proofs.Filling.{begun-none, begun-more, taken-more, filled, none-came, fewer}
 use Rattle.query_crew.proofs.reading.read_window.Goals as goal
@@ -34,7 +34,7 @@ lines-preserved g c =
     let same = c.in_ok-line.ensures.ended in
     record {
       begun = (b.0 ++ one.line ∷ [], rw c.push.ensures (begun-more b.1 got.1 (λ is. ap g.S.Source.left (same is)) c.in-Line.line one few (sym c.is_flush-ends.ensures ∙ c.if-ends.false)));
-      reads = (rw c.in-Line.is at c.in_ok-line.ensures.reads) ∙ inv.reads;
+      reads = same_Some _ _ (rw c.in-Line.is at c.in_ok-line.ensures.reads) ∙ inv.reads;
       ended = λ is. same (b.1.taken.1.still_ended is).0 ∙ inv.ended is;
     }
 

@@ -1,4 +1,4 @@
-use Rattle.query_crew.proofs.Words.{◌∙◌, refl, ap, subst, arith, length, service_after}
+use Rattle.query_crew.proofs.Words.{◌∙◌, ap, length, service_after}
 use Rattle.std.proofs.Common.{get_or}
 use Rattle.query_crew.specs.Posting.{after_lines}
 use Rattle.query_crew.proofs.Choosing.{replies-length, all-covered, own-replies, window-answered, stands-answered, both}

@@ -1,5 +1,5 @@
-use Rattle.query_crew.proofs.Words.{◌≡◌, rules, ap, sym, subst, length, List, slice_get, Some, ◌∙◌, refl, slice_get-get_or, IsPrefix, HasAnswered}
-use Rattle.query_crew.proofs.WorkLemmas.{answered-none, pushed-more}
+use Rattle.query_crew.proofs.Words.{◌≡◌, ap, sym, subst, List, slice_get, Some, ◌∙◌, refl, slice_get-get_or, IsPrefix}
+use Rattle.query_crew.proofs.WorkLemmas.{pushed-more}
 use Rattle.query_crew.proofs.worker.work.Goals as goal
 
 pub loop-i-preserved : goal.loop-i-preserved

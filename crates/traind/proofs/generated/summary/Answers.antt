@@ -23,8 +23,7 @@ pub returns-in_err-sums-clause-fault : goal.returns-in_err-sums-clause-fault
 returns-in_err-sums-clause-fault g c =
     let f = c.in_err-sums.field-0.0 in
     handed-on c.from_residual-in_err-sums.result (lines_fault f) faults.OutOfMemory c.from_residual-in_err-sums.ensures.1
-    (only-memory-left f byte_budget c.in_ok-lines.lines (Some c.sum_windows.new.input) (omega (arith, ap length c.in_ok-lines.ensures, input-short c.args.asked.trains c.requires.trains.1)) c.in_err-sums.ensures.reads
-    (λ is. c.in_err-sums.ensures.no_write (ap Err is)) (λ is. c.in_err-sums.ensures.too_long (ap Err is)))
+    (only-memory-left f byte_budget c.in_ok-lines.lines (Some c.sum_windows.new.input) (omega (arith, ap length c.in_ok-lines.ensures, input-short c.args.asked.trains c.requires.trains.1)) c.in_err-sums.ensures.counts)
 
 pub returns-clause-ok : goal.returns-clause-ok
 returns-clause-ok g c =

@@ -19,8 +19,7 @@ returns-in_err-write_windows g c = record {
   run =
       lines-stopped c.in_ok-asked.ensures.ok c.in_ok-loaded.ensures.exact c.in_ok-loaded.ensures.network (c.requires.command _ c.in_ok-asked.ensures.ok)
       (c.in_ok-loaded.ensures.answered (not-error _ _)) c.from_residual-in_err-write_windows.result c.in_err-write_windows.field-0.0
-      c.from_residual-in_err-write_windows.ensures.1 c.in_err-write_windows.ensures.stopped c.in_err-write_windows.ensures.front c.in_err-write_windows.ensures.at_most
-      c.in_err-write_windows.ensures.reads c.in_err-write_windows.ensures.writes (λ is. c.in_err-write_windows.ensures.read_early (ap Err is)) (λ is. c.in_err-write_windows.ensures.too_long (ap Err is));
+      c.from_residual-in_err-write_windows.ensures.1 c.in_err-write_windows.ensures.stopped c.in_err-write_windows.ensures.front c.in_err-write_windows.ensures.counts;
 }
 
 pub returns : goal.returns
@@ -28,6 +27,5 @@ returns g c = record {
   run =
       all-answered c.in_ok-asked.ensures.ok c.in_ok-loaded.ensures.exact c.in_ok-loaded.ensures.network (c.requires.command _ c.in_ok-asked.ensures.ok)
       (c.in_ok-loaded.ensures.answered (not-error _ _))
-      c.in_ok-write_windows.ensures.ok c.in_ok-write_windows.ensures.ended c.in_ok-write_windows.ensures.front c.in_ok-write_windows.ensures.at_most c.in_ok-write_windows.ensures.fewer
-      c.in_ok-write_windows.ensures.reads c.in_ok-write_windows.ensures.writes;
+      c.in_ok-write_windows.ensures.ok c.in_ok-write_windows.ensures.ended c.in_ok-write_windows.ensures.front c.in_ok-write_windows.ensures.counts;
 }

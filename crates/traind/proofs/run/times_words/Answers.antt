@@ -19,8 +19,7 @@ returns-in_err-write_output g c = record {
   run =
       lines-stopped c.in_ok-asked.ensures.ok c.in_ok-service.ensures.exact c.in_ok-service.ensures.network (c.requires.command _ c.in_ok-asked.ensures.ok)
       (c.in_ok-service.ensures.answered (not-error _ _)) c.from_residual-in_err-write_output.result c.in_err-write_output.field-0.0
-      c.from_residual-in_err-write_output.ensures.1 c.in_err-write_output.ensures.stopped c.in_err-write_output.ensures.front c.in_err-write_output.ensures.at_most
-      c.in_err-write_output.ensures.reads c.in_err-write_output.ensures.writes (λ is. c.in_err-write_output.ensures.read_early (ap Err is)) (λ is. c.in_err-write_output.ensures.too_long (ap Err is));
+      c.from_residual-in_err-write_output.ensures.1 c.in_err-write_output.ensures.stopped c.in_err-write_output.ensures.front c.in_err-write_output.ensures.counts;
 }
 
 pub returns : goal.returns
@@ -28,6 +27,5 @@ returns g c = record {
   run =
       all-answered c.in_ok-asked.ensures.ok c.in_ok-service.ensures.exact c.in_ok-service.ensures.network (c.requires.command _ c.in_ok-asked.ensures.ok)
       (c.in_ok-service.ensures.answered (not-error _ _))
-      c.in_ok-write_output.ensures.ok c.in_ok-write_output.ensures.ended c.in_ok-write_output.ensures.front c.in_ok-write_output.ensures.at_most c.in_ok-write_output.ensures.fewer
-      c.in_ok-write_output.ensures.reads c.in_ok-write_output.ensures.writes;
+      c.in_ok-write_output.ensures.ok c.in_ok-write_output.ensures.ended c.in_ok-write_output.ensures.front c.in_ok-write_output.ensures.counts;
 }

@@ -1,4 +1,6 @@
-use Rattle.window_service.proofs.Words.{refl, sym, ap, subst, inl, inr, ServiceState, Names, each_fault, on_ok_weaker, IfErr-weaker}
+use Rattle.window_service.proofs.Words.{◌≡◌, refl, sym, ap, subst, inl, inr, ServiceState, Names, handed_on, on_ok_weaker, IfErr-weaker}
+use Rattle.information_service.proofs.Ends.{memory_not_write}
+use Rattle.information_service.specs.declared.fault.LinesFault.TheVariants.{OutOfMemory, WriteFault}
 use Rattle.window_service.proofs.windows.answer_window.Goals as goal
 
 pub returns-clause-answered : goal.returns-clause-answered
@@ -17,7 +19,7 @@ returns-clause-answered g c =
     c.receive.ensures.ok
 
 pub returns-in_err-replies-clause-begun : goal.returns-in_err-replies-clause-begun
-returns-in_err-replies-clause-begun g c = each_fault c.from_residual.result _ (λ f nw names st before window stands first_is lines_are. inl refl)
+returns-in_err-replies-clause-begun g c = handed_on c.from_residual.result OutOfMemory _ c.from_residual.ensures.1 (λ nw names st before window stands first_is lines_are. inl (refl, memory_not_write))
 
 pub returns-clause-begun : goal.returns-clause-begun
 returns-clause-begun g c =
@@ -27,7 +29,7 @@ returns-clause-begun g c =
     inr (record {
       replies = replies;
       are = c.in_ok-replies.ensures.replies nw names st before window stands first_is lines_are;
-      received = subst (λ (ns : Names). g.T.ReceiveReplies.begins c.args.out.now c.receive.new.out ns replies) (sym (ap (λ (s : ServiceState). s.names) now.is)) (rw c.as_slice.ensures.value at began);
+      received = subst (λ (ns : Names). g.T.ReceiveReplies.begins (f ≡ WriteFault) c.args.out.now c.receive.new.out ns replies) (sym (ap (λ (s : ServiceState). s.names) now.is)) (rw c.as_slice.ensures.value at began);
     }))
     c.receive.ensures.front
 

@@ -1,12 +1,18 @@
-use Rattle.window_service.proofs.Words.{◌≡◌, ◌∙◌, ◌∷◌, ◌++◌, length, ap, sym, refl, arith, [], List, ℕ, Option, true, each_fault, handed_on, on_ok_weaker, IfErr-weaker}
+use Rattle.window_service.proofs.Words.{◌≡◌, ◌∙◌, ◌∷◌, ◌++◌, length, ap, sym, refl, arith, [], List, ℕ, Option, true, Some, handed_on, on_ok_weaker, IfErr-weaker}
 use Rattle.std.proofs.Common.{Bool}
 use Rattle.std.proofs.lemmas.List.{length-map}
+use Rattle.std.proofs.lemmas.Option.{same_Some}
 use Rattle.information_service.specs.Causes.{writes_failed}
 use Rattle.information_service.specs.Lines.{said_by}
 use Rattle.mt_io.specs.Causes.{counted}
 use Rattle.query_crew.specs.WindowLines.{window_line}
 use Rattle.window_service.proofs.Answered.{none-read, none-answered, read-more, answered-more, all-taken, ended-all, stopped, begun-before, begun-more, begun-last, begun-so-far}
+use Rattle.information_service.proofs.Ends.{memory_not_write, read_not_write, long_not_write}
+use Rattle.information_service.specs.declared.fault.LinesFault.TheVariants.{OutOfMemory}
 use Rattle.window_service.proofs.Inputs.{never-stops, no-more-reads}
+use Rattle.window_service.proofs.Numbers.{can-run, few-lines}
+use Rattle.query_crew.specs.WindowLines.{IsWindowLine}
+use Rattle.std.proofs.Common.{All, subst}
 use Rattle.window_service.proofs.windows.answer_windows.Goals as goal
 
 -- once the end was read, the same is left
@@ -27,6 +33,30 @@ windows-init g c = record {
   write = refl;
 }
 
+pub answer_window-requires-clause-lines : goal.answer_window-requires-clause-lines
+answer_window-requires-clause-lines g c =
+    let inv = c.windows.invariant in
+    let got = c.in_ok-end.ensures.taken in
+    let w = rw c.in-More.is at got.2 in
+    λ κs outlive. can-run c.args.crew.now.directory inv.run.2 got.1 (ended-same g.S.Source.left c.in_ok-end.ensures.ended) c.lines.result.now inv.ready.board (λ t is. (inv.run.3 t is).stands)
+    (subst (All IsWindowLine) (sym c.lines.ensures.lines) c.lines.ensures.kept) (c.lines.ensures.lines ∙ w.shown) (omega (arith, got.1.1.budget, inv.budget, c.requires.budget))
+
+pub answer_window-requires-in-End-clause-lines : goal.answer_window-requires-in-End-clause-lines
+answer_window-requires-in-End-clause-lines g c =
+    let inv = c.windows.invariant in
+    let got = c.in_ok-end.ensures.taken in
+    let w = rw c.in-End.is at got.2 in
+    λ κs outlive. can-run c.args.crew.now.directory inv.run.2 got.1 (ended-same g.S.Source.left c.in_ok-end.ensures.ended) c.lines-in-End.result.now inv.ready.board (λ t is. (inv.run.3 t is).stands)
+    (subst (All IsWindowLine) (sym c.lines-in-End.ensures.lines) c.lines-in-End.ensures.kept) (c.lines-in-End.ensures.lines ∙ w.shown) (omega (arith, got.1.1.budget, inv.budget, c.requires.budget))
+
+pub overflow_add-first : goal.overflow_add-first
+overflow_add-first g c =
+    let inv = c.windows.invariant in
+    let got = c.in_ok-end.ensures.taken in
+    let w = rw c.in-More.is at got.2 in
+    let few = few-lines inv.run.2 got.1 (ended-same g.S.Source.left c.in_ok-end.ensures.ended) in
+    omega (arith, few, ap length (c.lines-in-More.ensures.lines ∙ w.shown), length-map got.0 (λ x. window_line c.windows.crew.directory (said_by x)), got.1.1.budget, inv.budget, c.requires.budget)
+
 pub windows-preserved : goal.windows-preserved
 windows-preserved g c =
     let inv = c.windows.invariant in
@@ -46,20 +76,20 @@ windows-preserved g c =
       );
       ready = c.in_ok-answer_window-in-More.ensures.ready;
       budget = got.1.1.budget ∙ inv.budget;
-      read = omega (arith, inv.read, rw c.in-More.is at c.in_ok-end.ensures.reads);
-      write = omega (arith, inv.write, c.in_ok-answer_window-in-More.ensures.writes);
+      read = same_Some _ _ (rw c.in-More.is at c.in_ok-end.ensures.reads) ∙ inv.read;
+      write = same_Some _ _ c.in_ok-answer_window-in-More.ensures.writes ∙ inv.write;
     }
 
 pub returns-in_err-window-clause-begun : goal.returns-in_err-window-clause-begun
 returns-in_err-window-clause-begun g c =
     let read = none-read c.args.reader.now c.args.reader.now.budget (g.S.Source.left c.args.input.now) c.requires.reader in
-    each_fault c.from_residual.result _ (λ f t is. begun-so-far read (none-answered t c.args.out.now is c.requires.new c.requires.ready.board))
+    handed_on c.from_residual.result OutOfMemory _ c.from_residual.ensures.1 (λ t is. begun-so-far memory_not_write read (none-answered t c.args.out.now is c.requires.new c.requires.ready.board))
 
 pub returns-in_err-end-clause-begun : goal.returns-in_err-end-clause-begun
 returns-in_err-end-clause-begun g c =
     let run = c.windows.invariant.run in
     let got = c.in_err-end.ensures.taken in
-    each_fault c.from_residual-in_err-end.result _ (λ f t is. begun-before run.2 got.1 (ended-same g.S.Source.left c.in_err-end.ensures.ended) (run.3 t is))
+    handed_on c.from_residual-in_err-end.result OutOfMemory _ c.from_residual-in_err-end.ensures.1 (λ t is. begun-before run.2 got.1 (ended-same g.S.Source.left c.in_err-end.ensures.ended) (run.3 t is) memory_not_write)
 
 pub returns-in-ReadFault : goal.returns-in-ReadFault
 returns-in-ReadFault g c =
@@ -73,9 +103,10 @@ returns-in-ReadFault g c =
     record {
       all = tt;
       stopped = λ t is. stopped run.2 got.1 same (run.3 t is) w.ended.0 w.ended.1.ended w.ended.1.none;
-      begun = λ t is. begun-before run.2 got.1 same (run.3 t is);
+      begun = λ t is. begun-before run.2 got.1 same (run.3 t is) read_not_write;
       reads = told ∙ ap counted inv.read;
-      writes = inv.write;
+      writes = ap Some inv.write;
+      full = grind arith;
       too_long = grind arith;
       read_early = λ is. (all.0, all.1.source, omega (arith, all.1.lines_so_far.taken, w.ended.1.taken, got.1.1.budget, inv.budget));
       budget = got.1.1.budget ∙ inv.budget;
@@ -92,9 +123,10 @@ returns-in-Budget g c =
     record {
       all = tt;
       stopped = λ t is. stopped run.2 got.1 same (run.3 t is) w.ended.0 w.ended.1.ended w.ended.1.none;
-      begun = λ t is. begun-before run.2 got.1 same (run.3 t is);
-      reads = (rw c.in-Budget.is at c.in_ok-end.ensures.reads) ∙ inv.read;
-      writes = inv.write;
+      begun = λ t is. begun-before run.2 got.1 same (run.3 t is) long_not_write;
+      reads = (rw c.in-Budget.is at c.in_ok-end.ensures.reads) ∙ ap Some inv.read;
+      writes = ap Some inv.write;
+      full = grind arith;
       too_long = λ is. (all.0, all.1.source, sym all.1.lines_so_far.taken ∙ w.ended.1.taken ∙ got.1.1.budget ∙ inv.budget);
       read_early = grind arith;
       budget = got.1.1.budget ∙ inv.budget;
@@ -110,7 +142,7 @@ returns-in_err-answer_window-in-More-clause-begun g c =
     let run = c.windows.invariant.run in
     let got = c.in_ok-end.ensures.taken in
     let w = rw c.in-More.is at got.2 in
-    each_fault c.from_residual-in_err-answer_window-in-More.result _ (λ f t is.
+    handed_on c.from_residual-in_err-answer_window-in-More.result c.in_err-answer_window-in-More.field-0.0 _ c.from_residual-in_err-answer_window-in-More.ensures.1 (λ t is.
     let a = run.3 t is in
     begun-more run.2 got.1 (ended-same g.S.Source.left c.in_ok-end.ensures.ended) a w.ended.0
     (c.in_err-answer_window-in-More.ensures.begun t.network c.args.crew.now.directory t.state _ got.0 a.stands run.2.counted (c.lines.ensures.lines ∙ w.shown)))
@@ -133,12 +165,10 @@ returns-in-End g c =
       begun = IfErr-weaker run_is.result _ _ (λ f b t is.
           let a = run.3 t is in
           begun-last run.2 got.1 same a w.ended.0 w.ended.1 (b t.network names t.state _ got.0 a.stands run.2.counted lines_are)) run_is.ensures.begun;
-      reads = (rw c.in-End.is at c.in_ok-end.ensures.reads) ∙ inv.read ∙ sym (no-more-reads run_is.result _ run_is.ensures.fault);
+      reads = (rw c.in-End.is at c.in_ok-end.ensures.reads) ∙ ap Some inv.read ∙ sym (no-more-reads run_is.result _ run_is.ensures.fault);
       writes = run_is.ensures.writes ∙ ap (writes_failed run_is.result) inv.write;
+      full = run_is.ensures.full;
       too_long = λ is. absurd (rw is at run_is.ensures.fault);
       read_early = λ is. absurd (rw is at run_is.ensures.fault);
       budget = got.1.1.budget ∙ inv.budget;
     }
-
-pub returns-clause-begun : goal.returns-clause-begun
-returns-clause-begun g c = λ t is. begun-so-far c.windows.invariant.run.2 (c.windows.invariant.run.3 t is)

@@ -14,7 +14,7 @@ invariant-windows g l =
       ready : IsReady o l.crew;
       budget : l.reader.budget ≡ l.initial.reader.budget;
       read : g.S.Source.faults l.input ≡ g.S.Source.faults l.initial.input;
-      write : g.T.ReceiveReplies.failed l.out ≡ g.T.ReceiveReplies.failed l.initial.out;
+      write : g.T.ReceiveReplies.faults l.out ≡ g.T.ReceiveReplies.faults l.initial.out;
     }
 
 abbrev pub decreases-windows : goal.decreases-windows

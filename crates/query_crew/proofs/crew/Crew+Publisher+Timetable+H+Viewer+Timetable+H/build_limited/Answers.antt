@@ -1,4 +1,4 @@
-use Rattle.std.proofs.Common.{rules, arith, length, ◌≡◌, ◌≤◌}
+use Rattle.std.proofs.Common.{rules, arith, length, ◌≤◌}
 use Rattle.query_crew.proofs.Building.{opened-board, opened-room}
 use Rattle.query_crew.proofs.crew.Crew+Publisher+Timetable+H+Viewer+Timetable+H.build_limited.Goals as goal
 
