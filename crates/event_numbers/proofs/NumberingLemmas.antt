@@ -1,9 +1,9 @@
 -- Slots by train and label, after a train or calls are added.
-use Rattle.event_numbers.proofs.Words.{slice_get_cases, ◌≡◌, ℕ, zero, suc, ◌+◌, ◌-◌, ◌<◌, ◌≤◌, ◌⊎◌, inl, inr, List, [], ◌∷◌, ◌++◌, length, append-nil, append_assoc, refl, ◌∙◌, ap, arith}
+use Rattle.event_numbers.proofs.Words.{slice_get_cases, ◌≡◌, ℕ, suc, ◌+◌, ◌-◌, ◌<◌, ◌≤◌, ◌⊎◌, inl, inr, List, [], ◌∷◌, ◌++◌, length, append-nil, append_assoc, refl, ap, arith}
 use Rattle.event_numbers.proofs.Words.{Option, Some, slice_get, option_and_then, cases_lt, slice_get_within, change_at, NumberedTrain, Numbering, slot_of, slots_from, with_numbered}
-use Rattle.event_numbers.proofs.Words.{with_more, IsNumbering, None, option_map}
-use Rattle.event_numbers.proofs.ListLemmas.{get-more, get-old, get-past, get-end}
-use Rattle.event_numbers.proofs.SlotLemmas.{slots-from, range-get, range-append}
+use Rattle.event_numbers.proofs.Words.{with_more, IsNumbering, None, option_map, nat_tests, slice_get_past, length-append, add-one}
+use Rattle.event_numbers.proofs.ListLemmas.{change-get, get-more, get-old, get-past, get-end}
+use Rattle.event_numbers.proofs.SlotLemmas.{slots-from, range-get, range-more}
 
 -- a slot is that of the call with this number among so many new ones, which have the labels from one on
 pub record IsMade (t from first calls u l s : ℕ) : Type 0 where
@@ -25,10 +25,7 @@ grown-numbering t from calls old new g h =
     record {
       below = λ u l s is. grind (arith, g.only u l s is, h.below u l s, g.used);
       once = λ u l v m s p q. grind (arith, g.only u l s p, g.only v m s q, h.below u l s, h.below v m s, h.once u l v m s);
-      taken = λ s l. elim (cases_lt s old.used) [
-        | inl old ↦ (let was = h.taken s old in (was.0, was.1, g.stays was.0 was.1 s was.2))
-        | inr made ↦ (t, from + (s - old.used), g.made (s - old.used) (omega (arith, g.used)) ∙ ap Some (omega arith))
-      ];
+      taken = λ s l. grind (arith, cases_lt s old.used, h.taken s, λ (u l : ℕ). g.stays u l s, g.made (s - old.used), g.used);
     }
 
 -- the slots of a train, if it is there
@@ -43,10 +40,7 @@ pub push-stays : (ts : List NumberedTrain) (new : NumberedTrain) (u l s : ℕ) �
 push-stays ts new u l s h = elim (slice_get_cases ts u).1 [ inl t ↦ rw (get-old ts (new ∷ []) u t.1) h | inr none ↦ (let at = none.1 in absurd (cc)) ]
 
 pub push-only : (ts : List NumberedTrain) (new : NumberedTrain) (u l s : ℕ) → slots_at (ts ++ new ∷ []) u l ≡ Some s → (slots_at ts u l ≡ Some s) ⊎ ((u ≡ length ts) × (slice_get new.slots l ≡ Some s))
-push-only [] new zero l s h = inr (refl, h)
-push-only [] new (suc u) l s h = absurd (cc)
-push-only (t ∷ ts) new zero l s h = inl h
-push-only (t ∷ ts) new (suc u) l s h = elim (push-only ts new u l s h) [ inl was ↦ inl was | inr made ↦ inr (omega (arith, made.0), made.1) ]
+push-only ts new u l s h = grind (arith, h, cases_lt u (length ts), get-old ts (new ∷ []) u, get-end ts [] new u, slice_get_past (ts ++ new ∷ []) u, length-append ts (new ∷ []))
 
 pub push-made : (ts : List NumberedTrain) (new : NumberedTrain) (l : ℕ) → slots_at (ts ++ new ∷ []) (length ts) l ≡ slice_get new.slots l
 push-made ts new l = rw (get-end ts [] new (length ts) refl) refl
@@ -55,63 +49,33 @@ push-made ts new l = rw (get-end ts [] new (length ts) refl) refl
 pub train-grown : (calls : ℕ) (n : Numbering) → IsGrown (length n.trains) 0 calls n (with_numbered calls n)
 train-grown calls n =
     let new : NumberedTrain = record { loaded = calls; slots = slots_from n.used calls } in
-    record {
-      stays = push-stays n.trains new;
-      made = λ i l. push-made n.trains new (0 + i) ∙ ap (slice_get new.slots) (omega arith) ∙ range-get n.used calls i l;
-      only = λ u l s h. grind (arith, push-only n.trains new u l s h, range-only n.used calls l s);
-      used = refl;
-    }
-
-more-stays : (ts : List NumberedTrain) (new : List ℕ) (t u l s : ℕ) → slots_at ts u l ≡ Some s → slots_at (change_at t (λ (t : NumberedTrain). record t { slots = t.slots ++ new }) ts) u l ≡ Some s
-more-stays [] new t u l s h = absurd (cc)
-more-stays (x ∷ ts) new zero zero l s h = get-more x.slots new l s h
-more-stays (x ∷ ts) new (suc t) (suc u) l s h = more-stays ts new t u l s h
-more-stays (x ∷ ts) new t u l s h = grind (arith, h)
-
-more-made : (ts : List NumberedTrain) (new : List ℕ) (t l : ℕ) (old : NumberedTrain) → slice_get ts t ≡ Some old → length old.slots ≤ l → slots_at (change_at t (λ (t : NumberedTrain). record t { slots = t.slots ++ new }) ts) t l ≡ slice_get new (l - length old.slots)
-more-made [] new t l old h le = absurd (cc)
-more-made (x ∷ ts) new zero l old h le = let same : x ≡ old = cc in rw same (get-past old.slots new l (l - length old.slots) (omega arith))
-more-made (x ∷ ts) new (suc t) l old h le = more-made ts new t l old h le
-
--- a slot of a train with more slots is an old one, or a new one of the train
-more-only : (ts : List NumberedTrain) (new : List ℕ) (t u l s : ℕ) (old : NumberedTrain) → slice_get ts t ≡ Some old → slots_at (change_at t (λ (t : NumberedTrain). record t { slots = t.slots ++ new }) ts) u l ≡ Some s → (slots_at ts u l ≡ Some s) ⊎ ((u ≡ t) × (length old.slots ≤ l) × (slice_get new (l - length old.slots) ≡ Some s))
-more-only [] new t u l s old is h = absurd (cc)
-more-only (x ∷ ts) new zero zero l s old is h = grind (arith, is, h, cases_lt l (length x.slots), get-old x.slots new l, get-past x.slots new l (l - length x.slots))
-more-only (x ∷ ts) new (suc t) (suc u) l s old is h = grind (arith, more-only ts new t u l s old is h)
-more-only (x ∷ ts) new t u l s old is h = grind (arith, h)
+    grind (arith, push-stays n.trains new, push-made n.trains new, push-only n.trains new, range-get n.used calls, range-only n.used calls)
 
 -- calls more
 pub calls-grown : (t calls : ℕ) (n : Numbering) (old : NumberedTrain) → slice_get n.trains t ≡ Some old → IsGrown t (length old.slots) calls n (with_more t calls n)
 calls-grown t calls n old is =
     let new = slots_from n.used calls in
-    record {
-      stays = more-stays n.trains new t;
-      made = λ i l. more-made n.trains new t (length old.slots + i) old is (omega arith) ∙ ap (slice_get new) (omega arith) ∙ range-get n.used calls i l;
-      only = λ u l s h. grind (arith, more-only n.trains new t u l s old is h, range-only n.used calls (l - length old.slots) s);
-      used = refl;
-    }
+    let more = λ (u : ℕ). change-get n.trains (λ (t : NumberedTrain). record t { slots = t.slots ++ new }) t u in
+    grind (arith, nat_tests, is, more, get-more old.slots new, λ (l : ℕ). get-past old.slots new l (l - length old.slots), get-old old.slots new, range-get n.used calls, range-only n.used calls, λ (l : ℕ). cases_lt l (length old.slots))
 
 change-twice : (ts : List NumberedTrain) (new newer all : List ℕ) (t : ℕ) → new ++ newer ≡ all → change_at t (λ (t : NumberedTrain). record t { slots = t.slots ++ newer }) (change_at t (λ (t : NumberedTrain). record t { slots = t.slots ++ new }) ts) ≡ change_at t (λ (t : NumberedTrain). record t { slots = t.slots ++ all }) ts
-change-twice [] new newer all t e = refl
-change-twice (x ∷ ts) new newer all zero e = rw (append_assoc x.slots new newer, e) refl
 change-twice (x ∷ ts) new newer all (suc t) e = rw (change-twice ts new newer all t e) refl
+change-twice ts new newer all t e = grind (arith, append_assoc {A = ℕ}, e)
 
 -- so many calls more, and one more, are all of them
 pub calls-more : (t m : ℕ) (n : Numbering) → with_more t 1 (with_more t m n) ≡ with_more t (m + 1) n
-calls-more t m n = rw (change-twice n.trains (slots_from n.used m) ((n.used + m) ∷ []) (slots_from n.used (m + 1)) t (range-append n.used m 1)) (grind arith)
+calls-more t m n = rw (change-twice n.trains (slots_from n.used m) ((n.used + m) ∷ []) (slots_from n.used (m + 1)) t (rw add-one (range-more n.used m))) (grind arith)
 
 change-none : (ts : List NumberedTrain) (t : ℕ) → change_at t (λ (t : NumberedTrain). record t { slots = t.slots ++ [] }) ts ≡ ts
-change-none [] t = refl
-change-none (x ∷ ts) zero = rw (append-nil x.slots) refl
 change-none (x ∷ ts) (suc t) = rw (change-none ts t) refl
+change-none ts t = grind (arith, append-nil {A = ℕ})
 
 pub calls-none : (t : ℕ) (n : Numbering) → with_more t 0 n ≡ n
 calls-none t n = rw (change-none n.trains t) (grind arith)
 
 length-change : (ts : List NumberedTrain) (f : NumberedTrain → NumberedTrain) (t : ℕ) → length (change_at t f ts) ≡ length ts
-length-change [] f t = refl
-length-change (x ∷ ts) f zero = refl
 length-change (x ∷ ts) f (suc t) = ap suc (length-change ts f t)
+length-change ts f t = grind arith
 
 pub change-length : (t m : ℕ) (n : Numbering) → length (with_more t m n).trains ≡ length n.trains
 change-length t m n = length-change n.trains (λ (t : NumberedTrain). record t { slots = t.slots ++ slots_from n.used m }) t
@@ -132,7 +96,4 @@ loaded-read ns t k law h = elim (slice_get_cases ns t).1 [
 
 -- the slot of its last call
 pub last-there : (nb : Numbering) (t k : ℕ) → IsLoadedBy nb.trains t k → slot_of nb t (k - 1) ≡ None → ⊥
-last-there nb t k w h = elim (slice_get_cases w.train.slots (k - 1)).1 [
-  | inl s ↦ grind (arith, w.there, s.2, h)
-  | inr past ↦ absurd (omega (arith, past.0, w.some, w.within))
-]
+last-there nb t k w h = grind (arith, slice_get_cases w.train.slots (k - 1), w.there, w.some, w.within, h)

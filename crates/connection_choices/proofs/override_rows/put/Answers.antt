@@ -1,4 +1,4 @@
-use Rattle.connection_choices.proofs.Words.{refl, arith}
+use Rattle.connection_choices.proofs.Words.{arith}
 use Rattle.connection_choices.proofs.OverrideOrders.{ends_total}
 use Rattle.connection_choices.proofs.PlaceLemmas.{at-found, at-gap}
 use Rattle.connection_choices.proofs.override_rows.put.Goals as goal
@@ -6,20 +6,14 @@ use Rattle.connection_choices.proofs.override_rows.put.Goals as goal
 pub returns-in-Ok : goal.returns-in-Ok
 returns-in-Ok c =
     let there = at-found (ends_total c.args.end) c.args.rows.now.items _ c.args.connection.now c.in-Ok.place c.deref.ensures.value c.requires.sorted c.in-Ok.ensures.within c.in-Ok.ensures.found in
-    let row = c.index_mut.result.now in
     record {
-      new = rw (there.find_is row) refl;
-      items = rw (there.put_is c.args.choice row, ← c.index_mut.ensures.value) refl;
+      new = rw (there.find_is c.index_mut.result.now);
+      items = rw (there.put_is c.args.choice c.index_mut.result.now, ← c.index_mut.ensures.value);
       capacity = omega arith;
     }
 
 pub returns-in-Err : goal.returns-in-Err
 returns-in-Err c =
     let gap = at-gap (ends_total c.args.end) c.args.rows.now.items _ c.args.connection.now c.in-Err.place c.deref.ensures.value c.requires.sorted c.in-Err.ensures.within c.in-Err.ensures.absent in
-    let room = c.requires.room gap.find_is in
-    let done = c.insert.ensures.succeeds (omega (arith, room)) in
-    record {
-      new = rw gap.find_is refl;
-      items = rw (gap.put_is c.args.choice) (rw done at c.insert.ensures.items);
-      capacity = c.insert.ensures.capacity;
-    }
+    let done = c.insert.ensures.succeeds (omega (arith, c.requires.room gap.find_is)) in
+    grind (arith, gap.find_is, gap.put_is c.args.choice, rw done at c.insert.ensures.items, c.insert.ensures.capacity)

@@ -1,4 +1,4 @@
-use Rattle.connection_choices.proofs.Words.{refl, sym}
+use Rattle.connection_choices.proofs.Words.{refl, sym, arith}
 use Rattle.connection_choices.proofs.OverrideOrders.{ends_total}
 use Rattle.connection_choices.proofs.PlaceLemmas.{at-found, at-gap}
 use Rattle.connection_choices.proofs.override_rows.take_out.Goals as goal
@@ -6,11 +6,7 @@ use Rattle.connection_choices.proofs.override_rows.take_out.Goals as goal
 pub returns-in-Ok : goal.returns-in-Ok
 returns-in-Ok c =
     let there = at-found (ends_total c.args.end) c.args.rows.now.items _ c.args.connection.now c.in-Ok.place c.deref.ensures.value c.requires.sorted c.in-Ok.ensures.within c.in-Ok.ensures.found in
-    record {
-      there = rw (there.find_is c.remove.result) refl;
-      items = rw there.others_are c.remove.ensures.items;
-      capacity = c.remove.ensures.capacity;
-    }
+    grind (arith, there.find_is c.remove.result, there.others_are, c.remove.ensures.items, c.remove.ensures.capacity)
 
 pub returns : goal.returns
 returns c =

@@ -1,37 +1,26 @@
-use Rattle.connection_choices.proofs.Words.{refl, arith, passes, length-put, connection_cmp, connections_total, exact_connections}
-use Rattle.connection_choices.proofs.OverrideOrders.{chosen, put-turned, stored-with, taken}
+use Rattle.connection_choices.proofs.Words.{arith, passes, length-put, connection_cmp, connections_total, exact_connections}
+use Rattle.connection_choices.proofs.OverrideOrders.{chosen, put-turned, stored-with}
 use Rattle.connection_choices.proofs.PlaceLemmas.{put-is}
 use Rattle.connection_choices.proofs.override_table.OverrideTable.set.Goals as goal
 
 pub put-is_new-requires-clause-room : goal.put-is_new-requires-clause-room
-put-is_new-requires-clause-room c none =
-    let some = (rw (← c.self.view_is, chosen c.self.inside c.args.connection c.self.invariant, none) at c.requires.spare) refl in
-    omega (arith, some, c.self.invariant.room)
+put-is_new-requires-clause-room c none = grind (arith, none, c.self.view_is, chosen c.self.inside c.args.connection c.self.invariant, c.requires.spare, c.self.invariant.room)
 
 pub put-requires-clause-room : goal.put-requires-clause-room
-put-requires-clause-room c none =
-    let some = (rw (← c.self.view_is, chosen c.self.inside c.args.connection c.self.invariant, ← c.self.invariant.choices.same c.args.connection, none) at c.requires.spare) refl in
-    omega (arith, some, c.self.invariant.turned_room, c.self.invariant.count)
+put-requires-clause-room c none = grind (arith, none, c.self.view_is, chosen c.self.inside c.args.connection c.self.invariant, c.self.invariant.choices.same c.args.connection, c.requires.spare, c.self.invariant.turned_room, c.self.invariant.count)
 
 pub overflow_sub-self : goal.overflow_sub-self
-overflow_sub-self c =
-    let some = rw (← c.self.view_is, chosen c.self.inside c.args.connection c.self.invariant) at c.requires.spare in
-    (taken _ c.put-is_new.result c.self.inside.spare c.from.result 0 c.put-is_new.ensures.new c.from.ensures some).within
+overflow_sub-self c = grind (arith, c.self.view_is, chosen c.self.inside c.args.connection c.self.invariant, c.requires.spare, c.put-is_new.ensures.new, c.from.ensures)
 
 pub invariant_of-self : goal.invariant_of-self
 invariant_of-self c =
-    let a = c.self.inside in
-    let some = rw (← c.self.view_is, chosen a c.args.connection c.self.invariant) at c.requires.spare in
-    let counts = taken _ c.put-is_new.result a.spare c.from.result _ c.put-is_new.ensures.new c.from.ensures some in
-    let choices = put-turned c.args.connection c.args.choice a.by_arrival.items a.by_departure.items c.self.invariant.choices in
-    let count = length-put connection_cmp connections_total c.args.connection c.args.choice a.by_arrival.items (passes _ c.self.invariant.choices.sorted) in
-    stored-with a _ c.self.invariant (rw (c.put-is_new.ensures.items, c.put.ensures.items) choices) (rw (c.put-is_new.ensures.items, count) counts.total) c.put-is_new.ensures.capacity c.put.ensures.capacity
+    let choices = put-turned c.args.connection c.args.choice _ _ c.self.invariant.choices in
+    let count = length-put connection_cmp connections_total c.args.connection c.args.choice c.self.inside.by_arrival.items (passes _ c.self.invariant.choices.sorted) in
+    stored-with _ _ c.self.invariant (rw (c.put-is_new.ensures.items, c.put.ensures.items) choices) (grind (arith, count, c.put-is_new.ensures.items, c.self.view_is, chosen _ c.args.connection c.self.invariant, c.requires.spare, c.put-is_new.ensures.new, c.from.ensures)) c.put-is_new.ensures.capacity c.put.ensures.capacity
 
 pub returns-clause-choices : goal.returns-clause-choices
 returns-clause-choices c =
     rw (← c.self.view_is, c.put-is_new.ensures.items) (put-is connections_total exact_connections c.self.inside.by_arrival.items c.self.invariant.choices.sorted c.args.connection c.args.choice)
 
 pub returns-clause-spare : goal.returns-clause-spare
-returns-clause-spare c =
-    let some = rw (← c.self.view_is, chosen c.self.inside c.args.connection c.self.invariant) at c.requires.spare in
-    rw (← c.self.view_is, chosen c.self.inside c.args.connection c.self.invariant) (taken _ c.put-is_new.result c.self.inside.spare c.from.result 0 c.put-is_new.ensures.new c.from.ensures some).left
+returns-clause-spare c = grind (arith, c.self.view_is, chosen c.self.inside c.args.connection c.self.invariant, c.requires.spare, c.put-is_new.ensures.new, c.from.ensures)
