@@ -1,5 +1,5 @@
 -- Places of calls by their labels, and what stands at, before and after a place.
-use Rattle.call_lines.proofs.Words.{last_label, option_map, ◌∙◌}
+use Rattle.call_lines.proofs.Words.{last_label, option_map, ◌∙◌, nat_tests, get-old, take-append-drop}
 use Rattle.call_lines.proofs.Words.{◌≡◌, ◌≢◌, ℕ, zero, suc, ◌+◌, ◌-◌, ◌<◌, ◌≤◌, List, [], ◌∷◌, Bool, true, false, length, get_or, take, drop, refl, sym, ap, subst, arith}
 use Rattle.call_lines.proofs.Words.{Option, None, slice_get, find, map, is_some, All, list_any, and_right, length-map, get_or-map, All-drop, Call, before, after, up_to}
 use Rattle.call_lines.proofs.Words.{is_call, calls_between, stands_before, HasDistinctLabels, IsFirst, AreInOrder, eq-eqb, eqb-true, nat_eq-apart}
@@ -50,17 +50,14 @@ at-label [] j l d h m e = absurd (omega arith)
 at-label (c ∷ cs) zero l d h m e = eq-eqb c.label l e
 at-label (c ∷ cs) (suc j) l d h m e = (nat_eq-apart c.label l (λ same. h.0 j d (omega arith) (cc)), at-label cs j l d h.1 (omega arith) e)
 
-other-none : (cs : List Call) (l : ℕ) → All (λ d. l ≢ d.label) cs → list_any (is_call l) cs ≡ false
-other-none [] l h = refl
-other-none (c ∷ cs) l h =
-    let no = nat_eq-apart c.label l (λ e. h 0 c (omega arith) (sym e)) in
-    grind (arith, no, other-none cs l (λ k d m. h (suc k) d (omega arith)))
+other-none : (cs : List Call) (l n : ℕ) → All (λ d. n ≢ d.label) cs → n ≡ l → list_any (is_call l) cs ≡ false
+other-none [] l n h e = refl
+other-none (c ∷ cs) l n h e = grind (arith, nat_tests, h 0 c (omega arith), other-none cs l n (λ k d m. h (suc k) d (omega arith)) e)
 
 pub past-none : (cs : List Call) (j l m : ℕ) → HasDistinctLabels cs → IsFirst (is_call l) j cs → j < m → list_any (is_call l) (drop m cs) ≡ false
 past-none [] j l m d h k = absurd h
 past-none (c ∷ cs) j l zero d h k = absurd (omega arith)
-past-none (c ∷ cs) zero l (suc m) d h k =
-    let same = eqb-true c.label l h in other-none (drop m cs) l (All-drop (λ (d : Call). l ≢ d.label) m cs (rw same at d.0))
+past-none (c ∷ cs) zero l (suc m) d h k = other-none (drop m cs) l c.label (All-drop (λ (d : Call). c.label ≢ d.label) m cs d.0) (eqb-true c.label l h)
 past-none (c ∷ cs) (suc j) l (suc m) d h k = past-none cs j l m d.1 h.1 (omega arith)
 
 later-cut : (from to first last : ℕ) (cs : List Call) → AreInOrder from to first last cs → IsCut (is_call to) (last - suc first) (drop (suc first) cs)
@@ -69,9 +66,7 @@ later-cut from to first last cs w =
 
 -- two calls in order stand so
 pub stands : (from to first last : ℕ) (cs : List Call) → AreInOrder from to first last cs → stands_before from to cs ≡ true
-stands from to first last cs w =
-    let cut = first-cut (is_call from) first cs w.start in
-    rw (cut.some, cut.after_is, (later-cut from to first last cs w).some) refl
+stands from to first last cs w = grind (arith, first-cut (is_call from) first cs w.start, later-cut from to first last cs w)
 
 pub stands-no-first : (from to : ℕ) (cs : List Call) → find (is_call from) cs ≡ None → stands_before from to cs ≡ false
 stands-no-first from to cs h = rw (none-any (is_call from) cs h) refl
@@ -80,14 +75,11 @@ pub stands-no-last : (from to : ℕ) (cs : List Call) → find (is_call to) cs �
 stands-no-last from to cs h = and_right (list_any (is_call from) cs) _ (none-later (is_call to) (is_call from) cs h)
 
 pub stands-not : (from to first last : ℕ) (cs : List Call) → HasDistinctLabels cs → IsFirst (is_call from) first cs → IsFirst (is_call to) last cs → last ≤ first → stands_before from to cs ≡ false
-stands-not from to first last cs d h k l =
-    and_right (list_any (is_call from) cs) _
-    (rw (first-cut (is_call from) first cs h).after_is (past-none cs last to (suc first) d k (omega arith)))
+stands-not from to first last cs d h k l = grind (arith, first-cut (is_call from) first cs h, past-none cs last to (suc first) d k (omega arith))
 
 -- the calls between two calls, by their places
 pub between-at : (from to first last : ℕ) (cs : List Call) → AreInOrder from to first last cs → calls_between from to cs ≡ take (last - suc first) (drop (suc first) cs)
-between-at from to first last cs w =
-    rw (first-cut (is_call from) first cs w.start).after_is (later-cut from to first last cs w).before_is
+between-at from to first last cs w = grind (arith, first-cut (is_call from) first cs w.start, later-cut from to first last cs w)
 
 abbrev pub label_of : Call → ℕ
 label_of c = c.label
@@ -98,31 +90,29 @@ labels-length cs ds e = omega (arith, length-map cs label_of, ap length e, lengt
 -- what holds of the labels of some calls, holds of those of others with the same labels
 pub All-labels : (P : ℕ → Type 0) (cs ds : List Call) → map label_of cs ≡ map label_of ds → All (λ c. P c.label) cs → All (λ c. P c.label) ds
 All-labels P cs ds e h = λ k d l.
-    let m : k < length cs = omega (arith, labels-length cs ds e) in
-    subst P (grind (arith, get_or-map label_of cs k d d.label m, get_or-map label_of ds k d d.label l)) (h k d m)
+    subst P (grind (arith, labels-length cs ds e, get_or-map label_of cs k d d.label, get_or-map label_of ds k d d.label l)) (h k d (omega (arith, labels-length cs ds e)))
 
 pub distinct-labels : (cs ds : List Call) → map label_of cs ≡ map label_of ds → HasDistinctLabels cs → HasDistinctLabels ds
-distinct-labels [] [] e h = tt
+distinct-labels cs [] e h = tt
 distinct-labels [] (d ∷ ds) e h = absurd (cc)
-distinct-labels (c ∷ cs) [] e h = absurd (cc)
 distinct-labels (c ∷ cs) (d ∷ ds) e h =
-    let tail : map label_of cs ≡ map label_of ds = cc in
     let head : c.label ≡ d.label = cc in
-    (All-labels (λ n. d.label ≢ n) cs ds tail (rw head at h.0), distinct-labels cs ds tail h.1)
+    (All-labels (λ n. d.label ≢ n) cs ds (cc) (rw head at h.0), distinct-labels cs ds (cc) h.1)
 
 pub never : {X : Type 0} (o : Option X) → o ≡ None → is_some o ≡ true → ⊥
 never o e h = absurd (cc)
-
--- an element at a place, with what follows it
-pub element : {X : Type 0} (xs : List X) (j : ℕ) → j < length xs → (x : X) × (drop j xs ≡ x ∷ drop (suc j) xs) × (get_or xs j x ≡ x)
-element [] j l = absurd (omega arith)
-element (x ∷ xs) zero l = (x, refl, refl)
-element (x ∷ xs) (suc j) l = element xs j (omega arith)
 
 -- the last label is that at the last place
 pub last-at : (cs : List Call) → last_label cs ≡ option_map label_of (slice_get cs (length cs - 1))
 last-at [] = refl
 last-at (c ∷ []) = refl
 last-at (c ∷ d ∷ ds) =
-    let e : suc (length (d ∷ ds) - 1) ≡ length (c ∷ d ∷ ds) - 1 = omega arith in
-    last-at (d ∷ ds) ∙ ap (λ k. option_map label_of (slice_get (c ∷ d ∷ ds) k)) e
+    let e : suc (length (d ∷ ds) - 1) ≡ length (c ∷ d ∷ ds) - 1 = omega arith in rw (← e) (last-at (d ∷ ds))
+
+pub get-take : {X : Type 0} (n : ℕ) (xs : List X) (k : ℕ) → k < length (take n xs) → slice_get (take n xs) k ≡ slice_get xs k
+get-take n xs k l = sym (get-old (take n xs) (drop n xs) k l) ∙ ap (λ ys. slice_get ys k) (take-append-drop n xs)
+
+pub get-drop : {X : Type 0} (n : ℕ) (xs : List X) (j : ℕ) → slice_get (drop n xs) j ≡ slice_get xs (n + j)
+get-drop zero xs j = ap (slice_get xs) (omega arith)
+get-drop (suc n) [] j = grind arith
+get-drop (suc n) (x ∷ xs) j = grind (arith, get-drop n xs j)

@@ -2,7 +2,6 @@ pub mod CallPlaces
 pub mod EventLemmas
 pub mod LineLemmas
 pub mod LoadedLemmas
-pub mod NextEvents
 pub mod Numbered
 pub mod PartLemmas
 pub mod RenewLemmas

@@ -1,7 +1,7 @@
 -- Walks along links in an arena of slots.
-use Rattle.call_lines.proofs.Words.{◌≡◌, ◌≢◌, ℕ, zero, suc, ◌+◌, ◌-◌, ◌<◌, List, [], ◌∷◌, true, length, refl, sym, ◌∙◌, ap, arith, Some, slice_get, map, All, inl, inr}
-use Rattle.call_lines.proofs.Words.{option_map_or, slice_get_within, slice_get-get_or, slice_get_cases, slice_get_past, All-nil, All-cons, Call, StoredCall, walk}
-use Rattle.call_lines.proofs.Words.{call_of, call_report, next_report_of, report_of, slot_after, IsChained, HasPlaces, HasNextReports, IsLinked}
+use Rattle.call_lines.proofs.Words.{◌≡◌, ◌≢◌, ℕ, zero, suc, ◌+◌, ◌-◌, ◌<◌, List, [], ◌∷◌, true, length, refl, ap, arith, Some, slice_get, map, All, inl, inr}
+use Rattle.call_lines.proofs.Words.{option_map_or, slice_get_within, slice_get_cases, slice_get_past, All-nil, Call, StoredCall, walk}
+use Rattle.call_lines.proofs.Words.{call_of, call_report, next_report_of, report_of, slot_after, IsChained, HasPlaces, HasNextReports, IsLinked, elements, None, length-map}
 use Rattle.call_lines.proofs.CallPlaces.{label_of}
 
 pub walk-next : (cs : List StoredCall) (n s : ℕ) (x : StoredCall) → slice_get cs s ≡ Some x → walk cs (suc n) s ≡ x ∷ walk cs n x.after
@@ -10,6 +10,11 @@ walk-next cs n s x h = ap (λ o. option_map_or (λ (c : StoredCall). c ∷ walk 
 pub walk-some : (cs : List StoredCall) (n s : ℕ) (x : StoredCall) → n ≢ 0 → slice_get cs s ≡ Some x → walk cs n s ≡ x ∷ walk cs (n - 1) x.after
 walk-some cs zero s x some h = absurd (some refl)
 walk-some cs (suc n) s x some h = grind (arith, walk-next cs n s x h)
+
+-- no calls are left where there is none
+pub walk-none : (cs : List StoredCall) (n s : ℕ) → slice_get cs s ≡ None → walk cs n s ≡ []
+walk-none cs zero s h = refl
+walk-none cs (suc n) s h = rw h refl
 
 -- a line of linked calls is what a walk gives
 pub walk-linked : (cs xs : List StoredCall) (train place before slot : ℕ) → IsLinked cs train place before slot xs → walk cs (length xs) slot ≡ xs
@@ -25,9 +30,7 @@ pub walk-at : (cs : List StoredCall) (n s k : ℕ) → k < length (walk cs n s) 
 walk-at cs zero s k l = absurd (omega arith)
 walk-at cs (suc n) s zero l = let x = walk-begins cs n s l in rw x.1 refl
 walk-at cs (suc n) s (suc k) l =
-    let x = walk-begins cs n s (omega arith) in
-    let v = rw x.1 at l in
-    rw x.1 (walk-at cs n x.0.after k (omega arith))
+    let x = walk-begins cs n s (omega arith) in rw x.1 (walk-at cs n x.0.after k (omega (arith, rw x.1 at l)))
 
 -- what is known of a call at a place of a linked line
 pub record IsAt (train place : ℕ) (x : StoredCall) : Type 0 where
@@ -70,61 +73,43 @@ pub record IsLineChange (t : ℕ) (g : Call → Call) (cs ds : List StoredCall) 
 module _ (t : ℕ) (g : Call → Call) (cs ds : List StoredCall) (w : IsLineChange t g cs ds) where
   -- each call was one before
   pub changed-back : (i : ℕ) (y : StoredCall) → slice_get ds i ≡ Some y → (x : StoredCall) × (slice_get cs i ≡ Some x) × IsChangedBy t g x y
-  changed-back i y h =
-      let is = slice_get-get_or cs i y (omega (arith, slice_get_within ds i y h, w.count)) in
-      let k = w.at i _ is in
-      let same : k.0 ≡ y = (let e = k.1 in cc) in
-      (_, is, rw same at k.2)
+  changed-back i y h = grind (arith, h, w.count, slice_get_within ds i y h, slice_get_cases cs i, w.at i)
 
   pub step : (n slot : ℕ) (x : StoredCall) (h : slice_get cs slot ≡ Some x) → walk ds (suc n) slot ≡ (w.at slot x h).0 ∷ walk ds n x.after
   step n slot x h = let k = w.at slot x h in rw (k.1, k.2.after_same) refl
 
-  pub changed-length : (u place before slot : ℕ) (xs : List StoredCall) → IsLinked cs u place before slot xs → length (walk ds (length xs) slot) ≡ length xs
-  changed-length u place before slot [] h = refl
-  changed-length u place before slot (x ∷ xs) h = rw (step (length xs) slot x h.0, changed-length u (place + 1) slot x.after xs h.2) refl
-
   pub changed-calls : (u place before slot : ℕ) (xs : List StoredCall) → IsLinked cs u place before slot xs → u ≡ t → map call_of (walk ds (length xs) slot) ≡ map g (map call_of xs)
   changed-calls u place before slot [] h e = refl
-  changed-calls u place before slot (x ∷ xs) h e =
-      rw (step (length xs) slot x h.0, (w.at slot x h.0).2.call_is (h.1.train_is ∙ e), changed-calls u (place + 1) slot x.after xs h.2 e) refl
+  changed-calls u place before slot (x ∷ xs) h e = grind (arith, step (length xs) slot x h.0, w.at slot x h.0, h.1, changed-calls u (place + 1) slot x.after xs h.2 e)
 
   pub changed-labels : (u place before slot : ℕ) (xs : List StoredCall) → IsLinked cs u place before slot xs → map label_of (map call_of (walk ds (length xs) slot)) ≡ map label_of (map call_of xs)
   changed-labels u place before slot [] h = refl
-  changed-labels u place before slot (x ∷ xs) h =
-      rw (step (length xs) slot x h.0, (w.at slot x h.0).2.label_same, changed-labels u (place + 1) slot x.after xs h.2) refl
+  changed-labels u place before slot (x ∷ xs) h = grind (arith, step (length xs) slot x h.0, w.at slot x h.0, changed-labels u (place + 1) slot x.after xs h.2)
+
+  pub changed-length : (u place before slot : ℕ) (xs : List StoredCall) → IsLinked cs u place before slot xs → length (walk ds (length xs) slot) ≡ length xs
+  changed-length u place before slot xs h = simp length-map at (ap length (changed-labels u place before slot xs h))
 
   -- the calls of another train stay
   pub changed-other : (u place before slot : ℕ) (xs : List StoredCall) → IsLinked cs u place before slot xs → u ≢ t → IsLinked ds u place before slot xs
   changed-other u place before slot [] h e = tt
-  changed-other u place before slot (x ∷ xs) h e =
-      let k = w.at slot x h.0 in
-      (k.1 ∙ ap Some (k.2.other (λ same. e (sym h.1.train_is ∙ same))), h.1, changed-other u (place + 1) slot x.after xs h.2 e)
+  changed-other u place before slot (x ∷ xs) h e = grind (arith, w.at slot x h.0, h.1, changed-other u (place + 1) slot x.after xs h.2 e)
 
   pub changed-linked : (u place before slot : ℕ) (xs : List StoredCall) → IsLinked cs u place before slot xs → HasPlaces place (walk ds (length xs) slot) → IsLinked ds u place before slot (walk ds (length xs) slot)
   changed-linked u place before slot [] h p = tt
-  changed-linked u place before slot (x ∷ xs) h p =
-      let k = w.at slot x h.0 in
-      let q = rw (step (length xs) slot x h.0) at p in
-      rw (step (length xs) slot x h.0) (k.1, grind (arith, k.2, h.1, q.0), rw k.2.after_same (changed-linked u (place + 1) slot x.after xs h.2 q.1))
+  changed-linked u place before slot (x ∷ xs) h p = grind (arith, step (length xs) slot x h.0, w.at slot x h.0, h.1, p, changed-linked u (place + 1) slot x.after xs h.2)
 
   pub changed-chained : (u place before slot : ℕ) (xs : List StoredCall) → IsLinked cs u place before slot xs → IsChained ds before slot (walk ds (length xs) slot)
   changed-chained u place before slot [] h = tt
-  changed-chained u place before slot (x ∷ xs) h =
-      let k = w.at slot x h.0 in
-      rw (step (length xs) slot x h.0) (k.1, k.2.before_same ∙ h.1.before_is, rw k.2.after_same (changed-chained u (place + 1) slot x.after xs h.2))
+  changed-chained u place before slot (x ∷ xs) h = grind (arith, step (length xs) slot x h.0, w.at slot x h.0, h.1, changed-chained u (place + 1) slot x.after xs h.2)
 
   pub changed-mine : (u place before slot : ℕ) (xs : List StoredCall) → IsLinked cs u place before slot xs → All (λ (x : StoredCall). x.train ≡ u) (walk ds (length xs) slot)
   changed-mine u place before slot [] h = All-nil (λ (x : StoredCall). x.train ≡ u)
-  changed-mine u place before slot (x ∷ xs) h =
-      rw (step (length xs) slot x h.0) (All-cons (λ (x : StoredCall). x.train ≡ u) _ _ ((w.at slot x h.0).2.train_same ∙ h.1.train_is) (changed-mine u (place + 1) slot x.after xs h.2))
+  changed-mine u place before slot (x ∷ xs) h = grind (arith, elements, step (length xs) slot x h.0, w.at slot x h.0, h.1, changed-mine u (place + 1) slot x.after xs h.2)
 
   -- steps lead to the same slots
   pub changed-after : (k slot : ℕ) → slot_after ds k slot ≡ slot_after cs k slot
   changed-after zero slot = refl
-  changed-after (suc k) slot = elim (slice_get_cases cs slot).1 [
-    | inl x ↦ (let y = w.at slot x.0 x.2 in rw (x.2, y.1, y.2.after_same) (changed-after k x.0.after))
-    | inr none ↦ rw (none.1, slice_get_past ds slot (omega (arith, none.0, w.count))) (changed-after k slot)
-  ]
+  changed-after (suc k) slot = grind (arith, slice_get_cases cs slot, w.at slot, slice_get_past ds slot, w.count, λ (s : ℕ). changed-after k s)
 
 -- the first report is that of each call
 pub reports-same : (g : Call → Call) (cs : List Call) → ((c : Call) → call_report (g c) ≡ call_report c) → report_of (map g cs) ≡ report_of cs
@@ -140,20 +125,16 @@ module _ (t : ℕ) (g : Call → Call) (cs ds : List StoredCall) (w : IsLineChan
   pub kept-places : (u place before slot : ℕ) (xs : List StoredCall) → IsLinked cs u place before slot xs → HasPlaces place (walk ds (length xs) slot)
   kept-places u place before slot [] h = tt
   kept-places u place before slot (x ∷ xs) h =
-      let k = w.at slot x h.0 in
-      rw (step t g cs ds w (length xs) slot x h.0) ((keeps slot x k.0 h.0 k.1).place_same ∙ h.1.place_is, kept-places u (place + 1) slot x.after xs h.2)
+      let k = w.at slot x h.0 in grind (arith, step t g cs ds w (length xs) slot x h.0, keeps slot x k.0 h.0 k.1, h.1, kept-places u (place + 1) slot x.after xs h.2)
 
   pub kept-reports : (u place before slot : ℕ) (xs : List StoredCall) → IsLinked cs u place before slot xs → u ≡ t → HasNextReports xs → HasNextReports (walk ds (length xs) slot)
   kept-reports u place before slot [] h e r = tt
   kept-reports u place before slot (x ∷ xs) h e r =
       let k = w.at slot x h.0 in
-      let rest = changed-calls t g cs ds w u (place + 1) slot x.after xs h.2 e in
-      rw (step t g cs ds w (length xs) slot x h.0)
-      (rw (rest, reports-same g (map call_of xs) same) ((keeps slot x k.0 h.0 k.1).next_same ∙ r.0), kept-reports u (place + 1) slot x.after xs h.2 e r.1)
+      grind (arith, step t g cs ds w (length xs) slot x h.0, changed-calls t g cs ds w u (place + 1) slot x.after xs h.2 e, reports-same g (map call_of xs) same, keeps slot x k.0 h.0 k.1, r.0, kept-reports u (place + 1) slot x.after xs h.2 e r.1)
 
 -- linked calls lie in the same slots where each slot keeps its call
 pub kept-after : (cs ds xs : List StoredCall) (train place before slot k : ℕ) → ((i : ℕ) (x : StoredCall) → slice_get cs i ≡ Some x → slice_get ds i ≡ Some x) → IsLinked cs train place before slot xs → k < length xs → slot_after ds k slot ≡ slot_after cs k slot
 kept-after cs ds [] train place before slot k same h l = absurd (omega arith)
 kept-after cs ds (x ∷ xs) train place before slot zero same h l = refl
-kept-after cs ds (x ∷ xs) train place before slot (suc k) same h l =
-    rw (same slot x h.0, h.0) (kept-after cs ds xs train (place + 1) slot x.after k same h.2 (omega arith))
+kept-after cs ds (x ∷ xs) train place before slot (suc k) same h l = grind (arith, same slot x h.0, h.0, kept-after cs ds xs train (place + 1) slot x.after k same h.2)

@@ -1,38 +1,28 @@
 -- Calls as the timetable gives them, laid one after the other, and as the model has them.
-use Rattle.call_lines.proofs.Words.{◌≡◌, ℕ, suc, ◌+◌, ◌-◌, ◌≤◌, inl, inr, List, ◌∷◌, ◌++◌, Some, None, length, refl, sym, ◌∙◌, ap, arith, map, slice_get}
-use Rattle.call_lines.proofs.Words.{cases_lt, length-map, length-append, NewCall, Call, Train, begin_run, end_run, new_calls, new_train, TableCall, StoredCall}
-use Rattle.call_lines.proofs.Words.{last_label, report_of, IsLaid, AreLaid, table_call, table_calls, call_at, loaded_from, loaded_train, by_table, nat_tests, get-more}
-use Rattle.call_lines.proofs.Words.{get-end, []}
+use Rattle.call_lines.proofs.Words.{◌≡◌, ℕ, suc, ◌+◌, ◌-◌, ◌≤◌, List, ◌∷◌, ◌++◌, Some, None, length, refl, ◌∙◌, ap, arith, map, slice_get}
+use Rattle.call_lines.proofs.Words.{length-map, length-append, NewCall, Call, begin_run, end_run, new_calls, new_train, TableCall, StoredCall, last_label, report_of}
+use Rattle.call_lines.proofs.Words.{IsLaid, AreLaid, table_call, table_calls, call_at, loaded_from, loaded_train, by_table, nat_tests, get-more, get-end, []}
 
 -- one more call is laid
 pub laid-more : (train first count place : ℕ) (calls : List TableCall) (c : TableCall) (call : Call) (old mid new : List StoredCall) → AreLaid train first calls place old mid → slice_get calls place ≡ Some c → count ≡ length calls → call ≡ call_at count place c → (x : StoredCall) × (new ≡ mid ++ x ∷ []) × IsLaid train first count place call x → AreLaid train first calls (place + 1) old new
 laid-more train first count place calls c call old mid new w there count-is call-is k =
     let x = k.0 in
-    let more : length new ≡ length mid + 1 = omega (arith, ap length k.1, length-append mid (x ∷ [])) in
     record {
-      count = omega (arith, w.count);
+      count = omega (arith, w.count, ap length k.1, length-append mid (x ∷ []));
       stay = λ i z is. rw k.1 (get-more mid (x ∷ []) i z (w.stay i z is));
-      added = λ at d l is. elim (cases_lt at place) [
-        | inl before ↦ (let z = w.added at d before is in (z.0, rw k.1 (get-more mid (x ∷ []) (length old + at) z.0 z.1), z.2))
-        | inr past ↦ (
-            let here : at ≡ place = omega arith in
-            let same : c ≡ d = (let e = ap (slice_get calls) here in cc) in
-            (x, rw k.1 (get-end mid [] x (length old + at) (omega (arith, w.count))), rw (here, ← same, ← count-is, ← call-is) k.2))
-      ];
+      added = λ at d l is. grind (arith, k, there, is, w.count, w.added at d, get-more mid (x ∷ []) (length old + at), get-end mid [] x (length old + at));
     }
 
 later-loaded : (count k : ℕ) (cs : List TableCall) → 1 ≤ k → count ≡ k + length cs → loaded_from count k cs ≡ end_run (table_calls k cs)
 later-loaded count k [] l e = refl
 later-loaded count k (c ∷ []) l e = grind (arith, nat_tests)
-later-loaded count k (c ∷ d ∷ ds) l e =
-    grind (arith, nat_tests, later-loaded count (k + 1) (d ∷ ds) (omega arith) (omega arith))
+later-loaded count k (c ∷ d ∷ ds) l e = grind (arith, nat_tests, later-loaded count (k + 1) (d ∷ ds))
 
 -- the calls that are stored are those of the train
 pub loaded-is : (cs : List TableCall) → loaded_from (length cs) 0 cs ≡ begin_run (end_run (table_calls 0 cs))
 loaded-is [] = refl
 loaded-is (c ∷ []) = refl
-loaded-is (c ∷ d ∷ ds) =
-    grind (arith, nat_tests, later-loaded (length (c ∷ d ∷ ds)) (0 + 1) (d ∷ ds) (omega arith) (omega arith))
+loaded-is (c ∷ d ∷ ds) = grind (arith, nat_tests, later-loaded (length (c ∷ d ∷ ds)) (0 + 1) (d ∷ ds))
 
 pub length-loaded : (count k : ℕ) (cs : List TableCall) → length (loaded_from count k cs) ≡ length cs
 length-loaded count k [] = refl
@@ -47,10 +37,7 @@ pub extra-train : (day route : ℕ) (cs : List NewCall) → loaded_train day rou
 extra-train day route cs = rw (length-map cs by_table, extra-calls 0 cs) refl
 
 pub extra-length : (day route : ℕ) (cs : List NewCall) → length (new_train day route cs).calls ≡ length cs
-extra-length day route cs =
-    let calls = map by_table cs in
-    ap (λ (t : Train). length t.calls) (sym (extra-train day route cs))
-    ∙ ap length (sym (loaded-is calls)) ∙ length-loaded (length calls) 0 calls ∙ length-map cs by_table
+extra-length day route cs = grind (arith, extra-train day route cs, loaded-is (map by_table cs), length-loaded (length (map by_table cs)) 0 (map by_table cs), length-map cs by_table)
 
 pub loaded-report : (count k : ℕ) (cs : List TableCall) → report_of (loaded_from count k cs) ≡ None
 loaded-report count k [] = refl

@@ -1,5 +1,5 @@
 -- Calls whose labels count up.
-use Rattle.call_lines.proofs.Words.{◌≡◌, ◌≢◌, ℕ, suc, ◌+◌, ◌<◌, ◌≤◌, List, [], ◌∷◌, length, refl, ap, arith, All, All-nil}
+use Rattle.call_lines.proofs.Words.{◌≡◌, ℕ, suc, ◌+◌, ◌<◌, ◌≤◌, List, [], ◌∷◌, length, refl, ap, arith, All, All-nil}
 use Rattle.call_lines.proofs.Words.{All-weaker, elements, NewCall, Call, new_calls, HasDistinctLabels, TableCall, loaded_from}
 
 -- the calls are labelled from `label` on
@@ -18,9 +18,7 @@ numbered-below k next (c ∷ cs) h l = grind (arith, elements, h.0, numbered-bel
 -- their labels differ
 pub numbered-distinct : (k : ℕ) (cs : List Call) → AreNumbered k cs → HasDistinctLabels cs
 numbered-distinct k [] h = tt
-numbered-distinct k (c ∷ cs) h =
-    let at : c.label ≡ k = h.0 in
-    (All-weaker (λ d. k + 1 ≤ d.label) (λ d. c.label ≢ d.label) (λ d l e. absurd (omega arith)) cs (numbered-from (k + 1) cs h.1), numbered-distinct (k + 1) cs h.1)
+numbered-distinct k (c ∷ cs) h = grind (arith, elements, h.0, numbered-from (k + 1) cs h.1, numbered-distinct (k + 1) cs h.1)
 
 pub numbered-loaded : (count k : ℕ) (cs : List TableCall) → AreNumbered k (loaded_from count k cs)
 numbered-loaded count k [] = tt

@@ -1,7 +1,7 @@
 -- The stored calls of a train by the slots of its places.
-use Rattle.call_lines.proofs.Words.{HasDistinctLabels, ◌≡◌, ℕ, zero, suc, ◌+◌, ◌-◌, ◌<◌, ◌≤◌, inl, inr, List, [], ◌∷◌, true, None, Some, length, refl, sym, ◌∙◌, ap}
-use Rattle.call_lines.proofs.Words.{subst, arith, slice_get, map, cases_lt, slice_get_past, slice_get_within, get_or_from_slice_get, option_map_or, IsLineAt, IsPlacedAt}
-use Rattle.call_lines.proofs.Words.{walk, call_of, HasPlaces, slot_after, IsLine, IsRenewed, IsChained, IsLinked, StoredCall}
+use Rattle.call_lines.proofs.Words.{HasDistinctLabels, ◌≡◌, ℕ, zero, suc, ◌+◌, ◌-◌, ◌<◌, ◌≤◌, List, [], ◌∷◌, true, None, Some, length, refl, ◌∙◌, ap}
+use Rattle.call_lines.proofs.Words.{arith, slice_get, map, slice_get_past, slice_get_within, get_or_from_slice_get, option_map_or, IsLineAt, IsPlacedAt}
+use Rattle.call_lines.proofs.Words.{walk, call_of, HasPlaces, slot_after, IsLine, IsRenewed, IsChained, IsLinked, StoredCall, slice_get_cases, inl, inr}
 use Rattle.call_lines.proofs.LineLemmas.{walk-at}
 
 -- what stands at a place is one element
@@ -10,16 +10,12 @@ one-of xs i x y h k = cc
 
 -- there is one at each place of a list
 pub some-of : {X : Type 0} (xs : List X) (i : ℕ) → i < length xs → (x : X) × (slice_get xs i ≡ Some x)
-some-of [] i l = absurd (omega arith)
-some-of (x ∷ xs) zero l = (x, refl)
-some-of (x ∷ xs) (suc i) l = some-of xs i (omega arith)
+some-of xs i l = elim (slice_get_cases xs i).1 [ inl x ↦ (x.0, x.2) | inr none ↦ absurd (omega arith) ]
 
 -- of calls that know their places, from one on
 places-at : (xs : List StoredCall) (place k : ℕ) (x : StoredCall) → HasPlaces place xs → slice_get xs k ≡ Some x → x.place ≡ place + k
 places-at [] place k x h e = absurd (cc)
-places-at (y ∷ xs) place zero x h e =
-    let same : y ≡ x = cc in
-    ap (λ (c : StoredCall). c.place) (sym same) ∙ h.0 ∙ omega arith
+places-at (y ∷ xs) place zero x h e = grind (arith, h.0)
 places-at (y ∷ xs) place (suc k) x h e = places-at xs (place + 1) k x h.1 e ∙ omega arith
 
 -- lists with the same elements are one
@@ -27,57 +23,39 @@ pub same-gets : {X : Type 0} (xs ys : List X) → ((k : ℕ) → slice_get xs k 
 same-gets [] [] h = refl
 same-gets [] (y ∷ ys) h = let e : None ≡ Some y = h 0 in absurd (cc)
 same-gets (x ∷ xs) [] h = let e : Some x ≡ None = h 0 in absurd (cc)
-same-gets (x ∷ xs) (y ∷ ys) h =
-    let e : Some x ≡ Some y = h 0 in
-    let rest = same-gets xs ys (λ k. h (suc k)) in cc
+same-gets (x ∷ xs) (y ∷ ys) h = cc (h 0, same-gets xs ys (λ k. h (suc k)))
 
 -- lists of one length with the same elements are one
 pub same-within : {X : Type 0} (xs ys : List X) → length xs ≡ length ys → ((k : ℕ) → k < length xs → slice_get xs k ≡ slice_get ys k) → xs ≡ ys
-same-within xs ys e h =
-    same-gets xs ys (λ k. elim (cases_lt k (length xs)) [
-      | inl within ↦ h k within
-      | inr past ↦ slice_get_past xs k past ∙ sym (slice_get_past ys k (omega arith))
-    ])
+same-within xs ys e h = same-gets xs ys (λ k. grind (arith, h k, slice_get_past xs k, slice_get_past ys k))
 
 module _ (cs : List StoredCall) (train len : ℕ) (at : ℕ → ℕ) (w : IsLineAt cs train len at) where
   -- so many steps along a train lead from place to place
   pub slot-at : (n j : ℕ) → j + n < len → slot_after cs n (at j) ≡ at (j + n)
   slot-at zero j l = let e : j ≡ j + 0 = omega arith in ap at e
-  slot-at (suc n) j l =
-      let c = w.calls j (omega arith) in
-      let e : j + 1 + n ≡ j + suc n = omega arith in
-      rw (c.stored, c.after_is (omega arith)) (slot-at n (j + 1) (omega arith) ∙ ap at e)
-
-  first-steps : (k : ℕ) → k < len → slot_after cs k (at 0) ≡ at k
-  first-steps k l = let e : 0 + k ≡ k = omega arith in slot-at k 0 (omega arith) ∙ ap at e
+  slot-at (suc n) j l = grind (arith, w.calls j (omega arith), slot-at n (j + 1) (omega arith))
 
   -- a walk along it finds so many calls, which lead to one another
   walked : (n j before s : ℕ) → j + n ≤ len → (0 < n → before ≡ at (j - 1)) → (0 < n → s ≡ at j) → (length (walk cs n s) ≡ n) × IsChained cs before s (walk cs n s)
   walked zero j before s l b e = (refl, tt)
   walked (suc n) j before s l b e =
       let c = w.calls j (omega arith) in
-      let here = ap (slice_get cs) (e (omega arith)) ∙ c.stored in
-      let back : j ≡ j + 1 - 1 = omega arith in
-      let rest = walked n (j + 1) s c.call.after (omega arith) (λ m. e (omega arith) ∙ ap at back) (λ m. c.after_is (omega arith)) in
-      rw here (ap suc rest.0, (here, c.before_is ∙ sym (b (omega arith)), rest.1))
+      grind (arith, b, e, c.stored, c.before_is, walked n (j + 1) s c.call.after (omega arith) (λ m. grind (arith, e)) (λ m. c.after_is (omega arith)))
 
   pub line-length : length (walk cs len (at 0)) ≡ len
   line-length = (walked len 0 (at 0) (at 0) (omega arith) (λ l. refl) (λ l. refl)).0
 
   -- its calls by place
   pub line-at : (k : ℕ) → k < len → slice_get (walk cs len (at 0)) k ≡ slice_get cs (at k)
-  line-at k l = walk-at cs len (at 0) k (omega (arith, line-length)) ∙ ap (slice_get cs) (first-steps k l)
+  line-at k l = grind (arith, walk-at cs len (at 0) k, slot-at k 0, line-length)
 
   pub line-of : 0 < len → HasDistinctLabels (map call_of (walk cs len (at 0))) → IsLine train (at 0) (at (len - 1)) len cs
   line-of l distinct =
       record {
         whole = line-length;
         chained = (walked len 0 (at 0) (at 0) (omega arith) (λ l. refl) (λ l. refl)).1;
-        mine = λ k d m.
-            let n = line-length in
-            let c = w.calls k (omega arith) in
-            ap (λ (x : StoredCall). x.train) (get_or_from_slice_get (walk cs len (at 0)) k c.call d (line-at k (omega arith) ∙ c.stored)) ∙ c.train_is;
-        ends = first-steps (len - 1) (omega arith);
+        mine = λ k d m. grind (arith, w.calls k (omega (arith, line-length)), line-at k (omega (arith, line-length)), λ (x : StoredCall). get_or_from_slice_get (walk cs len (at 0)) k x d);
+        ends = grind (arith, slot-at (len - 1) 0);
         apart = distinct;
       }
 
@@ -86,14 +64,7 @@ module _ (cs : List StoredCall) (train len : ℕ) (at : ℕ → ℕ) (w : IsPlac
   linked zero j before s l b e = tt
   linked (suc n) j before s l b e =
       let c = w.line.calls j (omega arith) in
-      let here = ap (slice_get cs) (e (omega arith)) ∙ c.stored in
-      let back : j ≡ j + 1 - 1 = omega arith in
-      let place = w.places j c.call (omega arith) c.stored in
-      rw here (
-        here,
-        record { train_is = c.train_is; place_is = place; before_is = c.before_is ∙ sym (b (omega arith)); is_current = c.is_current },
-        linked n (j + 1) s c.call.after (omega arith) (λ m. e (omega arith) ∙ ap at back) (λ m. c.after_is (omega arith)),
-      )
+      grind (arith, b, e, c, w.places j c.call (omega arith) c.stored, linked n (j + 1) s c.call.after (omega arith) (λ m. grind (arith, e)) (λ m. c.after_is (omega arith)))
 
   -- a train whose calls know their places is linked
   pub placed-linked : (n j : ℕ) → j + n ≤ len → IsLinked cs train j (at (j - 1)) (at j) (walk cs n (at j))
@@ -101,31 +72,16 @@ module _ (cs : List StoredCall) (train len : ℕ) (at : ℕ → ℕ) (w : IsPlac
 
   -- a call of the train stands at its place
   pub placed-at : (i : ℕ) (x : StoredCall) → slice_get cs i ≡ Some x → x.train ≡ train → x.current ≡ true → (x.place < len) × (at x.place ≡ i)
-  placed-at i x h t c =
-      let k = w.line.covers i x h t c in
-      let e = w.places k.0 x k.1 (ap (slice_get cs) k.2 ∙ h) in (subst (λ n. n < len) (sym e) k.1, ap at e ∙ k.2)
+  placed-at i x h t c = grind (arith, h, w.line.covers i x h t c, w.places)
 
 -- what a train's calls are after they got their places anew
 pub renewed-line : (old new : List StoredCall) (train len : ℕ) (at : ℕ → ℕ) → IsLineAt old train len at → IsRenewed train (at 0) len old new → IsPlacedAt new train len at
 renewed-line old new train len at w r =
     let line : IsLineAt new train len at = record {
-      calls = λ k l.
-          let c = w.calls k l in
-          let y = r.alike (at k) c.call c.stored in
-          record {
-            call = y.now;
-            stored = y.there;
-            train_is = ap (λ (x : StoredCall). x.train) y.same ∙ c.train_is;
-            is_current = ap (λ (x : StoredCall). x.current) y.same ∙ c.is_current;
-            after_is = λ m. ap (λ (x : StoredCall). x.after) y.same ∙ c.after_is m;
-            before_is = ap (λ (x : StoredCall). x.before) y.same ∙ c.before_is;
-          };
+      calls = λ k l. (let c = w.calls k l in let y = r.alike (at k) c.call c.stored in grind (arith, c, y));
       covers = λ i y h t c.
-          let n = r.same_count in
-          let x = some-of old i (omega (arith, slice_get_within new i y h)) in
-          let z = r.alike i x.0 x.1 in
-          let same = one-of new i y z.now h z.there ∙ z.same in
-          w.covers i x.0 x.1 (sym (ap (λ (x : StoredCall). x.train) same) ∙ t) (sym (ap (λ (x : StoredCall). x.current) same) ∙ c);
+          let x = some-of old i (omega (arith, slice_get_within new i y h, r.same_count)) in
+          grind (arith, h, t, c, x, r.alike i x.0 x.1, w.covers i x.0 x.1);
     } in
     record {
       line = line;
@@ -144,10 +100,7 @@ slot_back cs before s (suc k) = slot_after cs k s
 pub linked-back : (cs xs : List StoredCall) (train place before s k : ℕ) (x : StoredCall) → IsLinked cs train place before s xs → slice_get xs k ≡ Some x → x.before ≡ slot_back cs before s k
 linked-back cs [] train place before s k x h e = absurd (cc)
 linked-back cs (y ∷ xs) train place before s zero x h e = let same : y ≡ x = cc in rw (← same) h.1.before_is
-linked-back cs (y ∷ xs) train place before s (suc zero) x h e = linked-back cs xs train (place + 1) s y.after zero x h.2 e
-linked-back cs (y ∷ xs) train place before s (suc (suc k)) x h e =
-    rw h.0 (linked-back cs xs train (place + 1) s y.after (suc k) x h.2 e)
+linked-back cs (y ∷ xs) train place before s (suc k) x h e = grind (arith, h.0, linked-back cs xs train (place + 1) s y.after k x h.2 e)
 
 pub back-one : (cs : List StoredCall) (s k : ℕ) → slot_back cs s s k ≡ slot_after cs (k - 1) s
-back-one cs s zero = refl
-back-one cs s (suc k) = let e : k ≡ suc k - 1 = omega arith in ap (λ j. slot_after cs j s) e
+back-one cs s k = grind arith

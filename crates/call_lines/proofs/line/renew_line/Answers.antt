@@ -1,4 +1,4 @@
-use Rattle.call_lines.proofs.Words.{◌≡◌, ◌-◌, ◌∙◌, ap, arith, refl, get_or-set_same, StoredCall}
+use Rattle.call_lines.proofs.Words.{◌≡◌, ◌-◌, arith, refl, get_or-set_same}
 use Rattle.call_lines.proofs.RenewLemmas.{begins, ends, inside, goes-on}
 use Rattle.call_lines.proofs.line.renew_line.Goals as goal
 
@@ -7,32 +7,24 @@ loop-place-init c = (refl, λ train first h. begins train first c.args.last c.ar
 
 pub returns-clause-renewed : goal.returns-clause-renewed
 returns-clause-renewed c = λ train first h.
-    let none : c.loop-place.place ≡ 0 = let test = c.loop-place-test.false in omega arith in
+    let none : c.loop-place.place ≡ 0 = omega arith in
     ends train first c.args.last c.args.len c.loop-place.slot c.args.calls.now.items c.loop-place.calls.items c.loop-place.next_report h (rw none at c.loop-place.invariant.1 train first h)
 
 pub loop-place-preserved-then-slot-len : goal.loop-place-preserved-then-slot-len
 loop-place-preserved-then-slot-len c = (
   c.loop-place.invariant.0,
   λ train first h.
-      let test = c.loop-place-test.true in
       let l = c.loop-place in
-      let x = c.index_mut.result.now in
       let y = c.renew-next_report.new.self in
-      let within = c.if-slot-len.true in
-      let count = c.len.ensures in
-      let leads : c.before-slot.result ≡ y.before = c.before-slot.ensures ∙ ap (λ (d : StoredCall). d.before) (c.index.ensures ∙ get_or-set_same l.calls.items l.slot y c.index.result.now (omega arith)) in
-      goes-on train first c.args.last c.args.len c.args.calls.now.items h l.place (l.place - 1) l.slot l.calls.items l.next_report (l.invariant.1 train first h) (omega arith) x c.index_mut.ensures.value
-      y c.renew-next_report.result c.before-slot.result c.renew-next_report.ensures.rest c.renew-next_report.ensures.next c.renew-next_report.ensures.report leads,
+      goes-on train first c.args.last c.args.len c.args.calls.now.items h l.place (l.place - 1) l.slot l.calls.items l.next_report (l.invariant.1 train first h) (omega arith) c.index_mut.result.now c.index_mut.ensures.value
+      y c.renew-next_report.result c.before-slot.result c.renew-next_report.ensures.rest c.renew-next_report.ensures.next c.renew-next_report.ensures.report
+      (grind (arith, c.before-slot.ensures, c.index.ensures, get_or-set_same l.calls.items l.slot y c.index.result.now (omega arith))),
 )
 
 pub loop-place-preserved : goal.loop-place-preserved
 loop-place-preserved c = (
   c.loop-place.invariant.0,
   λ train first h.
-      let test = c.loop-place-test.true in
-      let out = c.if-slot-len.false in
       let l = c.loop-place in
-      let count = c.len.ensures in
-      let within = inside train first c.args.last c.args.len c.args.calls.now.items h l.place (l.place - 1) l.slot l.calls.items l.next_report (l.invariant.1 train first h) (omega arith) in
-      absurd (omega arith),
+      absurd (omega (arith, inside train first c.args.last c.args.len c.args.calls.now.items h l.place (l.place - 1) l.slot l.calls.items l.next_report (l.invariant.1 train first h) (omega arith))),
 )

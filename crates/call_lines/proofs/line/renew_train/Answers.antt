@@ -1,4 +1,4 @@
-use Rattle.call_lines.proofs.Words.{◌-◌, sym, ap, ◌∙◌, slot_of, loaded-read, last-there}
+use Rattle.call_lines.proofs.Words.{sym, ap, ◌∙◌, slot_of, loaded-read, last-there, arith}
 use Rattle.call_lines.proofs.line.renew_train.Goals as goal
 
 pub overflow_sub-last : goal.overflow_sub-last
@@ -7,14 +7,10 @@ overflow_sub-last c =
 
 pub returns-in-Some-clause-renewed : goal.returns-in-Some-clause-renewed
 returns-in-Some-clause-renewed c = λ first line.
-    let nb = c.args.slots.now in
-    let t = c.args.t in
-    let w = loaded-read nb.trains t c.loaded-last.result c.numbers_are_lawful.ensures.loaded c.loaded-last.ensures in
-    c.renew_line.ensures.renewed t first
-    (line w.train c.in-Some.slot w.there (ap (λ k. slot_of nb t (k - 1)) w.loaded ∙ ap (slot_of nb t) (sym c.new.ensures) ∙ sym c.slot.ensures ∙ c.in-Some.is))
+    let w = loaded-read c.args.slots.now.trains c.args.t c.loaded-last.result c.numbers_are_lawful.ensures.loaded c.loaded-last.ensures in
+    c.renew_line.ensures.renewed c.args.t first (line w.train c.in-Some.slot w.there (grind (arith, w.loaded, c.new.ensures, c.slot.ensures, c.in-Some.is)))
 
 pub returns-in_default-clause-renewed : goal.returns-in_default-clause-renewed
 returns-in_default-clause-renewed c =
-    let nb = c.args.slots.now in
-    let w = loaded-read nb.trains c.args.t c.loaded-last.result c.numbers_are_lawful.ensures.loaded c.loaded-last.ensures in
-    absurd (last-there nb c.args.t c.loaded-last.result w (ap (slot_of nb c.args.t) (sym c.new.ensures) ∙ sym c.slot.ensures ∙ c.in_default.is))
+    let w = loaded-read c.args.slots.now.trains c.args.t c.loaded-last.result c.numbers_are_lawful.ensures.loaded c.loaded-last.ensures in
+    absurd (last-there c.args.slots.now c.args.t c.loaded-last.result w (ap (slot_of c.args.slots.now c.args.t) (sym c.new.ensures) ∙ sym c.slot.ensures ∙ c.in_default.is))

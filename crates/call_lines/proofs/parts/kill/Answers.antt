@@ -1,11 +1,11 @@
-use Rattle.call_lines.proofs.Words.{◌≡◌, refl, ap, subst, arith, set, length-set, IsKilled, StoredCall}
-use Rattle.call_lines.proofs.PartLemmas.{begins, kill-begun, kill-more, next-slot, stands-within}
+use Rattle.call_lines.proofs.Words.{◌≡◌, refl, arith, set, length-set, nat_tests}
+use Rattle.call_lines.proofs.PartLemmas.{begins, kill-more, next-slot, stands-within}
 use Rattle.call_lines.proofs.parts.kill.Goals as goal
 
 pub loop-place-init : goal.loop-place-init
 loop-place-init c =
     record {
-      killed = kill-begun c.args.part.now.train c.args.part.now.first c.args.calls.now.items;
+      killed = record { same_count = refl; calls = λ i x h. (x, h, grind (arith, nat_tests)) };
       standing = begins c.requires;
       from = omega arith;
       within = omega (arith, stands-within c.args.calls.now.items (begins c.requires) refl);
@@ -16,9 +16,8 @@ pub index_mut-requires-in-loop-place : goal.index_mut-requires-in-loop-place
 index_mut-requires-in-loop-place c =
     let i = c.loop-place.invariant in
     let mid = c.loop-place.calls.items in
-    let after = λ (x : StoredCall). x.after in
     let k = i.killed.calls c.loop-place.slot i.standing.call i.standing.stored in
-    let next = next-slot mid k.0 c.index_mut.result.now c.edit.new.self c.index.result.now c.requires c.loop-place-test.true i.standing i.killed.same_count k.1 (ap after k.2.rest) c.index_mut.ensures.value (ap after c.edit.ensures.rest) c.index.ensures c.after-slot.ensures in
+    let next = next-slot mid k.0 c.index_mut.result.now c.edit.new.self c.index.result.now c.requires c.loop-place-test.true i.standing i.killed.same_count k.1 (grind (arith, k.2.rest)) c.index_mut.ensures.value (grind (arith, c.edit.ensures.rest)) c.index.ensures c.after-slot.ensures in
     omega (arith, stands-within mid next i.killed.same_count)
 
 pub loop-place-preserved : goal.loop-place-preserved
@@ -26,9 +25,8 @@ loop-place-preserved c =
     let p = c.args.part.now in
     let i = c.loop-place.invariant in
     let mid = c.loop-place.calls.items in
-    let after = λ (x : StoredCall). x.after in
     let k = i.killed.calls c.loop-place.slot i.standing.call i.standing.stored in
-    let next = next-slot mid k.0 c.index_mut.result.now c.edit.new.self c.index.result.now c.requires c.loop-place-test.true i.standing i.killed.same_count k.1 (ap after k.2.rest) c.index_mut.ensures.value (ap after c.edit.ensures.rest) c.index.ensures c.after-slot.ensures in
+    let next = next-slot mid k.0 c.index_mut.result.now c.edit.new.self c.index.result.now c.requires c.loop-place-test.true i.standing i.killed.same_count k.1 (grind (arith, k.2.rest)) c.index_mut.ensures.value (grind (arith, c.edit.ensures.rest)) c.index.ensures c.after-slot.ensures in
     record {
       killed = kill-more c.args.calls.now.items mid p.train p.from p.to p.first p.last c.loop-place.place c.loop-place.slot c.after-slot.result c.index_mut.result.now c.edit.new.self c.index_mut-in-loop-place.result.now c.edit-in-loop-place.new.self c.requires i.from i.killed i.standing next c.index_mut.ensures.value c.edit.ensures.call c.edit.ensures.rest c.index_mut-in-loop-place.ensures.value c.edit-in-loop-place.ensures.call c.edit-in-loop-place.ensures.rest;
       standing = next;
@@ -39,6 +37,4 @@ loop-place-preserved c =
 
 pub returns-clause-killed : goal.returns-clause-killed
 returns-clause-killed c =
-    let order = c.requires.order in
-    let e : c.loop-place.place ≡ c.args.part.now.last = omega arith in
-    subst (λ k. IsKilled c.args.part.now.train c.args.part.now.first k c.args.calls.now.items c.loop-place.calls.items) e c.loop-place.invariant.killed
+    let e : c.loop-place.place ≡ c.args.part.now.last = omega arith in rw e at c.loop-place.invariant.killed
