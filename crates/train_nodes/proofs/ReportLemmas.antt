@@ -1,8 +1,7 @@
 -- The reports after an event, by the calls after its own.
-use Rattle.train_nodes.proofs.Words.{arith, ◌≡◌, ℕ, zero, suc, List, [], ◌∷◌, Bool, true, false, cond, drop, refl, sym, ◌∙◌, ap, Option, Some, slice_get, map, option_or}
-use Rattle.train_nodes.proofs.Words.{option_map_or, Node, Call, Train, State, after, is_call, node_at, events_at, is_event, first_report, StoredCall, call_of}
-use Rattle.train_nodes.proofs.Words.{live_report, report_of, next_report_of, HasNextReports, IsFirst, report_after, line_of, TrainRecord, NumberedTrain, seen, Inside}
-use Rattle.train_nodes.proofs.Words.{nat_eq-same, name-test}
+use Rattle.train_nodes.proofs.Words.{arith, ◌≡◌, ℕ, zero, suc, List, [], ◌∷◌, Bool, true, false, cond, drop, refl, Option, Some, slice_get, map, option_or, Node, Call}
+use Rattle.train_nodes.proofs.Words.{State, after, is_call, node_at, events_at, is_event, first_report, StoredCall, call_of, live_report, report_of, next_report_of}
+use Rattle.train_nodes.proofs.Words.{HasNextReports, IsFirst, report_after, line_of, TrainRecord, NumberedTrain, seen, Inside, nat_eq-same, name-test}
 use Rattle.train_nodes.proofs.StoredLemmas.{IsFound, row-train, row-stored}
 
 -- the first report of calls, by their events
@@ -13,12 +12,11 @@ reports-by t route (c ∷ cs) = grind (arith, nat_eq-same t, reports-by t route 
 -- what stands after an event, by the calls from its own on
 after-named : (t route l j : ℕ) (dep : Bool) (cs : List Call) → IsFirst (is_call l) j cs → after (is_event (node_at t l dep)) (events_at t route cs) ≡ drop (cond dep 2 1) (events_at t route (drop j cs))
 after-named t route l j dep [] h = absurd h
-after-named t route l zero false (c ∷ cs) h = rw (name-test t l c.label false false true h) refl
-after-named t route l zero true (c ∷ cs) h = rw (name-test t l c.label false true true h, name-test t l c.label true true true h) refl
+after-named t route l zero dep (c ∷ cs) h = grind (arith, name-test t l c.label false dep true h, name-test t l c.label true dep true h)
 after-named t route l (suc j) dep (c ∷ cs) h = rw (name-test t l c.label false dep false h.0, name-test t l c.label true dep false h.0) (after-named t route l j dep cs h.1)
 
 -- what a call and the report that it knows tell of the reports after its event
-abbrev known_after : Bool → StoredCall → Option ℕ
+abbrev pub known_after : Bool → StoredCall → Option ℕ
 known_after true x = next_report_of x
 known_after false x = option_or (live_report (call_of x).departure) (next_report_of x)
 
@@ -31,13 +29,5 @@ rest-reports t route dep (y ∷ xs) zero x h e = grind (arith, reports-by t rout
 pub report-found : (a : Inside) (st : State) (n : Node) (slot : ℕ) (x : StoredCall) (r : TrainRecord) (m : NumberedTrain) → seen a ≡ st → IsFound a n.train n.label slot x r m → report_after st n ≡ known_after n.dep x
 report-found a st n slot x r m v w =
     let line = line_of a.calls.items r.len m in
-    ap (λ (st : State). report_after st n) (sym v)
-    ∙ ap (λ o. first_report n.train (after (is_event n) (option_map_or (λ (t : Train). events_at n.train t.route t.calls) o []))) (row-train a n.train r m w.of)
-    ∙ ap (first_report n.train) (after-named n.train r.route n.label x.place n.dep (map call_of line) w.first)
-    ∙ rest-reports n.train r.route n.dep line x.place x (row-stored a n.train r m w.of).reports w.place
-
-pub report-departs : (a : Inside) (st : State) (n : Node) (slot : ℕ) (x : StoredCall) (r : TrainRecord) (m : NumberedTrain) → seen a ≡ st → IsFound a n.train n.label slot x r m → n.dep ≡ true → report_after st n ≡ next_report_of x
-report-departs a st n slot x r m v w e = report-found a st n slot x r m v w ∙ ap (λ b. known_after b x) e
-
-pub report-arrives : (a : Inside) (st : State) (n : Node) (slot : ℕ) (x : StoredCall) (r : TrainRecord) (m : NumberedTrain) → seen a ≡ st → IsFound a n.train n.label slot x r m → n.dep ≡ false → report_after st n ≡ option_or (live_report (call_of x).departure) (next_report_of x)
-report-arrives a st n slot x r m v w e = report-found a st n slot x r m v w ∙ ap (λ b. known_after b x) e
+    rw (← v, row-train a n.train r m w.of, after-named n.train r.route n.label x.place n.dep (map call_of line) w.first)
+    (rest-reports n.train r.route n.dep line x.place x (row-stored a n.train r m w.of).reports w.place)

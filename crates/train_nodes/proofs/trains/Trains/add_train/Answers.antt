@@ -12,12 +12,9 @@ load c =
     (rw len c.push_extra_calls.ensures.laid) c.push_reserved.ensures.capacity c.push_extra_calls.ensures.capacity
     (rw len c.requires.two_calls) c.requires.train_spare (rw len c.requires.calls_spare) c.numbers_are_lawful.ensures.small
 
-slots : (c : goal.After-push_reserved) → c.push_train-first.new.self ≡ with_numbered (length (map by_table c.args.calls.now)) c.self.inside.slots
-slots c = rw (length-map c.args.calls.now by_table) c.push_train-first.ensures.slots
-
 pub invariant_of-self : goal.invariant_of-self
 invariant_of-self c =
-    rw (slots c) (load-stored _ _ _ _ _ _ (load c))
+    rw (c.push_train-first.ensures.slots, ← length-map c.args.calls.now by_table) (load-stored _ _ _ _ _ _ (load c))
 
 pub returns-clause-number : goal.returns-clause-number
 returns-clause-number c =
@@ -26,8 +23,8 @@ returns-clause-number c =
 pub returns-clause-train : goal.returns-clause-train
 unfolding effect
 returns-clause-train c =
-    rw (slots c)
-    (load-seen _ _ _ _ _ _ (load c)
-    ∙ ap (with_train (loaded_train c.args.day c.args.route (map by_table c.args.calls.now))) c.self.view_is
+    let slots : c.push_train-first.new.self ≡ with_numbered (length (map by_table c.args.calls.now)) c.self.inside.slots = rw length-map c.push_train-first.ensures.slots in
+    rw (slots, load-seen _ _ _ _ _ _ (load c))
+    (ap (with_train (loaded_train c.args.day c.args.route (map by_table c.args.calls.now))) c.self.view_is
     ∙ ap (λ (t : Train). with_train t c.args.self.now) (extra-train c.args.day c.args.route c.args.calls.now)
     ∙ rw (extra-length c.args.day c.args.route c.args.calls.now) refl)

@@ -1,5 +1,6 @@
-use Rattle.train_nodes.proofs.ReadLemmas.{all-distinct}
+use Rattle.train_nodes.proofs.Words.{slice_get-get_or}
+use Rattle.train_nodes.proofs.ReadLemmas.{distinct-seen}
 use Rattle.train_nodes.proofs.trains.Trains.labels_are_distinct.Goals as goal
 
 pub returns : goal.returns
-returns c = record { labels = all-distinct c.self.inside c.args.self.now c.self.invariant c.self.view_is }
+returns c = record { labels = λ k d l. rw (slice_get-get_or c.args.self.now.trains k d l) at (distinct-seen _ _ k c.self.invariant c.self.view_is) }
