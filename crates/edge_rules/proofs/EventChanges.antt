@@ -1,9 +1,6 @@
 -- Which entries a message takes out of the index of events, and which it puts in.
-use Rattle.edge_rules.proofs.Words.{◌≡◌, ℕ, suc, ◌+◌, ◌-◌, ◌<◌, ◌≤◌, Bool, true, false, List, [], ◌∷◌, ◌++◌, Option, Some, None, option_map, length, map, refl, sym, ◌∙◌, ap, subst, arith, ◌≢◌, All-map, get_or, get_or_from_slice_get, slice_get_within, All-contains, All, AllPairs, All-weaker, append_assoc, slice_get, option_map_or, node_of, Node, NewCall, effect, node_at, stretch, is_event, kill_in, new_calls, new_train, rerouted, begin_run, end_run, events_between, events, events_at, events_of, train_events, calls_of, live_events, up_to, before, after, with_event, Cancel, Reroute, Extra, Call, Event, EventValues, State, Train, AreApart, same_node-is, same_node-itself, Contains, All-contains_itself, ◌*◌, filter-append, AllPairs-filter, labels-apart, AllPairs-nil, All-left, Entry, Indexed, HasOwnLabels, IsIndexOf, entries_of, entry_of, new_entries}
-use Rattle.state_laws.proofs.Words.{same_Some}
-use Rattle.state_laws.proofs.Words.{append-nil, map-append, map_fixed, list_any_none}
-use Rattle.state_laws.proofs.Words.{list_any_at, false_from_ne_true, is_among}
-use Rattle.state_laws.proofs.Words.{stands_before}
+use Rattle.edge_rules.proofs.Words.{◌≡◌, ℕ, suc, ◌+◌, ◌-◌, ◌<◌, ◌≤◌, Bool, true, false, List, [], ◌∷◌, ◌++◌, Option, Some, None, option_map, length, map, refl, sym, ◌∙◌, ap, subst, arith, ◌≢◌, All-map, get_or, get_or_from_slice_get, slice_get_within, All-contains, All, AllPairs, append_assoc, slice_get, option_map_or, node_of, Node, NewCall, effect, node_at, stretch, is_event, kill_in, new_calls, new_train, rerouted, begin_run, end_run, events_between, events, events_at, events_of, train_events, calls_of, live_events, up_to, before, after, with_event, Cancel, Reroute, Extra, Call, Event, EventValues, State, Train, AreApart, same_node-is, same_node-itself, ◌*◌, filter-append, AllPairs-filter, AllPairs-nil, labels-apart, All-left, Entry, Indexed, HasOwnLabels, IsIndexOf, entries_of, entry_of, new_entries}
+use Rattle.state_laws.proofs.Words.{calls_between, same_Some, append-nil, map-append, map_fixed, list_any_at, list_any_none, false_from_ne_true, stands_before}
 use Rattle.delay_model.specs.Cuts as Cuts
 use Rattle.delay_model.proofs.Lists.{AllPairs-cons}
 use Rattle.state_laws.proofs.Changed.{get-own}
@@ -15,7 +12,8 @@ use Rattle.state_laws.proofs.Values.{IsSetting, pairs-right, set-shape, set_at}
 use Rattle.state_laws.proofs.Extras.{events-push, get-push}
 use Rattle.state_laws.proofs.Placed.{placed}
 use Rattle.state_laws.proofs.Splits.{pairs-across}
-use Rattle.state_laws.proofs.Reroutes.{IsCut, cut, old-events, new-events, head, tail, fresh}
+use Rattle.state_laws.proofs.Reroutes.{cut, old-events, new-events, head, tail, fresh}
+use Rattle.edge_rules.proofs.InLine.{filter-none}
 use Rattle.edge_rules.proofs.EntryCounts.{count_of, count-append, count-once}
 use Rattle.edge_rules.proofs.IndexChanges.{AreOf, IsChange}
 
@@ -25,7 +23,7 @@ entries-append us vs = rw (filter-append (λ (v : Event). v.live) us vs) (map-ap
 -- how often an entry occurs among three parts
 count-three : (e : Entry) (us ws vs : List Event) → count_of e (entries_of (us ++ (ws ++ vs))) ≡ count_of e (entries_of us) + (count_of e (entries_of ws) + count_of e (entries_of vs))
 count-three e us ws vs =
-    rw (entries-append us (ws ++ vs), entries-append ws vs) (omega (arith, count-append e (entries_of us) (entries_of ws ++ entries_of vs), count-append e (entries_of ws) (entries_of vs)))
+    grind (arith, entries-append us (ws ++ vs), entries-append ws vs, count-append e (entries_of us) (entries_of ws ++ entries_of vs), count-append e (entries_of ws) (entries_of vs))
 
 pub AllPairs-map : {X Y : Type 0} (R : Y → Y → Type 0) (f : X → Y) (xs : List X) → AllPairs (λ a b. R (f a) (f b)) xs → AllPairs R (map f xs)
 AllPairs-map R f [] h = AllPairs-nil R
@@ -38,9 +36,6 @@ entries-distinct st labels =
     AllPairs-map (λ a b. a ≢ b) entry_of (live_events (events st))
     (AllPairs-filter (λ u v. entry_of u ≢ entry_of v) (λ (v : Event). v.live) (events st) (λ i j d l m same. labels-apart st labels i j d l m (ap (λ (e : Entry). e.node) same)))
 
-once-of : (st : State) → All HasOwnLabels st.trains → (e : Entry) → count_of e (entries_of (events st)) ≤ 1
-once-of st labels = count-once (entries_of (events st)) (entries-distinct st labels)
-
 -- of these events some are taken out, and others put in their place
 pub record IsExchange (old new out put : List Event) : Type 0 where
   pub front : List Event
@@ -49,13 +44,13 @@ pub record IsExchange (old new out put : List Event) : Type 0 where
   pub after : new ≡ front ++ (put ++ back)
 
 pub out-of : (st : State) (new out put : List Event) → All HasOwnLabels st.trains → IsExchange (events st) new out put → AreOf st (entries_of out)
-out-of st new out put labels x = record { once = once-of st labels; within = λ e. rw x.before (omega (arith, count-three e x.front out x.back)) }
+out-of st new out put labels x = record { once = count-once (entries_of (events st)) (entries-distinct st labels); within = λ e. rw x.before (omega (arith, count-three e x.front out x.back)) }
 
 pub change-by : (old new : State) (out put : List Event) (entries : List Entry) → All HasOwnLabels old.trains → All HasOwnLabels new.trains → IsExchange (events old) (events new) out put → entries_of put ≡ entries → 2 * new.spare_calls + length entries ≤ 2 * old.spare_calls → IsChange old new (entries_of out) entries
 change-by old new out put entries labels after x is room =
     record {
       of_old = out-of old (events new) out put labels x;
-      once = once-of new after;
+      once = count-once (entries_of (events new)) (entries-distinct new after);
       balance = λ e. rw (x.before, x.after, ← is) (omega (arith, count-three e x.front out x.back, count-three e x.front put x.back));
       room = room;
     }
@@ -74,64 +69,51 @@ cut-up_to p [] = refl
 cut-up_to p (x ∷ xs) = let rest = cut-up_to p xs in grind arith
 
 -- where some events are cancelled, the others stay
-unnamed : (es : List Event) (v : Event) → All (λ w. AreApart w v) es → is_among es (node_of v.key) ≡ false
-unnamed es v h =
-    list_any_none (is_event (node_of v.key)) es (All-weaker (λ w. AreApart w v) (λ w. is_event (node_of v.key) w ≡ false) (λ w apart. false_from_ne_true (is_event (node_of v.key) w) (λ same. apart (same_node-is _ _ same))) es h)
-
-kept-out : (es us : List Event) → All (λ v. is_among es (node_of v.key) ≡ false) us → map (kill_at es) us ≡ us
-kept-out es us h = map_fixed (kill_at es) us (All-weaker (λ v. is_among es (node_of v.key) ≡ false) (λ v. kill_at es v ≡ v) (λ v none. rw none refl) us h)
-
-killed-none : (es us : List Event) → All (λ v. is_among es (node_of v.key) ≡ true) us → entries_of (map (kill_at es) us) ≡ []
-killed-none es [] h = refl
-killed-none es (u ∷ us) h = rw (h 0 u (omega arith)) (killed-none es us (λ k d l. h (suc k) d (omega arith)))
+kept-out : (es us : List Event) → All (λ v. All (λ w. AreApart w v) es) us → map (kill_at es) us ≡ us
+kept-out es us h = map_fixed (kill_at es) us (λ i d l.
+    let n = node_of (get_or us i d).key in
+    rw (list_any_none (is_event n) es (λ j e m. false_from_ne_true (is_event n (get_or es j e)) (λ same. h i d l j e m (same_node-is _ _ same)))) refl)
 
 -- none of those that are cancelled has an entry
 pub killed-entries : (es : List Event) → entries_of (map (kill_at es) es) ≡ []
 killed-entries es =
-    killed-none es es (All-weaker (Contains es) (λ v. is_among es (node_of v.key) ≡ true) (λ v h.
-    list_any_at (is_event (node_of v.key)) es h.0 v h.1 (rw h.2 (same_node-itself (node_of v.key)))) es (All-contains_itself es))
+    ap (map entry_of) (filter-none (λ (v : Event). v.live) (map (kill_at es) es) (All-map (λ (v : Event). v.live ≡ false) (kill_at es) es (λ i d l.
+    let n = node_of (get_or es i d).key in rw (list_any_at (is_event n) es i d l (same_node-itself n)) refl)))
 
 killed-between : (us es vs : List Event) → AllPairs AreApart (us ++ (es ++ vs)) → map (kill_at es) (us ++ (es ++ vs)) ≡ us ++ (map (kill_at es) es ++ vs)
 killed-between us es vs apart =
-    let before_them = pairs-across AreApart us (es ++ vs) apart in
-    let after_them = pairs-across AreApart es vs (pairs-right AreApart us (es ++ vs) apart) in
-    let first = kept-out es us (λ i d l. unnamed es (get_or us i d) (λ j f m same. All-left (AreApart (get_or us i d)) es vs (before_them i d l) j f m (sym same))) in
-    let last = kept-out es vs (λ i d l. unnamed es (get_or vs i d) (λ j f m. after_them j f m i d l)) in
+    let first = kept-out es us (λ i d l j f m same. All-left (AreApart (get_or us i d)) es vs (pairs-across AreApart us (es ++ vs) apart i d l) j f m (sym same)) in
+    let last = kept-out es vs (λ i d l j f m. pairs-across AreApart es vs (pairs-right AreApart us (es ++ vs) apart) j f m i d l) in
     rw (map-append (kill_at es) us (es ++ vs), map-append (kill_at es) es vs, first, last) refl
 
-cancel-part : (st : State) (n from to : ℕ) (t : Train) → slice_get st.trains n ≡ Some t → All HasOwnLabels st.trains → let es = stretch st n from to in IsExchange (events st) (events (effect st (Cancel n from to))) es (map (kill_at es) es)
+pub cancel-exchange : (st : State) (n from to : ℕ) → All HasOwnLabels st.trains → stands_before from to (calls_of st n) ≡ true → let es = stretch st n from to in IsExchange (events st) (events (effect st (Cancel n from to))) es (map (kill_at es) es)
 unfolding events
-cancel-part st n from to t got labels =
-    let p = placed (λ t. t) 0 n n st.trains t (omega arith) got in
+cancel-exchange st n from to labels stands =
+    let t = train-of (slice_get st.trains n) from to stands in
+    let p = placed (λ t. t) 0 n n st.trains t.0 (omega arith) t.1 in
     let leaves = is_event (node_at n from true) in
     let arrives = is_event (node_at n to false) in
-    let line = events_of n t in
+    let line = events_of n t.0 in
     let rest = Cuts.from leaves line in
     let es = stretch st n from to in
-    let own : es ≡ up_to arrives rest = rw got refl in
-    let front = p.before ++ before leaves line in
-    let back = after arrives rest ++ p.after in
-    let whole : events st ≡ front ++ (es ++ back) =
+    let own : es ≡ up_to arrives rest = ap (λ (o : Option Train). up_to arrives (Cuts.from leaves (option_map_or (events_of n) o []))) t.1 in
+    let whole : events st ≡ (p.before ++ before leaves line) ++ (es ++ (after arrives rest ++ p.after)) =
     p.old
     ∙ rw own (ap (λ xs. p.before ++ (xs ++ p.after)) (cut-from leaves line ∙ ap (λ xs. before leaves line ++ xs) (cut-up_to arrives rest)) ∙ simp append_assoc)
     in
     record {
-      front = front;
-      back = back;
+      front = p.before ++ before leaves line;
+      back = after arrives rest ++ p.after;
       before = whole;
       after = mapping-events st (effect st (Cancel n from to)) n (kill_in es n) (kill_at es) (cancel-mapping st n from to)
           ∙ ap (map (kill_at es)) whole
-          ∙ killed-between front es back (subst (AllPairs AreApart) whole (labels-apart st labels));
+          ∙ killed-between _ es _ (subst (AllPairs AreApart) whole (labels-apart st labels));
     }
-
-pub cancel-exchange : (st : State) (n from to : ℕ) → All HasOwnLabels st.trains → stands_before from to (calls_of st n) ≡ true → let es = stretch st n from to in IsExchange (events st) (events (effect st (Cancel n from to))) es (map (kill_at es) es)
-cancel-exchange st n from to labels stands = let t = train-of (slice_get st.trains n) from to stands in cancel-part st n from to t.0 t.1 labels
 
 pub cancel-change : (st : State) (n from to : ℕ) → All HasOwnLabels st.trains → All HasOwnLabels (effect st (Cancel n from to)).trains → stands_before from to (calls_of st n) ≡ true → IsChange st (effect st (Cancel n from to)) (entries_of (stretch st n from to)) []
 unfolding effect
 cancel-change st n from to labels after stands =
-    let es = stretch st n from to in
-    change-by st (effect st (Cancel n from to)) es (map (kill_at es) es) [] labels after (cancel-exchange st n from to labels stands) (killed-entries es) (omega arith)
+    change-by st (effect st (Cancel n from to)) _ _ [] labels after (cancel-exchange st n from to labels stands) (killed-entries (stretch st n from to)) (omega arith)
 
 -- where new calls stand in place of others
 new-entries : (n route label : ℕ) (cs : List NewCall) → entries_of (events_at n route (new_calls label cs)) ≡ new_entries n label cs
@@ -140,7 +122,7 @@ new-entries n route label (c ∷ cs) = rw (new-entries n route (label + 1) cs) r
 
 new-length : (n label : ℕ) (cs : List NewCall) → length (new_entries n label cs) ≡ 2 * length cs
 new-length n label [] = refl
-new-length n label (c ∷ cs) = let rest = new-length n (label + 1) cs in omega arith
+new-length n label (c ∷ cs) = omega (arith, new-length n (label + 1) cs)
 
 -- the label of a train's next call
 abbrev pub IsNextLabel : State → ℕ → ℕ → Type 0
@@ -150,24 +132,21 @@ IsNextLabel st n label = option_map (λ (t : Train). t.next_label) (slice_get st
 abbrev pub made : State → ℕ → List NewCall → List Event
 made st n via = option_map_or (λ (t : Train). events_at n t.route (new_calls t.next_label via)) (slice_get st.trains n) []
 
-reroute-part : (st : State) (n from to : ℕ) (via : List NewCall) (t : Train) → slice_get st.trains n ≡ Some t → IsCut from to t.calls → IsExchange (events st) (events (effect st (Reroute n from to via))) (events_between st n from to) (made st n via)
-unfolding effect events fresh
-reroute-part st n from to via t got c =
-    let p = placed (rerouted from to via) 0 n n st.trains t (omega arith) got in
-    let r = t.route in
-    let mid : events_between st n from to ≡ events_at n r c.mid = rw (got, c.inner) refl in
-    record {
-      front = p.before ++ events_at n r (head from to t c via);
-      back = events_at n r (tail from to t c via) ++ p.after;
-      before = p.old ∙ rw (mid, old-events from to t c via n) (simp append_assoc);
-      after = p.new ∙ rw (got, new-events from to t c via n) (simp append_assoc);
-    }
-
 pub reroute-exchange : (st : State) (n from to : ℕ) (via : List NewCall) → All HasOwnLabels st.trains → stands_before from to (calls_of st n) ≡ true → IsExchange (events st) (events (effect st (Reroute n from to via))) (events_between st n from to) (made st n via)
+unfolding effect events fresh
 reroute-exchange st n from to via labels stands =
     let t = train-of (slice_get st.trains n) from to stands in
     let own = All-contains HasOwnLabels st.trains t.0 labels (n, slice_get_within st.trains n t.0 t.1, get_or_from_slice_get st.trains n t.0 t.0 t.1) in
-    reroute-part st n from to via t.0 t.1 (cut from to t.0.calls (rw t.1 at stands) own)
+    let c = cut from to t.0.calls (rw t.1 at stands) own in
+    let p = placed (rerouted from to via) 0 n n st.trains t.0 (omega arith) t.1 in
+    let mid = ap (λ (o : Option Train). option_map_or (λ (t : Train). events_at n t.route (calls_between from to t.calls)) o []) t.1 ∙ ap (events_at n t.0.route) c.inner in
+    let new = ap (λ (o : Option Train). option_map_or (λ (t : Train). events_at n t.route (new_calls t.next_label via)) o []) t.1 in
+    record {
+      front = p.before ++ events_at n t.0.route (head from to t.0 c via);
+      back = events_at n t.0.route (tail from to t.0 c via) ++ p.after;
+      before = p.old ∙ rw (mid, old-events from to t.0 c via n) (simp append_assoc);
+      after = p.new ∙ rw (new, new-events from to t.0 c via n) (simp append_assoc);
+    }
 
 -- the train is there afterwards, with labels for so many calls more
 pub reroute-there : (st : State) (n from to : ℕ) (via : List NewCall) → stands_before from to (calls_of st n) ≡ true → n < length (effect st (Reroute n from to via)).trains
@@ -180,10 +159,8 @@ pub reroute-next : (st : State) (n from to next : ℕ) (via : List NewCall) → 
 unfolding effect
 reroute-next st n from to next via stands h =
     let t = train-of (slice_get st.trains n) from to stands in
-    let own = get-own (rerouted from to via) n st.trains t.0 t.1 in
-    let same : t.0.next_label + length via ≡ next = same_Some _ _ (rw own at h) in
-    let label : next - length via ≡ t.0.next_label = omega arith in
-    (omega arith, rw (t.1, label) refl)
+    let same : t.0.next_label + length via ≡ next = same_Some _ _ (rw (get-own (rerouted from to via) n st.trains t.0 t.1) at h) in
+    grind (arith, t.1)
 
 pub reroute-change : (st : State) (n from to label : ℕ) (via : List NewCall) → All HasOwnLabels st.trains → All HasOwnLabels (effect st (Reroute n from to via)).trains → stands_before from to (calls_of st n) ≡ true → length via ≤ st.spare_calls → IsNextLabel st n label → IsChange st (effect st (Reroute n from to via)) (entries_of (events_between st n from to)) (new_entries n label via)
 unfolding effect
@@ -195,24 +172,16 @@ reroute-change st n from to label via labels after stands enough next =
     (omega (arith, new-length n label via))
 
 -- where a train runs beside the others
-live-length : (vs : List Event) → length (entries_of vs) ≤ length vs
-live-length [] = omega arith
-live-length (v ∷ vs) = let rest = live-length vs in grind arith
+live-length : (n route : ℕ) (cs : List Call) → length (entries_of (events_at n route cs)) ≤ 2 * length cs
+live-length n route [] = omega arith
+live-length n route (c ∷ cs) = let rest = live-length n route cs in grind arith
 
-pub events-length : (n route : ℕ) (cs : List Call) → length (events_at n route cs) ≡ 2 * length cs
-events-length n route [] = refl
-events-length n route (c ∷ cs) = omega (arith, events-length n route cs)
+run-length : (cs : List Call) → (length (end_run cs) ≡ length cs) × (length (begin_run cs) ≡ length cs)
+run-length [] = (refl, refl)
+run-length (c ∷ []) = (refl, refl)
+run-length (c ∷ d ∷ ds) = (ap suc (run-length (d ∷ ds)).0, refl)
 
-pub begin-length : (cs : List Call) → length (begin_run cs) ≡ length cs
-begin-length [] = refl
-begin-length (c ∷ cs) = refl
-
-pub end-length : (cs : List Call) → length (end_run cs) ≡ length cs
-end-length [] = refl
-end-length (c ∷ []) = refl
-end-length (c ∷ d ∷ ds) = ap suc (end-length (d ∷ ds))
-
-pub calls-length : (label : ℕ) (cs : List NewCall) → length (new_calls label cs) ≡ length cs
+calls-length : (label : ℕ) (cs : List NewCall) → length (new_calls label cs) ≡ length cs
 calls-length label [] = refl
 calls-length label (c ∷ cs) = ap suc (calls-length (label + 1) cs)
 
@@ -223,11 +192,10 @@ extra-change st day route cs labels after enough =
     let t = new_train day route cs in
     let new = effect st (Extra n day route cs) in
     let own : train_events new n ≡ events_of n t = rw (get-push st.trains t) refl in
-    let long = begin-length (end_run (new_calls 0 cs)) ∙ end-length (new_calls 0 cs) ∙ calls-length 0 cs in
     change-by st new [] (events_of n t) (entries_of (train_events new n)) labels after
     (record { front = events st; back = []; before = rw append-nil refl; after = events-push 0 n st.trains t (omega arith) })
     (rw own refl)
-    (rw own (omega (arith, live-length (events_of n t), events-length n route t.calls)))
+    (rw own (omega (arith, live-length n route t.calls, (run-length (end_run (new_calls 0 cs))).1, (run-length (new_calls 0 cs)).0, calls-length 0 cs)))
 
 -- a forecast or a report leaves the entries
 same-entries : (h : Event → Event) → ((v : Event) → (h v).live ≡ v.live) → ((v : Event) → entry_of (h v) ≡ entry_of v) → (vs : List Event) → entries_of (map h vs) ≡ entries_of vs
@@ -237,9 +205,8 @@ same-entries h lives entries (v ∷ vs) = let rest = same-entries h lives entrie
 pub set-kept : (st : State) (n : Node) (f : EventValues → EventValues) (k : Event → Event) → IsSetting f k → (index : Indexed) → IsIndexOf st index → IsIndexOf (with_event n f st) index
 set-kept st n f k s index h =
     let shape = set-shape n f k s in
-    let same = mapping-events st (with_event n f st) n.train _ (set_at n k) (set-mapping st n f k s) in
     let entries = same-entries (set_at n k) (λ v. ap (λ (w : Event). w.live) (shape v)) (λ v. ap entry_of (shape v)) (events st) in
-    record { entries = rw (same, entries) h.entries; room = h.room }
+    record { entries = rw (mapping-events st (with_event n f st) n.train _ (set_at n k) (set-mapping st n f k s), entries) h.entries; room = h.room }
 
 -- nor does what leaves the trains
 pub index-kept : (old new : State) (index : Indexed) → new.trains ≡ old.trains → new.spare_calls ≡ old.spare_calls → IsIndexOf old index → IsIndexOf new index

@@ -1,5 +1,5 @@
 -- An index from which entries are taken out, and into which others are put.
-use Rattle.edge_rules.proofs.Words.{◌≡◌, ◌+◌, ◌≤◌, List, [], ◌∷◌, length, refl, arith, cond, events, State, ◌*◌, Entry, same_entry-itself, Indexed, is_same_entry, with_entry, without_entry, AreNew, AreThere, IsIndexOf, entries_of, with_entries, without_entries}
+use Rattle.edge_rules.proofs.Words.{◌≡◌, ◌+◌, ◌≤◌, List, [], ◌∷◌, length, refl, arith, events, State, ◌*◌, Entry, same_entry-itself, Indexed, AreNew, AreThere, IsIndexOf, entries_of, with_entries, without_entries}
 use Rattle.edge_rules.specs.Indexing.{put_in, taken_out}
 use Rattle.edge_rules.proofs.EntryCounts.{count_of, count-there, there-count, count-without, count-with, to-counts, from-counts}
 
@@ -12,12 +12,10 @@ record IsLeft (out : List Entry) (index : Indexed) : Type 0 where
 taken : (out : List Entry) (index : Indexed) → ((e : Entry) → count_of e index.entries ≤ 1) → ((e : Entry) → count_of e out ≤ count_of e index.entries) → IsLeft out index
 taken [] index once within = record { there = tt; left = λ e. omega arith; spare = refl }
 taken (d ∷ ds) index once within =
-    let own = same_entry-itself d in
-    let after : (e : Entry) → count_of e (without_entry d index.entries) ≡ cond (is_same_entry d e) 0 (count_of e index.entries) = λ e. count-without d e index.entries in
-    let r = taken ds (taken_out d index) (λ e. let o = once e in let a = after e in grind arith) (λ e. let o = once e in let w = within e in let a = after e in grind arith) in
+    let r = taken ds (taken_out d index) (λ e. grind (arith, once e, count-without d e index.entries)) (λ e. grind (arith, once e, within e, count-without d e index.entries)) in
     record {
-      there = (there-count d index.entries (let w = within d in grind arith), r.there);
-      left = λ e. let o = once e in let w = within e in let a = after e in let l = r.left e in grind arith;
+      there = (there-count d index.entries (grind (arith, within d, same_entry-itself d)), r.there);
+      left = λ e. grind (arith, once e, within e, count-without d e index.entries, r.left e);
       spare = r.spare;
     }
 
@@ -30,13 +28,11 @@ record IsFilled (put : List Entry) (index : Indexed) : Type 0 where
 filled : (put : List Entry) (index : Indexed) → ((e : Entry) → count_of e put + count_of e index.entries ≤ 1) → length put ≤ index.spare → IsFilled put index
 filled [] index once room = record { new = tt; filled = λ e. omega arith; spare = omega arith }
 filled (d ∷ ds) index once room =
-    let own = same_entry-itself d in
-    let after : (e : Entry) → count_of e (with_entry d index.entries) ≡ count_of e (d ∷ index.entries) = λ e. count-with d e index.entries in
-    let r = filled ds (put_in d index) (λ e. let o = once e in let a = after e in omega arith) (omega arith) in
+    let r = filled ds (put_in d index) (λ e. omega (arith, once e, count-with d e index.entries)) (omega arith) in
     record {
-      new = (omega arith, (λ c. let there = count-there d index.entries c in let o = once d in absurd (grind arith)), r.new);
-      filled = λ e. let a = after e in let f = r.filled e in omega arith;
-      spare = let s = r.spare in omega arith;
+      new = (omega arith, (λ c. absurd (grind (arith, count-there d index.entries c, once d, same_entry-itself d))), r.new);
+      filled = λ e. omega (arith, count-with d e index.entries, r.filled e);
+      spare = omega arith;
     }
 
 -- these entries are of live events, none of which has two
@@ -44,12 +40,9 @@ pub record AreOf (st : State) (out : List Entry) : Type 0 where
   pub once : (e : Entry) → count_of e (entries_of (events st)) ≤ 1
   pub within : (e : Entry) → count_of e out ≤ count_of e (entries_of (events st))
 
-indexed : (st : State) (index : Indexed) → IsIndexOf st index → (e : Entry) → count_of e index.entries ≡ count_of e (entries_of (events st))
-indexed st index h = to-counts index.entries (entries_of (events st)) h.entries
-
 left : (st : State) (out : List Entry) (index : Indexed) → IsIndexOf st index → AreOf st out → IsLeft out index
 left st out index h o =
-    taken out index (λ e. let i = indexed st index h e in let one = o.once e in omega arith) (λ e. let i = indexed st index h e in let w = o.within e in omega arith)
+    taken out index (λ e. omega (arith, to-counts _ _ h.entries e, o.once e)) (λ e. omega (arith, to-counts _ _ h.entries e, o.within e))
 
 -- so they can be taken out
 pub out-there : (st : State) (out : List Entry) (index : Indexed) → IsIndexOf st index → AreOf st out → AreThere out index
@@ -69,18 +62,13 @@ pub record IsChanged (after : State) (index : Indexed) (out put : List Entry) : 
 
 pub changed : (old new : State) (out put : List Entry) (index : Indexed) → IsIndexOf old index → IsChange old new out put → IsChanged new index out put
 changed old new out put index h c =
-    let is = indexed old index h in
     let t = left old out index h c.of_old in
     let rest = without_entries out index in
-    let room = h.room in
-    let more = c.room in
-    let same = t.spare in
-    let f = filled put rest (λ e. let i = is e in let o = c.once e in let b = c.balance e in let l = t.left e in omega arith) (omega arith) in
-    let spare = f.spare in
+    let f = filled put rest (λ e. omega (arith, to-counts _ _ h.entries e, c.once e, c.balance e, t.left e)) (omega arith) in
     record {
       new = f.new;
       is_index = record {
-        entries = from-counts (with_entries put rest).entries (entries_of (events new)) (λ e. let i = is e in let b = c.balance e in let l = t.left e in let g = f.filled e in omega arith);
+        entries = from-counts (with_entries put rest).entries (entries_of (events new)) (λ e. omega (arith, to-counts _ _ h.entries e, c.balance e, t.left e, f.filled e));
         room = omega arith;
       };
     }

@@ -1,8 +1,8 @@
 -- Pieces of events that are found by names are those of all events that have these names.
-use Rattle.edge_rules.proofs.Words.{◌≡◌, cond, List, [], ◌∷◌, flat_map, get_or, refl, arith, inl, inr, All, Contains, ◌≢◌, AllPairs, IsPermutation, Less, cases_Bool, Node, node_of, node_cmp, is_same_node, same_node-is, same_node-itself, State, Event, Edge, events, AllPairs-tail, AllPairs-after, Contains-cases, of_name}
+use Rattle.edge_rules.proofs.Words.{◌≡◌, cond, List, [], ◌∷◌, flat_map, get_or, refl, sym, arith, inl, inr, All, All-contains, Contains, ◌≢◌, AllPairs, IsPermutation, Less, Node, node_of, node_cmp, is_same_node, same_node-is, same_node-itself, State, Event, Edge, events, AllPairs-tail, AllPairs-after, Contains-cases, of_name}
 use Rattle.std.proofs.lemmas.Cmp.{tied_itself}
 use Rattle.mt_base.proofs.KeyLemmas.{nodes_total}
-use Rattle.edge_rules.proofs.InLine.{append-none}
+use Rattle.edge_rules.proofs.InLine.{append-none, not-then}
 use Rattle.edge_rules.proofs.PieceLemmas.{pieces-none, pieces-same, pieces-turned}
 
 -- names that rise are distinct
@@ -15,23 +15,17 @@ module _ (piece : List Edge) (n : Node) where
   by_name x = cond (is_same_node n x) piece []
 
   pub never-named : (xs : List Node) → All (λ x. n ≢ x) xs → flat_map by_name xs ≡ []
-  never-named xs h = pieces-none by_name xs (λ i d l.
-      let x = get_or xs i d in
-      elim (cases_Bool (is_same_node n x)) [ inl hit ↦ absurd (h i d l (same_node-is n x hit)) | inr miss ↦ rw miss refl ])
+  never-named xs h = pieces-none by_name xs (λ i d l. rw (not-then _ (λ hit. h i d l (same_node-is n (get_or xs i d) hit))) refl)
 
   pub once-named : (xs : List Node) → AllPairs (λ a b. node_cmp a b ≡ Less) xs → Contains xs n → flat_map by_name xs ≡ piece
   once-named [] rise there = absurd (let l = there.1 in omega arith)
   once-named (x ∷ xs) rise there =
-      elim (cases_Bool (is_same_node n x)) [
-        | inl hit ↦
-            let same = same_node-is n x hit in
-            let after = AllPairs-after (λ a b. node_cmp a b ≡ Less) [] x xs rise in
-            rw (hit, never-named xs (λ i d l. rw same (apart x (get_or xs i d) (after i d l)))) (append-none piece)
-        | inr miss ↦
-            elim (Contains-cases x xs n there) [
-              | inl first ↦ absurd (let own = same_node-itself n in cc (rw first at miss, own))
-              | inr later ↦ rw miss (once-named xs (AllPairs-tail (λ a b. node_cmp a b ≡ Less) x xs rise) later)
-            ]
+      let after = AllPairs-after (λ a b. node_cmp a b ≡ Less) [] x xs rise in
+      elim (Contains-cases x xs n there) [
+        | inl first ↦ rw (first, same_node-itself n, never-named xs (λ i d l. rw first at (apart x (get_or xs i d) (after i d l)))) (append-none piece)
+        | inr later ↦
+            rw (not-then (is_same_node n x) (λ hit. apart x n (All-contains (λ y. node_cmp x y ≡ Less) xs n after later) (sym (same_node-is n x hit))))
+            (once-named xs (AllPairs-tail (λ a b. node_cmp a b ≡ Less) x xs rise) later)
       ]
 
 -- of the names the pieces of the events that are there are those of all events, each for the names that it has

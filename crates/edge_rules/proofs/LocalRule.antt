@@ -1,5 +1,5 @@
 -- The local rule at an event.
-use Rattle.edge_rules.proofs.Words.{◌≡◌, ℕ, ◌+◌, ◌<◌, List, [], ◌∷◌, ◌++◌, length, refl, sym, ◌∙◌, ap, subst, arith, true, false, Option, Some, None, is_some, unwrap_or, All, Contains, fold, IsPermutation, option_map, option_map_or, All-tail, All-contains_itself, length-append, All-permutation, IsPermutation-sym, Node, Event, events, event_named, edges, incoming, later, capped, report_after, IsReady, transfers_to, All-left, node_of, along_to, edges_to, stored_time, HasOwnLabels, GraphState}
+use Rattle.edge_rules.proofs.Words.{◌≡◌, ℕ, ◌+◌, ◌<◌, List, [], ◌∷◌, ◌++◌, length, refl, arith, true, false, Option, Some, is_some, unwrap_or, All, Contains, fold, IsPermutation, All-tail, All-contains_itself, length-append, All-permutation, IsPermutation-sym, Node, Event, event_named, later, capped, report_after, IsReady, transfers_to, All-left, node_of, along_to, edges_to, stored_time, HasOwnLabels, GraphState}
 use Rattle.std.proofs.Common.{◌^◌}
 use Rattle.std.proofs.lemmas.List.Sums.{fold-append}
 use Rattle.std.proofs.lemmas.List.Sorted.{length_permutation}
@@ -17,17 +17,11 @@ use Rattle.edge_rules.proofs.Caps.{cap-is}
 -- the rule at an event: its report, or else what the edges to it ask for from its floor on, up to the next report of its train
 pub rule-at : (g : GraphState) (k : StoredTimes) (n : Node) (v : Event) (x t : ℕ) → All HasOwnLabels g.state.trains → event_named g.state n ≡ Some v → x ≡ fold (later (stored_time k)) (floor_of v) (edges_to g n) → t ≡ unwrap_or v.report (capped (report_after g.state n) x) → local_at g k n ≡ Some t
 unfolding local
-rule-at g k n v x t labels named asked is =
-    ap (option_map (local (events g.state) (edges g.network g.state) (stored_time k))) named
-    ∙ ap (λ o. Some (unwrap_or v.report (capped o (fold (later (stored_time k)) (floor_of v) (incoming (edges g.network g.state) v.key))))) (cap-is g.state n v labels named)
-    ∙ ap (λ o. Some (unwrap_or v.report (capped (report_after g.state n) (fold (later (stored_time k)) (floor_of v) (option_map_or (λ (v : Event). incoming (edges g.network g.state) v.key) o []))))) (sym named)
-    ∙ ap (λ y. Some (unwrap_or v.report (capped (report_after g.state n) y))) (sym asked)
-    ∙ ap Some (sym is)
+rule-at g k n v x t labels named asked is = let at = rw named at asked in rw (named, cap-is g.state n v labels named, is, at) refl
 
 -- no list is as an empty one
 pub none-there : {X : Type 0} (o : Option (List X)) → is_some o ≡ false → unwrap_or o [] ≡ []
-none-there None h = refl
-none-there (Some xs) h = absurd (cc)
+none-there o h = grind arith
 
 module _ (k : StoredTimes) where
   -- no edge
@@ -36,23 +30,13 @@ module _ (k : StoredTimes) where
 
   -- edges, and then others
   pub later-append : (so_far steps : ℕ) (xs : List ModelEdge) (time spent : ℕ) (ys : List ModelEdge) (last total : ℕ) → IsLater k so_far steps xs time spent → IsLater k time spent ys last total → IsLater k so_far steps (xs ++ ys) last total
-  later-append so_far steps xs time spent ys last total x y =
-      let long = length-append xs ys in
-      record {
-        value = y.value ∙ ap (λ t. fold (later (stored_time k)) t ys) x.value ∙ sym (fold-append (later (stored_time k)) so_far xs ys);
-        small = y.small;
-        cost = omega arith;
-      }
+  later-append so_far steps xs time spent ys last total x y = grind (arith, fold-append (later (stored_time k)) so_far xs ys, length-append xs ys)
 
   -- in another order
   pub later-permuted : (so_far steps : ℕ) (xs ys : List ModelEdge) (time spent : ℕ) → IsPermutation xs ys → IsLater k so_far steps xs time spent → IsLater k so_far steps ys time spent
   later-permuted so_far steps xs ys time spent p x =
-      let long = length_permutation xs ys p in
-      record {
-        value = x.value ∙ fold-same (stored_time k) so_far xs ys (All-permutation (Contains ys) ys xs (IsPermutation-sym xs ys p) (All-contains_itself ys)) (All-permutation (Contains xs) xs ys p (All-contains_itself xs));
-        small = x.small;
-        cost = omega arith;
-      }
+      let same = fold-same (stored_time k) so_far xs ys (All-permutation (Contains ys) ys xs (IsPermutation-sym xs ys p) (All-contains_itself ys)) (All-permutation (Contains xs) xs ys p (All-contains_itself xs)) in
+      grind (arith, same, length_permutation xs ys p)
 
   -- part of an evaluation: the edges that are left give, from the time so far, what all give from the first time
   pub record IsAhead (so_far steps : ℕ) (all left : List ModelEdge) (time spent : ℕ) : Type 0 where
@@ -64,13 +48,9 @@ module _ (k : StoredTimes) where
   -- one edge more
   pub ahead-more : (so_far steps : ℕ) (all left : List ModelEdge) (time spent : ℕ) (e : ModelEdge) (rest : List ModelEdge) (new more : ℕ) → IsAhead so_far steps all left time spent → left ≡ e ∷ rest → IsLater k time spent (e ∷ []) new more → IsAhead so_far steps all rest new more
   ahead-more so_far steps all left time spent e rest new more part is next =
-      let count = sym (ap (λ es. spent + length es) is) ∙ part.cost in
-      record {
-        rule = ap (λ y. fold (later (stored_time k)) y rest) next.value ∙ sym (ap (fold (later (stored_time k)) time) is) ∙ part.rule;
-        cost = omega arith;
-        ready = All-tail (IsReady k) e rest (subst (All (IsReady k)) is part.ready);
-        small = next.small;
-      }
+      let now = rw is at part in
+      let ready = All-tail (IsReady k) e rest now.ready in
+      grind (arith, now, next, ready)
 
   -- the edges to an event: along its train, and those between trains
   module _ (g : GraphState) (n : Node) (v : Event) (labels : All HasOwnLabels g.state.trains) (is : node_of v.key ≡ n) (named : event_named g.state (node_of v.key) ≡ Some v) where

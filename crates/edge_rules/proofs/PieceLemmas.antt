@@ -1,19 +1,12 @@
 -- Lists made of pieces, in any order.
-use Rattle.edge_rules.proofs.Words.{swap, ◌≡◌, ℕ, zero, suc, ◌+◌, ◌<◌, ◌≤◌, Bool, cond, List, [], ◌∷◌, ◌++◌, append_assoc, flat_map, map, filter, get_or, length, Option, Some, None, refl, sym, ap, subst, arith, inl, inr, All, filter_map, range_with_len, option_map_or, IsPermutation, cases_Bool, cases_lt, All-head, All-tail, IsPermutation-refl, IsPermutation-sym, IsPermutation-trans, IsPermutation-append_right, IsPermutation-keeps}
-use Rattle.std.proofs.Common.{set, ◌⊎◌}
+use Rattle.edge_rules.proofs.Words.{swap, ◌≡◌, ℕ, zero, suc, ◌+◌, ◌<◌, ◌≤◌, Bool, cond, List, [], ◌∷◌, ◌++◌, append_assoc, flat_map, filter, get_or, length, Option, refl, sym, ap, subst, arith, inl, inr, All, filter_map, range_with_len, option_map_or, IsPermutation, cases_lt, All-head, All-tail, IsPermutation-refl, IsPermutation-sym, IsPermutation-trans, IsPermutation-append_right, IsPermutation-keeps}
+use Rattle.std.proofs.Common.{set}
 use Rattle.edge_rules.proofs.InLine.{append-none}
 use Rattle.std.proofs.lemmas.List.Sorted.{IsPermutation-append_comm, IsPermutation-append_left}
 
-module _ {X : Type 0} where
-  -- two lists before a third in the other order
-  past : (us vs ws : List X) → IsPermutation (us ++ (vs ++ ws)) (vs ++ (us ++ ws))
-  past us vs ws =
-      subst (λ l. IsPermutation l (vs ++ (us ++ ws))) (append_assoc us vs ws)
-      (subst (IsPermutation ((us ++ vs) ++ ws)) (append_assoc vs us ws) (IsPermutation-append_left ws (us ++ vs) (vs ++ us) (IsPermutation-append_comm us vs)))
-
-cases_option : {X : Type 0} (o : Option X) → (o ≡ None) ⊎ ((x : X) × (o ≡ Some x))
-cases_option None = inl refl
-cases_option (Some x) = inr (x, refl)
+-- two lists before a third in the other order
+past : {X : Type 0} (us vs ws : List X) → IsPermutation (us ++ (vs ++ ws)) (vs ++ (us ++ ws))
+past us vs ws = rw (← append_assoc us vs ws, ← append_assoc vs us ws) (IsPermutation-append_left ws (us ++ vs) (vs ++ us) (IsPermutation-append_comm us vs))
 
 module _ {X Y : Type 0} (f : X → List Y) where
   -- an element put at a place, and the piece of the one that stood there before all others
@@ -43,22 +36,12 @@ module _ {X Y : Type 0} (f : X → List Y) where
   -- the pieces of those that pass a test
   pub pieces-filter : (p : X → Bool) (xs : List X) → flat_map f (filter p xs) ≡ flat_map (λ x. cond (p x) (f x) []) xs
   pieces-filter p [] = refl
-  pieces-filter p (x ∷ xs) =
-      let rest = pieces-filter p xs in
-      elim (cases_Bool (p x)) [ inl hit ↦ rw hit (ap (λ l. f x ++ l) rest) | inr miss ↦ rw miss rest ]
-
-  pub pieces-map : {W : Type 0} (g : W → X) (ws : List W) → flat_map f (map g ws) ≡ flat_map (λ w. f (g w)) ws
-  pieces-map g [] = refl
-  pieces-map g (w ∷ ws) = ap (λ l. f (g w) ++ l) (pieces-map g ws)
+  pieces-filter p (x ∷ xs) = let rest = pieces-filter p xs in grind arith
 
   -- the pieces of those that a function gives
   pub pieces-filter_map : {W : Type 0} (g : W → Option X) (ws : List W) → flat_map f (filter_map g ws) ≡ flat_map (λ w. option_map_or f (g w) []) ws
   pieces-filter_map g [] = refl
-  pieces-filter_map g (w ∷ ws) =
-      elim (cases_option (g w)) [
-        | inl none ↦ rw none (pieces-filter_map g ws)
-        | inr some ↦ rw some.1 (ap (λ l. f some.0 ++ l) (pieces-filter_map g ws))
-      ]
+  pieces-filter_map g (w ∷ ws) = let rest = pieces-filter_map g ws in grind arith
 
   -- where the pieces of all elements are empty
   pub pieces-none : (xs : List X) → All (λ x. f x ≡ []) xs → flat_map f xs ≡ []
@@ -74,10 +57,8 @@ module _ {X Y : Type 0} (f : X → List Y) where
   pub pieces-joined : (g : X → List Y) (xs : List X) → IsPermutation (flat_map (λ x. f x ++ g x) xs) (flat_map f xs ++ flat_map g xs)
   pieces-joined g [] = IsPermutation-refl []
   pieces-joined g (x ∷ xs) =
-      let fs = flat_map f xs in
-      let gs = flat_map g xs in
-      rw (append_assoc (f x) (g x) (flat_map (λ x. f x ++ g x) xs), append_assoc (f x) fs (g x ++ gs))
-      (IsPermutation-append_right (f x) _ _ (IsPermutation-trans _ _ _ (IsPermutation-append_right (g x) _ _ (pieces-joined g xs)) (past (g x) fs gs)))
+      rw (append_assoc (f x) (g x) (flat_map (λ x. f x ++ g x) xs), append_assoc (f x) (flat_map f xs) (g x ++ flat_map g xs))
+      (IsPermutation-append_right (f x) _ _ (IsPermutation-trans _ _ _ (IsPermutation-append_right (g x) _ _ (pieces-joined g xs)) (past (g x) (flat_map f xs) (flat_map g xs))))
 
 module _ {X Y Z : Type 0} (h : X → Y → List Z) where
   -- the pieces of all pairs, by the first of a pair or by the second
@@ -92,16 +73,11 @@ module _ {Y : Type 0} (f : ℕ → List Y) (s : ℕ) (other : (a : ℕ) → (a �
   range-past a zero l = refl
   range-past a (suc n) l = rw (other a (λ e. omega arith)) (range-past (a + 1) n (omega arith))
 
-  range-at : (a n : ℕ) → a ≤ s → s < a + n → flat_map f (range_with_len a n) ≡ f s
-  range-at a zero l m = absurd (omega arith)
-  range-at a (suc n) l m =
-      elim (cases_lt a s) [
-        | inl less ↦ rw (other a (λ e. omega arith)) (range-at (a + 1) n (omega arith) (omega arith))
-        | inr more ↦
-            let here : a ≡ s = omega arith in
-            rw (here, range-past (s + 1) n (omega arith)) (append-none (f s))
-      ]
-
   -- of the numbers of a range one alone has a piece
-  pub one-of-range : (n : ℕ) → s < n → flat_map f (range_with_len 0 n) ≡ f s
-  one-of-range n l = range-at 0 n (omega arith) (omega arith)
+  pub one-of-range : (a n : ℕ) → a ≤ s → s < a + n → flat_map f (range_with_len a n) ≡ f s
+  one-of-range a zero l m = absurd (omega arith)
+  one-of-range a (suc n) l m =
+      elim (cases_lt a s) [
+        | inl less ↦ rw (other a (λ e. omega arith)) (one-of-range (a + 1) n (omega arith) (omega arith))
+        | inr more ↦ let here : a ≡ s = omega arith in rw (here, range-past (s + 1) n (omega arith)) (append-none (f s))
+      ]

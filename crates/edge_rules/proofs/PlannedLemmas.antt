@@ -1,6 +1,7 @@
 -- Pieces of events that are found by changes and by an index are those of all events.
-use Rattle.edge_rules.proofs.Words.{◌≡◌, ℕ, ◌<◌, Bool, true, cond, List, [], flat_map, map, filter, filter_map, get_or, Option, Some, None, refl, sym, ◌∙◌, ap, subst, arith, All, range_with_len, IsPermutation, option_map_or, IsPermutation-trans, Entry, node_of, State, Event, Edge, events, event_named, live_events, Change, of_entry, entry_of}
-use Rattle.edge_rules.proofs.PieceLemmas.{pieces-permuted, pieces-filter, pieces-map, pieces-filter_map, pieces-same, pieces-turned, one-of-range}
+use Rattle.edge_rules.proofs.Words.{◌≡◌, ℕ, ◌<◌, Bool, true, cond, List, [], flat_map, map, filter, filter_map, get_or, Option, Some, None, refl, ◌∙◌, ap, arith, All, range_with_len, IsPermutation, option_map_or, IsPermutation-trans, Entry, node_of, State, Event, Edge, events, event_named, live_events, Change, of_entry, entry_of}
+use Rattle.std.proofs.lemmas.List.Folds.{flat_map-map}
+use Rattle.edge_rules.proofs.PieceLemmas.{pieces-permuted, pieces-filter, pieces-filter_map, pieces-same, pieces-turned, one-of-range}
 
 module _ (st : State) (entries : List Entry) (index : IsPermutation entries (map entry_of (live_events (events st)))) (named : All (λ u. event_named st (node_of u.key) ≡ Some u) (events st)) where
   -- the changes by the number of the stop, which entries are near by a change, and the pieces that are wanted
@@ -22,21 +23,17 @@ module _ (st : State) (entries : List Entry) (index : IsPermutation entries (map
     own-stop : (u : Event) → event_named st (node_of u.key) ≡ Some u → u.stop < n → flat_map (λ c. at c (entry_of u)) changes ≡ own_piece u
     own-stop u is within =
         pieces-filter_map (λ c. at c (entry_of u)) change (range_with_len 0 n)
-        ∙ one-of-range (λ a. option_map_or (λ c. at c (entry_of u)) (change a) []) u.stop (λ a differ. other-stop u a (change a) refl differ) n within
+        ∙ one-of-range (λ a. option_map_or (λ c. at c (entry_of u)) (change a) []) u.stop (λ a differ. other-stop u a (change a) refl differ) 0 n (omega arith) (omega arith)
         ∙ rw is refl
 
-    pub found-planned : All (λ u. u.stop < n) (events st) → IsPermutation (flat_map (λ c. flat_map (of_entry st (f c.seconds)) (filter (near c) entries)) changes) (flat_map (λ u. cond u.live (own_piece u) []) (events st))
-    found-planned within =
+    pub found-planned : (wanted : Event → List Edge) → All (λ u. u.stop < n) (events st) → All (λ u. cond u.live (own_piece u) [] ≡ wanted u) (events st) → IsPermutation (flat_map (λ c. flat_map (of_entry st (f c.seconds)) (filter (near c) entries)) changes) (flat_map wanted (events st))
+    found-planned wanted within is =
         let live = live_events (events st) in
         let by_entry : Entry → List Edge = λ e. flat_map (λ c. at c e) changes in
-        let by_change = pieces-same (λ c. flat_map (of_entry st (f c.seconds)) (filter (near c) entries)) (λ c. flat_map (at c) entries) changes (λ i d l.
-        let c = get_or changes i d in
-        pieces-filter (of_entry st (f c.seconds)) (near c) entries) in
         let by_event =
-        pieces-map by_entry entry_of live
+        flat_map-map by_entry entry_of live
         ∙ pieces-filter (λ u. by_entry (entry_of u)) (λ (u : Event). u.live) (events st)
-        ∙ pieces-same (λ u. cond u.live (by_entry (entry_of u)) []) (λ u. cond u.live (own_piece u) []) (events st) (λ i d l.
-        let u = get_or (events st) i d in ap (λ es. cond u.live es []) (own-stop u (named i d l) (within i d l))) in
-        subst (λ l. IsPermutation l (flat_map (λ u. cond u.live (own_piece u) []) (events st))) (sym by_change)
-        (subst (IsPermutation (flat_map (λ c. flat_map (at c) entries) changes)) by_event
-        (IsPermutation-trans _ _ _ (pieces-turned at changes entries) (pieces-permuted by_entry entries (map entry_of live) index)))
+        ∙ pieces-same (λ u. cond u.live (by_entry (entry_of u)) []) wanted (events st) (λ i d l.
+        let u = get_or (events st) i d in ap (λ es. cond u.live es []) (own-stop u (named i d l) (within i d l)) ∙ is i d l) in
+        rw (pieces-same (λ c. flat_map (of_entry st (f c.seconds)) (filter (near c) entries)) (λ c. flat_map (at c) entries) changes (λ i d l. let c = get_or changes i d in pieces-filter (of_entry st (f c.seconds)) (near c) entries), ← by_event)
+        (IsPermutation-trans _ _ _ (pieces-turned at changes entries) (pieces-permuted by_entry entries (map entry_of live) index))

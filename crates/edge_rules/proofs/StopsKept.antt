@@ -1,12 +1,9 @@
 -- Trains call at stops and platforms alone, also after a change.
-use Rattle.edge_rules.proofs.Words.{◌≡◌, ℕ, zero, suc, ◌+◌, Bool, true, false, List, [], ◌∷◌, map, refl, All, All-nil, All-cons, All-head, All-append, get_or, All-tail, All-map, NewCall, Network, Node, Cancel, Reroute, Extra, EventValues, Call, Train, State, is_call, kill_in, new_calls, new_train, rerouted, begin_run, end_run, stretch, with_event, arith, effect, StopRow, is_stop, AreAtStops, IsAtStop}
+use Rattle.edge_rules.proofs.Words.{◌≡◌, ℕ, zero, suc, ◌+◌, true, false, List, [], ◌∷◌, map, refl, All, All-nil, All-cons, get_or, All-map, NewCall, Network, Node, Cancel, Reroute, Extra, EventValues, Call, Train, State, is_call, kill_in, new_calls, new_train, rerouted, begin_run, end_run, stretch, with_event, arith, effect, StopRow, is_stop, AreAtStops, IsAtStop}
 use Rattle.state_laws.proofs.Words.{change_train, change_calls, change_event, change_labelled, killed}
-use Rattle.state_laws.proofs.Words.{are_at_stops, elements}
+use Rattle.state_laws.proofs.Words.{are_at_stops, elements, All-push}
 use Rattle.std.specs.List.{list_all}
 use Rattle.state_laws.proofs.Stretches.{All-from, All-up_to}
-
-labelled-stop : (label : ℕ) (dep : Bool) (f : EventValues → EventValues) (c : Call) → (change_labelled label (change_event dep f) c).stop ≡ c.stop
-labelled-stop label dep f c = grind arith
 
 module _ (stops : List StopRow) where
   abbrev At : Call → Type 0
@@ -17,8 +14,8 @@ module _ (stops : List StopRow) where
 
   change-each : (n : ℕ) (f : Train → Train) → ((t : Train) → OnStops t → OnStops (f t)) → (ts : List Train) → All OnStops ts → All OnStops (change_train n f ts)
   change-each n f keeps [] h = h
-  change-each zero f keeps (t ∷ ts) h = All-cons OnStops (f t) ts (keeps t (All-head OnStops t ts h)) (All-tail OnStops t ts h)
-  change-each (suc n) f keeps (t ∷ ts) h = All-cons OnStops t (change_train n f ts) (All-head OnStops t ts h) (change-each n f keeps ts (All-tail OnStops t ts h))
+  change-each zero f keeps (t ∷ ts) h = All-cons OnStops (f t) ts (keeps t (h 0 t (omega arith))) (λ k d l. h (suc k) d (omega arith))
+  change-each (suc n) f keeps (t ∷ ts) h = All-cons OnStops t (change_train n f ts) (h 0 t (omega arith)) (change-each n f keeps ts (λ k d l. h (suc k) d (omega arith)))
 
   mapped : (g : Call → Call) → ((c : Call) → (g c).stop ≡ c.stop) → (t : Train) → OnStops t → OnStops (change_calls (map g) t)
   mapped g same t h = All-map At g t.calls (λ i d l. rw (same (get_or t.calls i d)) (h i d l))
@@ -38,13 +35,10 @@ module _ (stops : List StopRow) where
 
   reroute-each : (from to : ℕ) (via : List NewCall) → list_all (λ (c : NewCall). is_stop stops c.stop) via ≡ true → (t : Train) → OnStops t → OnStops (rerouted from to via t)
   reroute-each from to via new t h =
-      let front = All-up_to At (is_call from) t.calls h in
-      let mid = new-each t.next_label via new in
-      let back = All-from At (is_call to) t.calls h in
-      grind (arith, elements)
+      grind (arith, elements, All-up_to At (is_call from) t.calls h, new-each t.next_label via new, All-from At (is_call to) t.calls h)
 
 pub set-stops : (nw : Network) (st : State) (n : Node) (f : EventValues → EventValues) → AreAtStops nw.stops st → AreAtStops nw.stops (with_event n f st)
-set-stops nw st n f h = change-each nw.stops n.train _ (mapped nw.stops _ (labelled-stop n.label n.dep f)) st.trains h
+set-stops nw st n f h = change-each nw.stops n.train _ (mapped nw.stops (change_labelled n.label (change_event n.dep f)) (λ c. grind arith)) st.trains h
 
 pub cancel-stops : (nw : Network) (st : State) (train from to : ℕ) → AreAtStops nw.stops st → AreAtStops nw.stops (effect st (Cancel train from to))
 unfolding effect
@@ -59,5 +53,4 @@ reroute-stops nw st train from to via new h =
 pub extra-stops : (nw : Network) (st : State) (train day route : ℕ) (calls : List NewCall) → are_at_stops nw calls ≡ true → AreAtStops nw.stops st → AreAtStops nw.stops (effect st (Extra train day route calls))
 unfolding effect
 extra-stops nw st train day route calls new h =
-    All-append (OnStops nw.stops) st.trains (new_train day route calls ∷ []) h
-    (All-cons (OnStops nw.stops) (new_train day route calls) [] (begin-each nw.stops _ (end-each nw.stops _ (new-each nw.stops 0 calls new))) (All-nil (OnStops nw.stops)))
+    All-push (OnStops nw.stops) st.trains (new_train day route calls) h (begin-each nw.stops _ (end-each nw.stops _ (new-each nw.stops 0 calls new)))

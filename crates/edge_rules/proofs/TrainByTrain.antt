@@ -1,14 +1,9 @@
 -- The events of all trains, train by train.
-use Rattle.edge_rules.proofs.Words.{◌≡◌, ℕ, zero, suc, ◌+◌, List, [], ◌∷◌, ◌++◌, drop, slice_get, refl, sym, ◌∙◌, ap, arith, option_map_or, Train, State, events_from, events_of, train_events}
+use Rattle.edge_rules.proofs.Words.{◌≡◌, ℕ, zero, suc, ◌+◌, List, [], ◌∷◌, ◌++◌, drop, slice_get, refl, arith, option_map_or, Train, events_from, events_of}
 use Rattle.std.proofs.lemmas.List.{drop_all}
 
-on : (n i : ℕ) (ts : List Train) → option_map_or (events_of n) (slice_get ts i) [] ++ events_from (n + 1) (drop (i + 1) ts) ≡ events_from n (drop i ts)
-on n i [] = ap (events_from (n + 1)) (drop_all (i + 1) [] (omega arith)) ∙ sym (ap (events_from n) (drop_all i [] (omega arith)))
-on n zero (t ∷ ts) = refl
-on n (suc i) (t ∷ ts) =
-    let next : suc i + 1 ≡ suc (i + 1) = omega arith in
-    ap (λ k. option_map_or (events_of n) (slice_get ts i) [] ++ events_from (n + 1) (drop k (t ∷ ts))) next ∙ on n i ts
-
 -- the events of a train and of those after it
-pub one-train : (st : State) (i : ℕ) → train_events st i ++ events_from (i + 1) (drop (i + 1) st.trains) ≡ events_from i (drop i st.trains)
-one-train st i = on i i st.trains
+pub one-train : (n i j : ℕ) (ts : List Train) → j ≡ suc i → option_map_or (events_of n) (slice_get ts i) [] ++ events_from (n + 1) (drop j ts) ≡ events_from n (drop i ts)
+one-train n i j [] is = rw (is, drop_all {X = Train} i [] (omega arith)) refl
+one-train n zero j (t ∷ ts) is = rw is refl
+one-train n (suc i) j (t ∷ ts) is = rw is (one-train n i (suc i) ts refl)

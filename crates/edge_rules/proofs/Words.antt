@@ -48,7 +48,7 @@ pub use Rattle.station_index.proofs.EntryLemmas.{same_entry-itself}
 pub use Rattle.station_index.specs.Indexed.{Indexed, is_in_range, is_same_entry, with_entry, without_entry}
 pub use Rattle.std.proofs.Common.{Bool, Contains, List, None, Option, Some, [], ap, append_assoc, arith, cond, drop, false, filter, filter_map, find, flat_map, get_or, inl, inr, is_some, length, map, nat_eq, not, refl, slice_get, subst, suc, swap, sym, true, unwrap_or, zero, ℕ, ◌&&◌, ◌*◌, ◌++◌, ◌+◌, ◌-◌, ◌<◌, ◌∙◌, ◌∷◌, ◌≡◌, ◌≤◌}
 pub use Rattle.std.proofs.Math.Logic.{◌≢◌}
-pub use Rattle.std.proofs.lemmas.Bool.{and_parts, cases_Bool, cases_lt, cond-true, cond_both, eqb-true}
+pub use Rattle.std.proofs.lemmas.Bool.{cases_lt, eqb-true}
 pub use Rattle.std.proofs.lemmas.Bool.Decides.{nat_tests}
 pub use Rattle.std.proofs.lemmas.List.{length-append}
 pub use Rattle.std.proofs.lemmas.List.Elements.{All-append, All-cons, All-contains, All-filter, All-head, All-nil, All-tail, All-weaker, Contains-append_right, filter-append, filter_passes}
@@ -57,7 +57,7 @@ pub use Rattle.std.proofs.lemmas.List.Sorted.{All-permutation, IsPermutation-app
 pub use Rattle.std.proofs.lemmas.Option.{get_or_from_slice_get, slice_get_within}
 pub use Rattle.std.specs.List.{All, AllPairs, fold, range_with_len}
 pub use Rattle.std.specs.List.Sorted.{IsPermutation}
-pub use Rattle.std.specs.Option.{option_map, option_map_or, option_to_list}
+pub use Rattle.std.specs.Option.{option_map, option_map_or}
 pub use Rattle.std.specs.declared.cmp.Ordering.TheVariants.{Less}
 pub use Rattle.train_nodes.proofs.KeepLemmas.{from-each, into-each}
 pub use Rattle.train_nodes.specs.Calls.{first_label, has_event, last_label}

@@ -1,14 +1,11 @@
-use Rattle.edge_rules.proofs.Words.{All-filter, HasLiveEvent, flat_map, sym, ◌∙◌, ap, of_entry, planned_with}
+use Rattle.edge_rules.proofs.Words.{All-filter, HasLiveEvent, refl, sym, ◌∙◌}
 use Rattle.edge_rules.proofs.NoneFound.{entries-none_near, planned-unwaited}
 use Rattle.edge_rules.proofs.transfers.entries_near.Goals as goal
 
 pub returns-then-first-last-clause-edges : goal.returns-then-first-last-clause-edges
 returns-then-first-last-clause-edges c =
-    let g = c.args.graph.now in
-    let v = c.args.at.now in
-    let change = c.args.change.now in
     let empty = rw (c.times_near-first.ensures.first, c.times_near-first.ensures.last, c.window.ensures) at c.if-first-last.true in
-    sym (ap (flat_map (of_entry g.state (planned_with g c.args.wanted.now v change.seconds))) (entries-none_near g.network.opts.window c.args.index.now.entries c.args.wanted.now v.key.time change empty))
+    rw (entries-none_near c.args.graph.now.network.opts.window c.args.index.now.entries c.args.wanted.now c.args.at.now.key.time c.args.change.now empty) refl
 
 pub returns-then-not-may_wait_at-clause-edges : goal.returns-then-not-may_wait_at-clause-edges
 returns-then-not-may_wait_at-clause-edges c =

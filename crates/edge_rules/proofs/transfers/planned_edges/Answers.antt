@@ -5,9 +5,7 @@ use Rattle.edge_rules.proofs.transfers.planned_edges.Goals as goal
 
 pub returns-then-not-can_be_at : goal.returns-then-not-can_be_at
 returns-then-not-can_be_at c =
-    let g = c.args.graph.now in
-    let es = c.args.index.now.entries in
     elim c.then-not-can_be_at.branch [
-      | then-not-can_be_at-via-then-not-can_be_at w ↦ sym (planned-cannot g es c.args.wanted c.args.at.now (sym c.can_be_at.ensures ∙ w.if-not-can_be_at.true))
-      | then-not-can_be_at-via-else-not-can_be_at+then-has_no_rules w ↦ sym (planned-no_rules g es c.args.wanted c.args.at.now (sym w.has_no_rules.ensures ∙ w.if-has_no_rules.true))
+      | then-not-can_be_at-via-then-not-can_be_at w ↦ sym (planned-cannot c.args.graph.now c.args.index.now.entries c.args.wanted c.args.at.now (sym c.can_be_at.ensures ∙ w.if-not-can_be_at.true))
+      | then-not-can_be_at-via-else-not-can_be_at+then-has_no_rules w ↦ sym (planned-no_rules c.args.graph.now c.args.index.now.entries c.args.wanted c.args.at.now (sym w.has_no_rules.ensures ∙ w.if-has_no_rules.true))
     ]

@@ -4,12 +4,8 @@ use Rattle.edge_rules.proofs.transfers.planned_to.Goals as goal
 
 pub returns-then-not-at : goal.returns-then-not-at
 returns-then-not-at c =
-    let g = c.args.graph.now in
-    let v = c.args.at.now in
-    sym (planned-cannot g c.args.index.now.entries (Into (waits_at g v)) v c.if-not-at.true)
+    sym (planned-cannot c.args.graph.now c.args.index.now.entries (Into (waits_at c.args.graph.now c.args.at.now)) c.args.at.now c.if-not-at.true)
 
 pub returns-in-None : goal.returns-in-None
 returns-in-None c =
-    let g = c.args.graph.now in
-    let v = c.args.at.now in
-    sym (planned-no_wait g c.args.index.now.entries (waits_at g v) v (c.class.ensures.none c.in-None.is))
+    sym (planned-no_wait c.args.graph.now c.args.index.now.entries (waits_at c.args.graph.now c.args.at.now) c.args.at.now (c.class.ensures.none c.in-None.is))

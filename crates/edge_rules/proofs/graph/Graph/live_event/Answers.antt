@@ -10,6 +10,5 @@ returns-clause-named c = named-is c.self.inside.trains c.args.n.now c.event.resu
 
 pub returns-clause-there : goal.returns-clause-there
 returns-clause-there c =
-    let named = named-is c.self.inside.trains c.args.n.now c.event.result c.event.ensures in
-    let there = ap (λ (x : GraphState). event_named x.state c.args.n.now) (sym c.self.view_is) ∙ c.event.ensures in
-    subst (λ (n : Node). event_named c.args.self.now.state n ≡ Some c.event.result) (sym named) there
+    subst (λ (n : Node). event_named c.args.self.now.state n ≡ Some c.event.result) (sym (returns-clause-named c))
+    (ap (λ (x : GraphState). event_named x.state c.args.n.now) (sym c.self.view_is) ∙ c.event.ensures)

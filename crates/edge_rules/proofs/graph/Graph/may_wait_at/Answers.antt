@@ -1,5 +1,5 @@
-use Rattle.edge_rules.proofs.Words.{◌≡◌, sym, subst, wait, GraphState}
+use Rattle.edge_rules.proofs.Words.{sym}
 use Rattle.edge_rules.proofs.graph.Graph.may_wait_at.Goals as goal
 
 pub returns : goal.returns
-returns c = λ none feeder connecting. subst (λ (x : GraphState). wait x.network.stops x.network.rules feeder connecting c.args.stop ≡ 0) c.self.view_is (c.may_wait_at.ensures.none none feeder connecting c.self.inside.changes.stops (sym c.self.invariant.parents))
+returns c = λ none feeder connecting. rw (← c.self.view_is) (c.may_wait_at.ensures.none none feeder connecting c.self.inside.changes.stops (sym c.self.invariant.parents))

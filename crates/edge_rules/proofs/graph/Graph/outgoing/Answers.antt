@@ -9,13 +9,9 @@ planned_edges-requires-clause-entries c = (holds c.self.inside c.args.self.now c
 
 pub returns-clause-edges : goal.returns-clause-edges
 returns-clause-edges c =
-    let g = c.args.self.now in
-    let a = c.self.inside in
-    let h = holds a g c.self.invariant c.self.view_is in
-    let v = c.live_event-at.result in
-    let n = node_of v.key in
-    let along = c.edge_out.ensures ∙ ap (λ (x : GraphState). along_from x.network.opts x.state n) c.self.view_is in
-    rw (along, c.planned_edges.ensures, c.kept_edges.ensures, ← c.live_event-at.ensures.named) (edges-from_found g a.index n v h.labels h.stops h.index c.live_event-at.ensures.there)
+    let h = holds c.self.inside c.args.self.now c.self.invariant c.self.view_is in
+    let along = c.edge_out.ensures ∙ ap (λ (x : GraphState). along_from x.network.opts x.state (node_of c.live_event-at.result.key)) c.self.view_is in
+    rw (along, c.planned_edges.ensures, c.kept_edges.ensures, ← c.live_event-at.ensures.named) (edges-from_found c.args.self.now _ _ _ h.labels h.stops h.index c.live_event-at.ensures.there)
 
 pub returns-clause-once : goal.returns-clause-once
 returns-clause-once c =

@@ -29,14 +29,8 @@ overflow_sub-first c =
     let next = reroute-next c.self.inside.trains a.t a.from a.to c.next_label.result a.via.now (rw (← c.self.view_is) at c.requires.stand) (rw c.reroute.ensures at c.next_label.ensures.label) in
     omega (arith, next.0, c.get.ensures)
 
-pub insert_calls-requires-clause-labels : goal.insert_calls-requires-clause-labels
-insert_calls-requires-clause-labels c =
-    let a = c.args in
-    let next = reroute-next c.self.inside.trains a.t a.from a.to c.next_label.result a.via.now (rw (← c.self.view_is) at c.requires.stand) (rw c.reroute.ensures at c.next_label.ensures.label) in
-    omega (arith, next.0, c.get.ensures, c.next_label.ensures.small)
-
-pub insert_calls-requires-clause-new : goal.insert_calls-requires-clause-new
-insert_calls-requires-clause-new c =
+pub insert_calls-requires : goal.insert_calls-requires
+insert_calls-requires c =
     let a = c.args in
     let i = c.self.inside in
     let h = c.self.invariant in
@@ -44,7 +38,10 @@ insert_calls-requires-clause-new c =
     let stand = rw (← c.self.view_is) at c.requires.stand in
     let next = reroute-next i.trains a.t a.from a.to c.next_label.result a.via.now stand (rw is at c.next_label.ensures.label) in
     let change = reroute-change i.trains a.t a.from a.to (c.next_label.result - length a.via.now) a.via.now h.labels (rw is at c.labels_are_distinct.ensures.labels) stand (rw (← c.self.view_is) at c.requires.spare) next.1 in
-    rw (c.get.ensures, c.remove_between.ensures) ((changed i.trains _ _ _ i.index h.index change).new)
+    record {
+      labels = omega (arith, next.0, c.get.ensures, c.next_label.ensures.small);
+      new = rw (c.get.ensures, c.remove_between.ensures) ((changed i.trains _ _ _ i.index h.index change).new);
+    }
 
 pub invariant_of-self : goal.invariant_of-self
 invariant_of-self c =
