@@ -67,6 +67,7 @@ fn entry_at(added: &[AddedCall], place: u32) -> AddedCall
 }
 
 /// The place to which an entry after the one at this place jumps.
+#[tactic(auto, using(crate::proofs::LinkLemmas::links))]
 fn jump_from(added: &[AddedCall], place: u32) -> u32
     requires linked { AreLinked added.now }
     requires there { place < length added.now }
@@ -116,6 +117,7 @@ fn next_entry(added: &[AddedCall], t: TrainNo, row: &TrainSlots, slot: u32) -> A
 }
 
 /// An earlier entry of the same train, and none before the one wanted.
+#[tactic(auto, using(crate::proofs::LinkLemmas::links, crate::proofs::LinkLemmas::before_at))]
 fn earlier(added: &[AddedCall], from: &AddedCall, nth: u32) -> AddedCall
     // linked entries, and one of them after the one that is wanted
     requires linked { AreLinked added.now }
@@ -184,6 +186,7 @@ impl Slots {
     }
 
     /// How many trains there are. They are numbered from 0.
+    #[tactic(auto, using(crate::proofs::SlotLemmas::rows))]
     pub fn count(&self) -> u32
         ensures { result ≡ length self.now.trains }
     {
@@ -212,6 +215,7 @@ impl Slots {
     }
 
     /// The label of the next call that a rerouting of the train makes.
+    #[tactic(auto, using(crate::proofs::SlotLemmas::rows))]
     pub fn next_label(&self, t: TrainNo) -> Label
         requires { t < length self.now.trains }
         ensures label { option_map (λ (n : NumberedTrain). length n.slots)
@@ -224,6 +228,7 @@ impl Slots {
     }
 
     /// How many calls the train was loaded with.
+    #[tactic(auto, using(crate::proofs::SlotLemmas::rows))]
     pub fn loaded(&self, t: TrainNo) -> u32
         requires { t < length self.now.trains }
         ensures { option_map (λ (n : NumberedTrain). n.loaded) (slice_get self.now.trains t)
@@ -233,6 +238,7 @@ impl Slots {
     }
 
     /// The slot of a train's first call.
+    #[tactic(auto, using(crate::proofs::SlotLemmas::rows))]
     pub fn first(&self, t: TrainNo) -> u32
         requires { t < length self.now.trains }
         ensures { slot_of self.now t 0 ≡ Some result }
@@ -242,6 +248,7 @@ impl Slots {
 
     /// The slot of the call of a train with a label. None exactly where no such call was ever made.
     #[inline(always)]
+    #[tactic(auto, using(crate::proofs::SlotLemmas::rows))]
     pub fn slot(&self, t: TrainNo, l: Label) -> Option<u32>
         ensures { result ≡ slot_of self.now t l }
     {
@@ -262,6 +269,7 @@ impl Slots {
 
     /// One more train, which is loaded with so many calls, and the slot of the first of them. It
     /// takes no memory.
+    #[tactic(auto, using(crate::proofs::StoredSlotLemmas::pushed_seen))]
     pub fn push_train(&mut self, calls: u32) -> u32
         requires train_spare { 0 < self.old.spare_trains }
         requires some { 1 ≤ calls }
@@ -283,6 +291,7 @@ impl Slots {
     }
 
     /// So many more calls of a train, and the slot of the first of them. It takes no memory.
+    #[tactic(auto, using(crate::proofs::NumberingLemmas::more))]
     pub fn add_calls(&mut self, t: TrainNo, calls: u32) -> u32
         requires there { t < length self.old.trains }
         requires calls_spare { calls ≤ self.old.spare_calls }
@@ -296,6 +305,7 @@ impl Slots {
         first
     }
 
+    #[tactic(auto, using(crate::proofs::SlotLemmas::rows))]
     fn add_call(&mut self, t: TrainNo)
         requires there { t < length self.old.trains }
         requires spare { 0 < self.old.spare_calls }
@@ -312,6 +322,7 @@ impl Slots {
 
     /// A law: each slot of a call is below the number of used ones and that of no other call, and
     /// each used slot is that of a call.
+    #[tactic(auto, using(crate::proofs::SlotLemmas::rows))]
     pub fn numbers_are_lawful(&self)
         ensures below { (t l s : ℕ) → slot_of self.now t l ≡ Some s → s < self.now.used }
         ensures once { (t l u m s : ℕ) → slot_of self.now t l ≡ Some s → slot_of self.now u m

@@ -81,6 +81,7 @@ impl NodeTimes {
 
     /// Times for the events of all calls that have slots, 2^25 - 1 for each, with the same room.
     /// `OutOfMemory` where there is no memory.
+    #[tactic(auto, using(crate::proofs::SlotTimeLemmas::given))]
     pub fn blank(alloc: Global, slots: &Slots) -> Result<NodeTimes, OutOfMemory>
         ensures { IfOk result (λ times. times ≡ blank_trains slots.now) }
     {
@@ -104,6 +105,7 @@ impl NodeTimes {
     /// The time of an event, in seconds from the base of day 0. It takes one step, and nothing else
     /// takes one.
     #[inline(always)]
+    #[tactic(auto, using(crate::proofs::SlotTimeLemmas::events))]
     pub fn read<L: Ledger>(&self, n: Node, steps: &mut Steps<L>) -> Time
         requires { IsTrue (has_time self.now n) }
         ensures time { time_of self.now n ≡ Some result }
@@ -114,6 +116,7 @@ impl NodeTimes {
     }
 
     /// Changes the time of an event, in seconds from the base of day 0.
+    #[tactic(auto, using(crate::proofs::SlotTimeLemmas::events))]
     pub fn write(&mut self, n: Node, t: Time)
         requires { IsTrue (has_time self.old n) }
         ensures stored { self.new ≡ with_time n t self.old }
@@ -127,6 +130,7 @@ impl NodeTimes {
 
     /// Times for the events of one more train, which has so many labels: 2^25 - 1 for each, which
     /// no settled event has. It takes no memory.
+    #[tactic(auto, using(crate::proofs::SlotTimeLemmas::given))]
     pub fn push_train(&mut self, labels: u32)
         requires train_spare { 0 < self.old.spare_trains }
         requires some { 1 ≤ labels }
