@@ -41,6 +41,7 @@ impl Model for OverrideTable {
 impl OverrideTable {
     /// Nothing is chosen yet, and there is room for so many choices. `OutOfMemory` where there is
     /// no memory.
+    #[tactic(auto, using(crate::proofs::OverrideOrders::nothing))]
     pub fn with_room(alloc: Global, spare: u32) -> Result<OverrideTable, OutOfMemory>
         ensures { IfOk result (λ table. table ≡ record { choices = map.empty; spare = spare }) }
     {
@@ -70,6 +71,7 @@ impl OverrideTable {
     }
 
     /// Whether nothing is chosen.
+    #[tactic(auto, using(crate::proofs::OverrideOrders::sorted_len))]
     pub fn is_empty(&self) -> bool
         ensures { result ≡ nat_eq (map.len self.now.choices) 0 }
     {
@@ -87,6 +89,7 @@ impl OverrideTable {
     }
 
     /// The arrivals whose connection to a departure is kept.
+    #[tactic(auto, using(crate::proofs::KeepLemmas::found_into))]
     pub fn keeps_into(&self, departure: &Node) -> Keeps<'_>
         ensures { result ≡ kept_into self.now.choices departure.now }
     {
@@ -97,6 +100,7 @@ impl OverrideTable {
     }
 
     /// The departures to which the connection from an arrival is kept.
+    #[tactic(auto, using(crate::proofs::KeepLemmas::found_from))]
     pub fn keeps_from(&self, arrival: &Node) -> Keeps<'_>
         ensures { result ≡ kept_from self.now.choices arrival.now }
     {
@@ -107,6 +111,7 @@ impl OverrideTable {
     }
 
     /// Chooses for a connection, in place of what was chosen before. It takes no memory.
+    #[tactic(auto, using(crate::proofs::OverrideOrders::chosen))]
     pub fn set(&mut self, connection: Connection, choice: Override)
         requires spare { map.contains_key self.old.choices connection ≡ false → 0 < self.old.spare }
         ensures choices { self.new.choices ≡ map.insert self.old.choices connection choice }
@@ -120,6 +125,7 @@ impl OverrideTable {
     }
 
     /// Takes back what was chosen for a connection, and gives its room back.
+    #[tactic(auto, using(crate::proofs::OverrideOrders::chosen))]
     pub fn remove(&mut self, connection: &Connection)
         ensures choices { self.new.choices ≡ map.remove self.old.choices connection.now }
         ensures spare { self.new.spare

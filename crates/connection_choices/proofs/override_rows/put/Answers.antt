@@ -1,4 +1,4 @@
-use Rattle.connection_choices.proofs.Words.{arith}
+use Rattle.connection_choices.proofs.Words.{arith, rules}
 use Rattle.connection_choices.proofs.OverrideOrders.{ends_total}
 use Rattle.connection_choices.proofs.PlaceLemmas.{at-found, at-gap}
 use Rattle.connection_choices.proofs.override_rows.put.Goals as goal
@@ -6,11 +6,7 @@ use Rattle.connection_choices.proofs.override_rows.put.Goals as goal
 pub returns-in-Ok : goal.returns-in-Ok
 returns-in-Ok c =
     let there = at-found (ends_total c.args.end) c.args.rows.now.items _ c.args.connection.now c.in-Ok.place c.deref.ensures.value c.requires.sorted c.in-Ok.ensures.within c.in-Ok.ensures.found in
-    record {
-      new = rw (there.find_is c.index_mut.result.now);
-      items = rw (there.put_is c.args.choice c.index_mut.result.now, ← c.index_mut.ensures.value);
-      capacity = omega arith;
-    }
+    search (rules, there.find_is c.index_mut.result.now, there.put_is c.args.choice c.index_mut.result.now, c.index_mut.ensures.value)
 
 pub returns-in-Err : goal.returns-in-Err
 returns-in-Err c =

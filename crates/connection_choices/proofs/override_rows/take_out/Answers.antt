@@ -1,4 +1,4 @@
-use Rattle.connection_choices.proofs.Words.{refl, sym, arith}
+use Rattle.connection_choices.proofs.Words.{arith}
 use Rattle.connection_choices.proofs.OverrideOrders.{ends_total}
 use Rattle.connection_choices.proofs.PlaceLemmas.{at-found, at-gap}
 use Rattle.connection_choices.proofs.override_rows.take_out.Goals as goal
@@ -11,4 +11,4 @@ returns-in-Ok c =
 pub returns : goal.returns
 returns c =
     let gap = at-gap (ends_total c.args.end) c.args.rows.now.items _ c.args.connection.now c.in_default.field-0 c.deref.ensures.value c.requires.sorted (rw c.in_default.is at c.search.ensures.within) (rw c.in_default.is at c.search.ensures.absent) in
-    record { there = rw gap.find_is refl; items = sym gap.others_are; capacity = refl }
+    grind (arith, gap.find_is, gap.others_are)

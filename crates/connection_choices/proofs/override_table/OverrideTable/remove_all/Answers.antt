@@ -1,16 +1,18 @@
-use Rattle.connection_choices.proofs.Words.{not, arith, refl, Connection, connections_total, exact_connections, names_event}
-use Rattle.connection_choices.proofs.OverrideOrders.{kept-turned, stored-with, sorted-len}
-use Rattle.connection_choices.proofs.PlaceLemmas.{kept-is}
+use Rattle.connection_choices.proofs.Words.{◌≡◌, not, arith, refl, Connection, connections_total, exact_connections, names_event, same_map, get-retain_keys, from_sorted, connection_cmp, ap, sym, Equal}
+use Rattle.connection_choices.proofs.OverrideOrders.{chosen, turned-count, kept-turned, sorted_len, only}
 use Rattle.connection_choices.proofs.override_table.OverrideTable.remove_all.Goals as goal
 
 pub invariant_of-self : goal.invariant_of-self
 invariant_of-self g c =
     let stays = λ (p : Connection). not (names_event (g.E.EventSet.holds c.args.events.now) p) in
-    stored-with _ _ c.self.invariant (rw (c.retain.ensures.items, c.retain-2.ensures.items) (kept-turned stays stays _ _ (λ p. refl) c.self.invariant.choices)) (omega (arith, c.len-before.ensures, c.len.ensures, c.retain.ensures.bound)) (omega (arith, c.retain.ensures.capacity)) (omega (arith, c.retain-2.ensures.capacity))
+    let turned = kept-turned stays stays _ _ (λ p. refl) c.self.invariant.choices in
+    grind (arith, turned, turned-count, c.len-before.ensures, c.len.ensures, c.retain.ensures, c.retain-2.ensures)
 
 pub returns-clause-choices : goal.returns-clause-choices
-returns-clause-choices g c =
-    rw (← c.self.view_is, c.retain.ensures.items) (kept-is connections_total exact_connections c.self.inside.by_arrival.items c.self.invariant.choices.sorted (λ p. not (names_event (g.E.EventSet.holds c.args.events.now) p)))
+returns-clause-choices g c = same_map connections_total exact_connections _ _ (λ q.
+    let stays = λ (p : Connection). not (names_event (g.E.EventSet.holds c.args.events.now) p) in
+    let alike : (x : Connection) → connection_cmp q x ≡ Equal → stays x ≡ stays q = λ x u. ap stays (sym (exact_connections q x u)) in
+    grind (arith, c.self.view_is, chosen c.self.inside q c.self.invariant, chosen _ q (invariant_of-self g c), c.retain.ensures.items, get-retain_keys {R = connection_cmp} (from_sorted c.self.inside.by_arrival.items) stays q alike, only stays q c.self.inside.by_arrival.items))
 
 pub returns-clause-spare : goal.returns-clause-spare
-returns-clause-spare g c = grind (arith, c.self.view_is, sorted-len c.self.inside.by_arrival.items c.self.invariant.choices.sorted, sorted-len c.retain.new.rows.items (invariant_of-self g c).choices.sorted, c.len-before.ensures, c.len.ensures)
+returns-clause-spare g c = grind (arith, sorted_len, c.self.view_is, invariant_of-self g c)
