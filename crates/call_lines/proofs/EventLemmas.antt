@@ -2,7 +2,7 @@
 use Rattle.call_lines.proofs.Words.{◌≡◌, ◌≢◌, ℕ, suc, ◌<◌, List, [], ◌∷◌, Bool, true, false, ◌&&◌, nat_eq, length, take, refl, arith, Some, None}
 use Rattle.call_lines.proofs.Words.{slice_get, find, All, beq, list_any, option_map, option_map_or, Node, is_same_node, Call, Train, State, Event, is_call, node_at}
 use Rattle.call_lines.proofs.Words.{calls_of, events_at, is_event, event_by, event_named, is_live, values_of, call_named, has_call, label_after, label_before}
-use Rattle.call_lines.proofs.Words.{HasDistinctLabels, IsFirst, nat_eq-same, nat_tests, length-take-le, ◌-◌, ◌∙◌, ap}
+use Rattle.call_lines.proofs.Words.{HasDistinctLabels, IsFirst, ◌+◌, nat_eq-same, nat_tests, length-take-le, ◌-◌, ◌∙◌, ap}
 use Rattle.call_lines.proofs.CallPlaces.{first-cut, get-drop, get-take, label_of, last-at}
 
 -- an event of a call
@@ -45,8 +45,7 @@ live-there st n h live = grind (arith, live-named st n h)
 
 -- the label after a call's place
 pub label_after-at : (cs : List Call) (l place : ℕ) → IsFirst (is_call l) place cs → label_after cs l ≡ option_map (λ (c : Call). c.label) (slice_get cs (suc place))
-label_after-at cs l place h =
-    rw ((first-cut (is_call l) place cs h).after_is) (ap (option_map label_of) (get-drop (suc place) cs 0 ∙ ap (slice_get cs) (omega arith)))
+label_after-at cs l place h = let e : suc place + 0 ≡ suc place = omega arith in rw ((first-cut (is_call l) place cs h).after_is, get-drop (suc place) cs 0, e) refl
 
 -- the label before a call's place
 pub label_before-at : (cs : List Call) (l place before : ℕ) → IsFirst (is_call l) place cs → place ≡ suc before → before < length cs → label_before cs l ≡ option_map (λ (c : Call). c.label) (slice_get cs before)

@@ -1,6 +1,5 @@
 pub mod CallPlaces
 pub mod EventLemmas
-pub mod LineLemmas
 pub mod LoadedLemmas
 pub mod Numbered
 pub mod PartLemmas

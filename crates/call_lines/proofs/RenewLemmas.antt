@@ -1,112 +1,69 @@
 -- A line of calls that is gone through backwards, each call given its place and the first report after it.
-use Rattle.call_lines.proofs.Words.{slice_get-set_same, slice_get-set_other, ◌≡◌, ◌≢◌, ℕ, zero, suc, ◌+◌, ◌-◌, ◌<◌, ◌≤◌, List, [], ◌∷◌, length, get_or, drop, map, refl}
-use Rattle.call_lines.proofs.Words.{◌∙◌, arith, Option, Some, None, slice_get, set, slice_get-get_or, slice_get_within, length-set, length-map, get_or-map, cases_eq}
-use Rattle.call_lines.proofs.Words.{drop-cons, inl, inr, option_or, StoredCall, drop_of_length-le, walk, slot_after, call_of, call_report, report_of, next_report_of}
-use Rattle.call_lines.proofs.Words.{IsChained, HasPlaces, HasNextReports, IsRenewedCall, IsRenewed, IsLine, is_call}
-use Rattle.call_lines.proofs.CallPlaces.{at-label, first-cut, first-drop, past-none}
-use Rattle.call_lines.proofs.LineLemmas.{walk-begins, walk-at}
-use Rattle.call_lines.proofs.TrainLines.{some-of}
+use Rattle.call_lines.proofs.Words.{slice_get-set_same, slice_get-set_other, ◌≡◌, ◌≢◌, ℕ, zero, suc, ◌+◌, ◌-◌, ◌<◌, ◌≤◌, List, ◌∷◌, length, get_or, map, refl}
+use Rattle.call_lines.proofs.Words.{◌∙◌, arith, Option, Some, slice_get, set, slice_get-get_or, slice_get_within, length-set, cases_eq}
+use Rattle.call_lines.proofs.Words.{inl, inr, option_or, StoredCall, walk, call_of, call_report, report_of, next_report_of, All, slice_get_cases, slice_get_past}
+use Rattle.call_lines.proofs.Words.{IsLineCall, IsPlaced, HasNextReports, IsRenewedCall, IsLine, HasDistinctLabels}
+use Rattle.call_lines.proofs.TrainLines.{line-at}
 
 abbrev Alike : ℕ → List StoredCall → List StoredCall → Type 0
 Alike train old new = (i : ℕ) (x : StoredCall) → slice_get old i ≡ Some x → IsRenewedCall train old new i x
 
--- a whole walk begins with a call, and the rest of it is whole
-walk-whole : (cs : List StoredCall) (n s : ℕ) → length (walk cs (suc n) s) ≡ suc n → (x : StoredCall) × (slice_get cs s ≡ Some x) × (length (walk cs n x.after) ≡ n)
-walk-whole cs n s w = let x = walk-begins cs n s (omega arith) in let v = rw x.1 at w in (x.0, x.1, omega arith)
-
 -- the calls along a line stay what they are
-pub calls-alike : (train n slot : ℕ) (old new : List StoredCall) → Alike train old new → length (walk old n slot) ≡ n → map call_of (walk new n slot) ≡ map call_of (walk old n slot)
-calls-alike train zero slot old new h w = refl
-calls-alike train (suc n) slot old new h w =
-    let x = walk-whole old n slot w in
-    grind (arith, x, h slot x.0 x.1, calls-alike train n x.0.after old new h x.2)
+pub calls-alike : (train n slot : ℕ) (old new : List StoredCall) → length new ≡ length old → Alike train old new → map call_of (walk new n slot) ≡ map call_of (walk old n slot)
+calls-alike train zero slot old new c h = refl
+calls-alike train (suc n) slot old new c h = elim (slice_get_cases old slot).1 [
+  | inl x ↦ grind (arith, x.2, h slot x.0 x.2, calls-alike train n x.0.after old new c h)
+  | inr none ↦ grind (arith, none, c, slice_get_past new slot)
+]
 
--- what a call of the line has after it was gone through
-abbrev pub IsDone : List StoredCall → List StoredCall → ℕ → ℕ → ℕ → ℕ → Type 0
-IsDone old new n slot place j =
-    (y : StoredCall) → slice_get new (slot_after old j slot) ≡ Some y → (y.place ≡ place + j) × (next_report_of y ≡ report_of (map call_of (drop (suc j) (walk old n slot))))
+-- the calls after a place of a walk have other labels than the one there
+labels-after : (cs : List StoredCall) (n s q m : ℕ) (x : StoredCall) → n ≡ m + suc q → HasDistinctLabels (map call_of (walk cs n s)) → slice_get (walk cs n s) q ≡ Some x → All (λ d. x.label ≢ d.label) (map call_of (walk cs m x.after))
+labels-after cs zero s q m x e d h = absurd (cc)
+labels-after cs (suc n) s zero m x e d h = let same : n ≡ m = omega arith in grind (arith, same, d, h, slice_get_cases cs s)
+labels-after cs (suc n) s (suc q) m x e d h = grind (arith, d, h, slice_get_cases cs s, λ (z : ℕ). labels-after cs n z q m x (omega arith))
 
--- where all were gone through, all know their places and next reports
-pub all-done : (train n slot place : ℕ) (old new : List StoredCall) → Alike train old new → length (walk old n slot) ≡ n → ((j : ℕ) → j < n → IsDone old new n slot place j) → HasPlaces place (walk new n slot) × HasNextReports (walk new n slot)
-all-done train zero slot place old new h w d = (tt, tt)
-all-done train (suc n) slot place old new h w d =
-    let x = walk-whole old n slot w in
-    let a = h slot x.0 x.1 in
-    let rest = all-done train n x.0.after (place + 1) old new h x.2 (λ j l y g. (let one = d (suc j) (omega arith) y (rw x.1 g) in (omega (arith, one.0), rw x.1 at one.1))) in
-    grind (arith, x.1, a.there, a.same, d 0 (omega arith) a.now a.there, calls-alike train n x.0.after old new h x.2, rest)
+-- where the calls of a walk have other labels than the one in a slot, to set that one leaves the walk
+walk-set : (cs : List StoredCall) (n s slot l : ℕ) (x y : StoredCall) → slice_get cs slot ≡ Some x → x.label ≡ l → All (λ d. l ≢ d.label) (map call_of (walk cs n s)) → walk (set cs slot y) n s ≡ walk cs n s
+walk-set cs zero s slot l x y h e a = refl
+walk-set cs (suc n) s slot l x y h e a = elim (slice_get_cases cs s).1 [
+  | inl z ↦ (let b = rw z.2 at a in grind (arith, h, e, b 0 (call_of z.0) (omega arith), z.2, slice_get-set_other cs slot s y, walk-set cs n z.0.after slot l x y h e (λ k d m. b (suc k) d (omega arith))))
+  | inr none ↦ grind (arith, h, none, slice_get-set_other cs slot s y)
+]
 
--- the calls from the place `todo` on were gone through; the next one stands in the slot, before the first report `next`
-pub record IsPartlyRenewed (train first last len todo : ℕ) (old new : List StoredCall) (slot : ℕ) (next : Option ℕ) : Type 0 where
+-- of a line, the calls from the place `todo` on were gone through; the next one stands in the slot, before the first report `next`
+pub record IsPartlyRenewed (train len todo : ℕ) (at : ℕ → ℕ) (old new : List StoredCall) (slot : ℕ) (next : Option ℕ) : Type 0 where
   pub within : todo ≤ len
   pub same_count : length new ≡ length old
   pub alike : Alike train old new
-  pub at : 0 < todo → slot ≡ slot_after old (todo - 1) first
-  pub next_is : next ≡ report_of (map call_of (drop todo (walk old len first)))
-  pub done : (j : ℕ) → todo ≤ j → j < len → IsDone old new len first 0 j
+  pub slot_is : 0 < todo → slot ≡ at (todo - 1)
+  pub next_is : next ≡ report_of (map call_of (walk new (len - todo) (at todo)))
+  pub places : (j : ℕ) (x : StoredCall) → slice_get (walk new (len - todo) (at todo)) j ≡ Some x → x.place ≡ todo + j
+  pub reports : HasNextReports (walk new (len - todo) (at todo))
 
-pub begins : (train first last len : ℕ) (old : List StoredCall) → IsLine train first last len old → IsPartlyRenewed train first last len len old old last None
-begins train first last len old h = grind (arith, h.ends, drop_of_length-le (walk old len first), h.whole)
+module _ {train first last len : ℕ} {old : List StoredCall} (h : IsLine train first last len old) {todo slot : ℕ} {new : List StoredCall} {next : Option ℕ} (w : IsPartlyRenewed train len todo h.at old new slot next) (q : ℕ) (step : todo ≡ suc q) where
+  -- the call before the place, and what stands in its slot now
+  was : IsLineCall old train len h.at q
+  was = h.line.calls q (omega (arith, w.within))
 
-pub ends : (train first last len slot : ℕ) (old new : List StoredCall) (next : Option ℕ) → IsLine train first last len old → IsPartlyRenewed train first last len 0 old new slot next → IsRenewed train first len old new
-ends train first last len slot old new next h w = grind (arith, w.same_count, w.alike, all-done train len first 0 old new w.alike h.whole (λ j l. w.done j (omega arith) l))
+  now : IsRenewedCall train old new slot was.call
+  now = w.alike slot was.call (grind (arith, w.slot_is, step, was.stored))
 
--- a call of a line names the slot of the one before it
-chain-back : (cs xs : List StoredCall) (before slot j : ℕ) (y : StoredCall) → IsChained cs before slot xs → slice_get xs (suc j) ≡ Some y → y.before ≡ slot_after cs j slot
-chain-back cs [] before slot j y h e = absurd (cc)
-chain-back cs (x ∷ []) before slot j y h e = absurd (cc)
-chain-back cs (x ∷ u ∷ xs) before slot zero y h e = grind (arith, h.2.1, e)
-chain-back cs (x ∷ u ∷ xs) before slot (suc j) y h e = grind (arith, h.0, chain-back cs (u ∷ xs) slot x.after j y h.2 e)
+  pub inside : slot < length new
+  inside = slice_get_within new slot now.now now.there
 
--- a line in the arena, with what stands at one of its places
-module _ (train first last len : ℕ) (old : List StoredCall) (h : IsLine train first last len old) where
-  abbrev ws : List StoredCall
-  ws = walk old len first
+  module _ {x y : StoredCall} {report : Option ℕ} {before : ℕ} (at : x ≡ get_or new slot x) (placed : IsPlaced q x y) (noted : next_report_of y ≡ next) (told : report ≡ option_or (call_report (call_of x)) next) (leads : before ≡ y.before) where
+    same_y : y ≡ record was.call { place = y.place; next_report = y.next_report }
+    same_y = grind (arith, placed, now, slice_get-get_or new slot x inside, at)
 
-  stands : (j : ℕ) (d : StoredCall) → j < len → slice_get old (slot_after old j first) ≡ Some (get_or ws j d)
-  stands j d l = rw (← walk-at old len first j (omega (arith, h.whole))) (slice_get-get_or ws j d (omega (arith, h.whole)))
+    -- what was gone through stays, behind this call
+    rest : walk (set new slot y) (len - q) (h.at q) ≡ y ∷ walk new (len - todo) (h.at todo)
+    rest =
+        let there = line-at old train len h.at h.line q (omega (arith, w.within)) ∙ was.stored in
+        let others = rw (← calls-alike train (len - todo) was.call.after old new w.same_count w.alike) at (labels-after old len first q (len - todo) was.call (omega (arith, w.within, step)) h.apart (rw h.begins at there)) in
+        let more : len - q ≡ suc (len - todo) = omega (arith, w.within, step) in
+        grind (arith, more, w.slot_is, step, slice_get-set_same new slot y inside, same_y, cases_eq (len - todo) 0, was.after_is, walk-set new (len - todo) was.call.after slot was.call.label now.now y now.there (grind (arith, now)) others)
 
-  slots-apart : (i j : ℕ) (d : StoredCall) → i < j → j < len → slot_after old i first ≢ slot_after old j first
-  slots-apart i j d l m e =
-      let cs = map call_of ws in
-      let label = (call_of (get_or ws j d)).label in
-      let at = λ (k : ℕ) (s : k < len) (is : get_or ws k d ≡ get_or ws j d). at-label cs k label (call_of d) h.apart (omega (arith, length-map ws call_of, h.whole)) (grind (arith, is, get_or-map call_of ws k d (call_of d))) in
-      let none = past-none cs i label j h.apart (at i (omega arith) (grind (arith, stands i d (omega arith), stands j d m, e))) l in
-      let some = (first-cut (is_call label) 0 (drop j cs) (first-drop (is_call label) j 0 j cs (omega arith) (at j m refl))).some in cc
-
-  module _ (todo q slot : ℕ) (new : List StoredCall) (next : Option ℕ) (w : IsPartlyRenewed train first last len todo old new slot next) (step : todo ≡ suc q) where
-    here : slot ≡ slot_after old q first
-    here = grind (arith, w.at, step)
-
-    pub inside : slot < length new
-    inside = grind (arith, w.same_count, here, some-of ws q (omega (arith, w.within, h.whole)), walk-at old len first q, slice_get_within old slot)
-
-    module _ (x : StoredCall) (at : x ≡ get_or new slot x) where
-      abbrev was : StoredCall
-      was = get_or ws q x
-
-      stored : slice_get old slot ≡ Some was
-      stored = rw here (stands q x (omega (arith, w.within)))
-
-      module _ (y : StoredCall) (report : Option ℕ) (before : ℕ) (placed : y ≡ record x { place = q; next_report = y.next_report }) (noted : next_report_of y ≡ next) (told : report ≡ option_or (call_report (call_of x)) next) (leads : before ≡ y.before) where
-        -- what stands there now differs from it in place and next report alone
-        same_y : y ≡ record was { place = y.place; next_report = y.next_report }
-        same_y = grind (arith, placed, w.alike slot was stored, slice_get-get_or new slot x inside, at)
-
-        pub goes-on : IsPartlyRenewed train first last len q old (set new slot y) before report
-        goes-on =
-            record {
-              within = omega (arith, w.within);
-              same_count = length-set new slot y ∙ w.same_count;
-              alike = λ i z e. elim (cases_eq i slot) [
-                | inl same ↦ record { now = y; there = grind (arith, same, slice_get-set_same new slot y inside); same = grind (arith, stored, same, e, same_y); other = λ n. absurd (n (grind (arith, stored, same, e, h.mine q x (omega (arith, w.within, h.whole))))) }
-                | inr apart ↦ grind (arith, w.alike i z e, slice_get-set_other new slot i y apart)
-              ];
-              at = λ l.
-                  let one : suc (q - 1) ≡ q = omega arith in
-                  grind (arith, leads, same_y, chain-back old ws first first (q - 1) was h.chained (rw one (slice_get-get_or ws q x (omega (arith, w.within, h.whole)))));
-              next_is = grind (arith, told, placed, same_y, w.next_is, step, drop-cons ws q x (omega (arith, w.within, h.whole)));
-              done = λ j l m z g. elim (cases_eq j q) [
-                | inl same ↦ grind (arith, here, slice_get-set_same new slot y inside, placed, noted, w.next_is)
-                | inr apart ↦ w.done j (omega arith) m z (grind (arith, g, here, slice_get-set_other new slot (slot_after old j first) y, slots-apart q j x (omega arith) m))
-              ];
-            }
+    pub goes-on : IsPartlyRenewed train len q h.at old (set new slot y) before report
+    goes-on =
+        let alike : Alike train old (set new slot y) = λ i z e. grind (arith, e, cases_eq i slot, w.slot_is, step, was, same_y, slice_get-set_same new slot y inside, slice_get-set_other new slot i y, w.alike i z e) in
+        grind (arith, w, rest, alike, λ (j : ℕ). w.places (j - 1), placed, step, noted, told, leads, same_y, length-set new slot y, was.before_is)

@@ -1,12 +1,13 @@
 -- The line of a train: the slots of its calls, by their places.
-use Rattle.std.specs.Prelude.{◌≡◌, ℕ, ◌+◌, ◌-◌, ◌<◌, ◌≤◌, ◌&&◌, not, nat_eq, nat_lt, nat_le, if◌then◌else◌, List, Some, true, false, Bool, length, slice_get}
+use Rattle.std.specs.Prelude.{◌≡◌, ℕ, ◌+◌, ◌-◌, ◌<◌, ◌≤◌, ◌&&◌, not, nat_eq, nat_lt, nat_le, if◌then◌else◌, List, Some, true, false, Bool, length, slice_get, map}
 use Rattle.mt_base.specs.declared.new_calls.NewCall.{NewCall}
 use Rattle.delay_model.specs.declared.state.Call.{Call}
 use Rattle.delay_model.specs.Effect.{killed, new_call}
+use Rattle.delay_model.specs.Valid.{HasDistinctLabels}
 use Rattle.call_lines.specs.declared.parts.Part.{Part}
 use Rattle.call_lines.specs.declared.stored_call.StoredCall.{StoredCall}
-use Rattle.call_lines.specs.Linked.{call_of, values_by, IsEdited, IsCurrentAt}
-use Rattle.event_numbers.specs.Numbering.{Numbering}
+use Rattle.call_lines.specs.Linked.{call_of, values_by, walk, IsEdited, IsCurrentAt}
+use Rattle.event_numbers.specs.Numbering.{NumberedTrain, Numbering, slot_of}
 
 -- the call at a place of a train that makes so many: it leads to the ones beside it by their slots
 pub record IsLineCall (cs : List StoredCall) (train len : ℕ) (at : ℕ → ℕ) (place : ℕ) : Type 0 where
@@ -23,6 +24,21 @@ pub record IsLineAt (cs : List StoredCall) (train len : ℕ) (at : ℕ → ℕ) 
   pub covers : (i : ℕ) (x : StoredCall) → slice_get cs i ≡ Some x → x.train ≡ train
       → x.current ≡ true
       → (place : ℕ) × (place < len) × (at place ≡ i)
+
+-- a line of calls of a train: so many from a slot on, the last in the slot `last`
+pub record IsLine (train first last len : ℕ) (cs : List StoredCall) : Type 0 where
+  pub at : ℕ → ℕ
+  pub line : IsLineAt cs train len at
+  pub begins : at 0 ≡ first
+  pub ends : at (len - 1) ≡ last
+  pub apart : HasDistinctLabels (map call_of (walk cs len first))
+
+-- the calls of a train, so many from a slot on, are such a line that ends with the last call that
+-- the train was loaded with
+abbrev pub IsTrainLine : Numbering → ℕ → ℕ → ℕ → List StoredCall → Type 0
+IsTrainLine nb train first len cs =
+    (n : NumberedTrain) (last : ℕ) → slice_get nb.trains train ≡ Some n
+    → slot_of nb train (n.loaded - 1) ≡ Some last → IsLine train first last len cs
 
 -- and each knows its place
 pub record IsPlacedAt (cs : List StoredCall) (train len : ℕ) (at : ℕ → ℕ) : Type 0 where

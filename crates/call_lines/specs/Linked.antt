@@ -1,10 +1,9 @@
 -- Calls in their slots, linked along their trains.
-use Rattle.std.specs.Prelude.{◌≡◌, ◌≢◌, ℕ, zero, suc, ◌+◌, ◌-◌, ◌<◌, ◌^◌, min, List, [], ◌∷◌, if◌then◌else◌, Bool, ◌&&◌, nat_lt, Option, Some, None, true, false, slice_get, length, map, All}
+use Rattle.std.specs.Prelude.{◌≡◌, ◌≢◌, ℕ, zero, suc, ◌+◌, ◌-◌, ◌<◌, ◌^◌, min, List, [], ◌∷◌, if◌then◌else◌, Bool, ◌&&◌, nat_lt, Option, Some, None, true, false, slice_get, length, map}
 use Rattle.std.specs.Option.{option_map_or, option_or}
 use Rattle.delay_model.specs.declared.state.EventValues.{EventValues}
 use Rattle.delay_model.specs.declared.state.Call.{Call}
-use Rattle.delay_model.specs.Valid.{HasDistinctLabels}
-use Rattle.event_numbers.specs.Numbering.{NumberedTrain, Numbering, slot_of}
+use Rattle.event_numbers.specs.Numbering.{Numbering, slot_of}
 use Rattle.call_lines.specs.Loaded.{call_at}
 use Rattle.call_lines.specs.declared.calls.TableCall.{TableCall}
 use Rattle.call_lines.specs.declared.optional_time.OptionalTime.{OptionalTime}
@@ -79,32 +78,6 @@ HasNoCurrent cs nb train label =
     (slot : ℕ) (c : StoredCall) → slot_of nb train label ≡ Some slot → slice_get cs slot ≡ Some c
     → c.current ≡ false
 
--- the call is one of a train's, at this place, after the call in the slot `before`
-pub record IsInLine (train place before : ℕ) (c : StoredCall) : Type 0 where
-  pub train_is : c.train ≡ train
-  pub place_is : c.place ≡ place
-  pub before_is : c.before ≡ before
-  pub is_current : c.current ≡ true
-
--- these calls of a train are linked both ways, from the one in a slot on
-abbrev pub IsLinked : List StoredCall → ℕ → ℕ → ℕ → ℕ → List StoredCall → Type 0
-IsLinked cs train place before slot [] = Unit {0}
-IsLinked cs train place before slot (x ∷ xs) =
-    (slice_get cs slot ≡ Some x) × IsInLine train place before x
-    × IsLinked cs train (place + 1) slot x.after xs
-
--- these calls stand one after the other, from the one in a slot on: each leads to the next by its
--- slot, and the next back to it
-abbrev pub IsChained : List StoredCall → ℕ → ℕ → List StoredCall → Type 0
-IsChained cs before slot [] = Unit {0}
-IsChained cs before slot (x ∷ xs) = (slice_get cs slot ≡ Some x) × (x.before ≡ before)
-    × IsChained cs slot x.after xs
-
--- each of these calls knows its place, from `place` on
-abbrev pub HasPlaces : ℕ → List StoredCall → Type 0
-HasPlaces place [] = Unit {0}
-HasPlaces place (x ∷ xs) = (x.place ≡ place) × HasPlaces (place + 1) xs
-
 -- each of these calls knows the first report of those after it
 abbrev pub HasNextReports : List StoredCall → Type 0
 HasNextReports [] = Unit {0}
@@ -123,30 +96,9 @@ pub record IsRenewedCall (train : ℕ) (old new : List StoredCall) (i : ℕ)
 pub record IsRenewed (train first len : ℕ) (old new : List StoredCall) : Type 0 where
   pub same_count : length new ≡ length old
   pub alike : (i : ℕ) (x : StoredCall) → slice_get old i ≡ Some x → IsRenewedCall train old new i x
-  pub places : HasPlaces 0 (walk new len first)
+  pub places : (place : ℕ) (x : StoredCall) → place < len
+      → slice_get (walk new len first) place ≡ Some x → x.place ≡ place
   pub reports : HasNextReports (walk new len first)
-
--- the slot to which so many steps along the links lead
-abbrev pub slot_after : List StoredCall → ℕ → ℕ → ℕ
-slot_after cs zero slot = slot
-slot_after cs (suc n) slot =
-    slot_after cs n (option_map_or (λ (c : StoredCall). c.after) (slice_get cs slot) slot)
-
--- a line of calls of a train, as far as its links tell: so many from a slot on, the last in the
--- slot `last`
-pub record IsLine (train first last len : ℕ) (cs : List StoredCall) : Type 0 where
-  pub whole : length (walk cs len first) ≡ len
-  pub chained : IsChained cs first first (walk cs len first)
-  pub mine : All (λ (x : StoredCall). x.train ≡ train) (walk cs len first)
-  pub ends : slot_after cs (len - 1) first ≡ last
-  pub apart : HasDistinctLabels (map call_of (walk cs len first))
-
--- the calls of a train, so many from a slot on, are such a line that ends with the last call that
--- the train was loaded with
-abbrev pub IsTrainLine : Numbering → ℕ → ℕ → ℕ → List StoredCall → Type 0
-IsTrainLine nb train first len cs =
-    (n : NumberedTrain) (last : ℕ) → slice_get nb.trains train ≡ Some n
-    → slot_of nb train (n.loaded - 1) ≡ Some last → IsLine train first last len cs
 
 -- the call is stored at a place among so many new ones of a train, in the slots from `first` on
 pub record IsLaid (train first count place : ℕ) (call : Call) (x : StoredCall) : Type 0 where

@@ -43,7 +43,7 @@ fn table_event(scheduled: Time, live: bool) -> EventValues
 }
 
 /// The call at a place among so many.
-fn table_call_at(count: usize, place: u32, call: &TableCall) -> Call
+fn table_call_at(count: u32, place: u32, call: &TableCall) -> Call
     requires { place < count }
     ensures { result ≡ call_at count place call.now }
 {
@@ -51,13 +51,14 @@ fn table_call_at(count: usize, place: u32, call: &TableCall) -> Call
         label: Label::new(place),
         stop: call.stop,
         arrival: table_event(call.arr, place != 0),
-        departure: table_event(call.dep, place as usize + 1 < count),
+        departure: table_event(call.dep, place + 1 < count),
         board: call.board,
         alight: call.alight,
     }
 }
 
 /// Appends the calls of a train, labelled from 0 on, which get the slots from `first` on.
+#[tactic(auto, using(crate::proofs::LoadedLemmas::pushing))]
 pub fn push_calls(all: &mut Vec<StoredCall>, train: TrainNo, first: u32, calls: &[TableCall])
     requires room { vec_len all.old + length calls.now ≤ vec_capacity all.old }
     requires slots { first + length calls.now < 2 ^ 32 }
@@ -65,8 +66,8 @@ pub fn push_calls(all: &mut Vec<StoredCall>, train: TrainNo, first: u32, calls: 
     ensures capacity { vec_capacity all.new ≡ vec_capacity all.old }
 {
     for place in 0..calls.len() {
-        let call = table_call_at(calls.len(), place as u32, &calls[place]);
-        push_linked(all, train, first, calls.len() as u32, place as u32, &call);
+        let call = &calls[place];
+        push_linked(all, train, first, calls.len() as u32, place as u32, call);
     }
 }
 
@@ -77,18 +78,19 @@ fn push_linked(
     first: u32,
     count: u32,
     place: u32,
-    call: &Call,
+    call: &TableCall,
 )
     requires room { vec_len all.old < vec_capacity all.old }
     requires place { place < count }
     requires slots { first + count < 2 ^ 32 }
     ensures laid { (x : AStoredCall) × (all.new.items ≡ all.old.items ++ x ∷ [])
-        × IsLaid train first count place call.now x }
+        × IsLaid train first count place (call_at count place call.now) x }
     ensures capacity { vec_capacity all.new ≡ vec_capacity all.old }
 {
     let before = first + place.saturating_sub(1);
     let after = first + (place + 1).min(count - 1);
-    all.push_reserved(StoredCall::new(train, place, before, after, call));
+    let call = table_call_at(count, place, call);
+    all.push_reserved(StoredCall::new(train, place, before, after, &call));
 }
 
 /// A call of an extra train, as the timetable would have it: passengers may board and alight.
@@ -105,6 +107,7 @@ fn extra_call(call: &NewCall) -> TableCall
 }
 
 /// Appends the calls of an extra train, labelled from 0 on, which get the slots from `first` on.
+#[tactic(auto, using(crate::proofs::LoadedLemmas::pushing))]
 pub fn push_extra_calls(all: &mut Vec<StoredCall>, train: TrainNo, first: u32, calls: &[NewCall])
     requires room { vec_len all.old + length calls.now ≤ vec_capacity all.old }
     requires slots { first + length calls.now < 2 ^ 32 }
@@ -113,7 +116,7 @@ pub fn push_extra_calls(all: &mut Vec<StoredCall>, train: TrainNo, first: u32, c
     ensures capacity { vec_capacity all.new ≡ vec_capacity all.old }
 {
     for place in 0..calls.len() {
-        let call = table_call_at(calls.len(), place as u32, &extra_call(&calls[place]));
+        let call = extra_call(&calls[place]);
         push_linked(all, train, first, calls.len() as u32, place as u32, &call);
     }
 }

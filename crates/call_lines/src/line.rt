@@ -2,7 +2,8 @@
 //! them.
 
 ghost use Rattle.std.specs.Prelude.{◌≡◌, ℕ, ◌<◌, MatchOption, length, vec_capacity};
-ghost use Rattle.call_lines.specs.Linked.{HasNoCurrent, IsCurrentAt, IsLine, IsRenewed, IsTrainLine};
+ghost use Rattle.call_lines.specs.Lines.{IsLine, IsTrainLine};
+ghost use Rattle.call_lines.specs.Linked.{HasNoCurrent, IsCurrentAt, IsRenewed};
 
 use crate::stored_call::StoredCall;
 use event_numbers::Slots;

@@ -28,6 +28,7 @@ pub struct Part {
 }
 
 /// The part of a train from one call to another that stands after it.
+#[tactic(auto, using(crate::proofs::PartLemmas::setting))]
 pub fn find_part(
     calls: &[StoredCall],
     slots: &Slots,
@@ -103,15 +104,16 @@ fn take_out(calls: &mut Vec<StoredCall>, part: &Part)
     ensures capacity { vec_capacity calls.new ≡ vec_capacity calls.old }
 {
     let last = part.last;
-    let mut slot = calls[part.from as usize].after();
+    let mut slot = part.from;
     for place in part.first + 1..last {
         let _ = place;
-        calls[slot as usize].take_out();
         slot = calls[slot as usize].after();
+        calls[slot as usize].take_out();
     }
 }
 
 /// Appends the calls of a rerouting, labelled from this label on, between the ends of a part.
+#[tactic(auto, using(crate::proofs::LoadedLemmas::pushing))]
 fn push_via(calls: &mut Vec<StoredCall>, part: &Part, label: Label, via: &[NewCall])
     requires room { vec_len calls.old + length via.now ≤ vec_capacity calls.old }
     requires small { vec_len calls.old + length via.now < 2 ^ 31 }
@@ -134,6 +136,7 @@ fn push_via(calls: &mut Vec<StoredCall>, part: &Part, label: Label, via: &[NewCa
 
 /// Lets the ends of a part lead to each other over so many new calls, of which the first has the
 /// slot `new`.
+#[tactic(auto, using(crate::proofs::PartLemmas::setting))]
 fn join(calls: &mut Vec<StoredCall>, part: &Part, new: u32, count: u32)
     requires from { part.now.from < vec_len calls.old }
     requires to { part.now.to < vec_len calls.old }

@@ -1,46 +1,41 @@
--- One train changed: its row, its numbers and its calls, and nothing of other trains.
-use Rattle.train_nodes.proofs.Words.{◌≡◌, ◌≢◌, ℕ, ◌-◌, ◌<◌, ◌≤◌, true, Some, length, arith, slice_get, map, Train, change_train, TrainRecord, StoredCall, Inside}
-use Rattle.train_nodes.proofs.Words.{last_label, call_of, slot_after, HasNextReports, IsPlacedAt, NumberedTrain, first_slot, line_of, train_by, trains_by, AreLabelled}
-use Rattle.train_nodes.proofs.Words.{IsTrainStored, slot-at, line-length, placed-linked, placed-at}
-use Rattle.train_nodes.proofs.StoredLemmas.{IsRowAt, IsOneAnew, anew-stored, anew-placed, one-changed}
-pub use Rattle.train_nodes.proofs.StoredLemmas.{AreOthersKept}
+-- One train stored anew: its row, its numbers and its calls, and nothing of other trains.
+use Rattle.train_nodes.proofs.Words.{◌≡◌, ◌≢◌, ℕ, ◌+◌, ◌-◌, ◌<◌, ◌≤◌, ◌⊎◌, inl, inr, Some, length, arith, slice_get, TrainRecord, StoredCall, Inside, vec_capacity}
+use Rattle.train_nodes.proofs.Words.{slot_of, NumberedTrain, IsTrainStored, IsCallAt, IsStored, IsGrown, slice_get_cases, slice_get_within}
+use Rattle.train_nodes.proofs.StoredLemmas.{IsOneAnew, anew-stored}
 
--- one train changed, by its line
-pub record IsTrainChange (a b : Inside) (t : ℕ) (r q : TrainRecord) (n m : NumberedTrain) (at : ℕ → ℕ) : Type 0 where
-  pub of : IsRowAt a t r n
+-- a train is stored anew: old calls keep their slots, so many new ones of it are labelled from one on, and nothing of other trains changes
+pub record IsTrainChange (a b : Inside) (t from calls : ℕ) (q : TrainRecord) (m : NumberedTrain) : Type 0 where
+  pub before : IsStored a
   pub row : slice_get b.records.items t ≡ Some q
   pub number : slice_get b.slots.trains t ≡ Some m
   pub other_rows : (u : ℕ) → u ≢ t → slice_get b.records.items u ≡ slice_get a.records.items u
   pub other_numbers : (u : ℕ) → u ≢ t → slice_get b.slots.trains u ≡ slice_get a.slots.trains u
-  pub others : AreOthersKept t a.calls.items b.calls.items
-  pub placed : IsPlacedAt b.calls.items t q.len at
-  pub begins : at 0 ≡ first_slot m
-  pub reports : HasNextReports (line_of b.calls.items q.len m)
-  pub labels : AreLabelled b.slots.spare_calls (length m.slots) (map call_of (line_of b.calls.items q.len m))
-  pub last : last_label (map call_of (line_of b.calls.items q.len m)) ≡ Some (m.loaded - 1)
-  pub spare : b.slots.spare_calls ≤ a.slots.spare_calls
+  pub grown : IsGrown t from calls a.slots b.slots
+  pub count : length b.calls.items ≡ length a.calls.items + calls
+  pub old : (i : ℕ) (x : StoredCall) → slice_get a.calls.items i ≡ Some x → (y : StoredCall) × (slice_get b.calls.items i ≡ Some y) × (y.train ≡ x.train) × (y.label ≡ x.label) × (x.train ≢ t → y ≡ x)
+  pub made : (j : ℕ) → j < calls → (y : StoredCall) × (slice_get b.calls.items (length a.calls.items + j) ≡ Some y) × (y.train ≡ t) × (y.label ≡ from + j)
+  pub own : IsTrainStored b.slots.spare_calls b.calls.items t q.len m
+  pub spare : b.slots.spare_calls + calls ≡ a.slots.spare_calls
+  pub records_count : length b.records.items ≡ length b.slots.trains
+  pub records_room : length b.records.items + b.slots.spare_trains ≤ vec_capacity b.records
+  pub capacity : vec_capacity b.calls ≡ vec_capacity a.calls
 
-module _ (a b : Inside) (t : ℕ) (r q : TrainRecord) (n m : NumberedTrain) (at : ℕ → ℕ) (w : IsTrainChange a b t r q n m at) where
-  own-placed : (i : ℕ) (x : StoredCall) → slice_get b.calls.items i ≡ Some x → x.train ≡ t → x.current ≡ true → (x.place < q.len) × (slot_after b.calls.items x.place (first_slot m) ≡ i)
-  own-placed i x h mine c =
-      let own = placed-at b.calls.items t q.len at w.placed i x h mine c in
-      let slot = slot-at b.calls.items t q.len at w.placed.line x.place 0 (omega (arith, own.0)) in
-      grind (arith, own, rw w.begins at slot)
+module _ {a b : Inside} {t from calls : ℕ} {q : TrainRecord} {m : NumberedTrain} (w : IsTrainChange a b t from calls q m) where
+  -- each call was there or is new
+  each-call : (i : ℕ) (y : StoredCall) → slice_get b.calls.items i ≡ Some y → ((x : StoredCall) × (slice_get a.calls.items i ≡ Some x) × (y.train ≡ x.train) × (y.label ≡ x.label) × (x.train ≢ t → y ≡ x)) ⊎ ((j : ℕ) × (j < calls) × (length a.calls.items + j ≡ i) × (y.train ≡ t) × (y.label ≡ from + j))
+  each-call i y h =
+      grind (arith, h, slice_get_cases a.calls.items i, w.old i, slice_get_within b.calls.items i y h, w.count, λ (l : length a.calls.items ≤ i). w.made (i - length a.calls.items) (omega (arith, w.count, slice_get_within b.calls.items i y h)))
 
-  change-anew : IsOneAnew a b t q m
-  change-anew =
-      let whole = rw w.begins at (line-length b.calls.items t q.len at w.placed.line) in
-      let linked = rw w.begins at (placed-linked b.calls.items t q.len at w.placed q.len 0 (omega arith)) in
-      grind (arith, w, w.of.stored, whole, linked)
+  pub change-anew : IsOneAnew a b t q m
+  change-anew = grind (arith, w, each-call)
 
-  -- each train is stored as before
-  pub train-changed : (u : ℕ) (p : TrainRecord) (k : NumberedTrain) → slice_get b.records.items u ≡ Some p → slice_get b.slots.trains u ≡ Some k → IsTrainStored b.slots.spare_calls b.calls.items u p.len k
-  train-changed = anew-stored a b t q m change-anew
-
-  -- each call that is one of its train's stands at its place
-  pub placed-changed : (i : ℕ) (x : StoredCall) (p : TrainRecord) (k : NumberedTrain) → slice_get b.calls.items i ≡ Some x → x.current ≡ true → slice_get b.records.items x.train ≡ Some p → slice_get b.slots.trains x.train ≡ Some k → (x.place < p.len) × (slot_after b.calls.items x.place (first_slot k) ≡ i)
-  placed-changed = anew-placed a b t q m change-anew own-placed
-
-  -- and one train that is seen is changed
-  pub trains-changed : (f : Train → Train) → train_by b.calls.items q m ≡ f (train_by a.calls.items r n) → trains_by b.calls.items b.records.items b.slots.trains ≡ change_train t f (trains_by a.calls.items a.records.items a.slots.trains)
-  trains-changed f e = one-changed a b t q m change-anew f r n w.of.row w.of.number e
+  -- all trains are stored
+  pub change-stored : IsStored b
+  change-stored =
+      let s = w.before in
+      let numbered : (i : ℕ) (y : StoredCall) → slice_get b.calls.items i ≡ Some y → slot_of b.slots y.train y.label ≡ Some i = λ i y h. grind (arith, each-call i y h, λ (x : StoredCall). w.grown.stays x.train x.label i, s.numbered i, w.grown.made, s.calls_count) in
+      let named : (u l i : ℕ) → slot_of b.slots u l ≡ Some i → IsCallAt b.calls.items u l i = λ u l i h. elim (w.grown.only u l i h) [
+        | inl was ↦ grind (arith, s.named u l i was, w.old i)
+        | inr made ↦ grind (arith, made, w.made made.place made.within, s.calls_count)
+      ] in
+      grind (arith, w, w.grown, s, numbered, named, anew-stored a b t q m change-anew)

@@ -1,42 +1,62 @@
 -- A change of one event's values, in the storage and in the state.
-use Rattle.train_nodes.proofs.Words.{◌≡◌, ◌≢◌, ℕ, List, Some, refl, arith, with_item, slice_get, vec_capacity, set, Vec, Global, inl, inr, cases_eq, length-set}
-use Rattle.train_nodes.proofs.Words.{slice_get_within, Call, change_labelled, TrainRecord, StoredCall, Inside, call_of, call_report, IsEdited, IsRenewed, IsTrainLine}
-use Rattle.train_nodes.proofs.Words.{NumberedTrain, first_slot, line_of, eq-eqb, nat_eq-apart, slice_get-set_same, slice_get-set_other, IsLineChange, KeepsReport}
-use Rattle.train_nodes.proofs.Words.{kept-places, kept-reports}
-use Rattle.train_nodes.proofs.StoredLemmas.{IsRowAt, row-stored, IsFound, IsEdit, then-renewed, changed-line}
+use Rattle.train_nodes.proofs.Words.{IsPlacedAt, ◌≡◌, ℕ, List, Some, refl, arith, ap, with_item, slice_get, get_or, vec_capacity, set, Vec, Global, inl, inr}
+use Rattle.train_nodes.proofs.Words.{cases_eq, length-set, slice_get_within, Call, Node, State, change_event, change_labelled, with_event, TrainRecord}
+use Rattle.train_nodes.proofs.Words.{StoredCall, Inside, call_of, call_report, IsCurrentAt, IsEdited, IsRenewed, IsStored, IsTrainLine, NumberedTrain, seen}
+use Rattle.train_nodes.proofs.Words.{eq-eqb, nat_tests, slice_get-set_same, slice_get-set_other, IsLineChange, map, ◌∙◌, HasNextReports, next_report_of}
+use Rattle.train_nodes.proofs.Words.{report_of, [], ◌∷◌}
+use Rattle.delay_model.specs.declared.state.EventValues.{EventValues}
+use Rattle.train_nodes.proofs.ReadLemmas.{found-read}
+use Rattle.train_nodes.proofs.StoredLemmas.{row-of, row-stored, IsEdit, edited-stored, edited-trains, line-changed, line-maps, renewed-edit}
 
-module _ (a : Inside) (t l slot : ℕ) (x y : StoredCall) (r : TrainRecord) (n : NumberedTrain) (h : Call → Call) (w : IsFound a t l slot x r n) (call : call_of y ≡ h (call_of x)) (rest : IsEdited x y) where
-  -- no other call has its label
-  other-label : (i : ℕ) (z : StoredCall) → slice_get a.calls.items i ≡ Some z → i ≢ slot → z.train ≡ t → z.label ≢ l
-  other-label i z is ne train label = ne (cc (w.of.stored.numbered i z is, w.of.stored.numbered slot x w.stored))
+-- calls with the same reports, which know the same ones after them, know them still
+kept-next : (ys xs : List StoredCall) → map (λ (x : StoredCall). call_report (call_of x)) ys ≡ map (λ (x : StoredCall). call_report (call_of x)) xs → map next_report_of ys ≡ map next_report_of xs → HasNextReports xs → HasNextReports ys × (report_of (map call_of ys) ≡ report_of (map call_of xs))
+kept-next [] [] e d h = (tt, refl)
+kept-next (y ∷ ys) (x ∷ xs) e d h = grind (arith, e, d, h.0, kept-next ys xs (cc) (cc) h.1)
+kept-next ys xs e d h = absurd (cc)
+
+module _ {a : Inside} {st : State} {cs : List StoredCall} {slot : ℕ} {x : StoredCall} (n : Node) (f : EventValues → EventValues) (y : StoredCall) (s : IsStored a) (v : seen a ≡ st) (e : cs ≡ a.calls.items) (c : IsCurrentAt cs a.slots n.train n.label slot) (is : x ≡ get_or a.calls.items slot x) (call : call_of y ≡ change_event n.dep f (call_of x)) (rest : IsEdited x y) where
+  abbrev g : Call → Call
+  g = change_labelled n.label (change_event n.dep f)
 
   -- to change the call in a slot is to change the call with its label
-  pub slot-changed : IsLineChange t (change_labelled l h) a.calls.items (set a.calls.items slot y)
-  slot-changed = record {
-    count = length-set a.calls.items slot y;
-    at = λ i z is. elim (cases_eq i slot) [
-      | inl same ↦ grind (arith, same, is, call, rest, w, eq-eqb x.label l w.label_is, slice_get-set_same a.calls.items slot y (slice_get_within a.calls.items slot x w.stored))
-      | inr ne ↦ grind (arith, ne, is, slice_get-set_other a.calls.items slot i y ne, other-label i z is ne, nat_eq-apart z.label l)
-    ];
-  }
+  slot-changed : IsLineChange n.train g a.calls.items (set a.calls.items slot y)
+  slot-changed =
+      let w = (found-read s v e c is).2 in
+      record {
+        count = length-set a.calls.items slot y;
+        at = λ i z h. elim (cases_eq i slot) [
+          | inl same ↦ grind (arith, same, h, call, rest, w, eq-eqb x.label n.label w.label_is, slice_get-set_same a.calls.items slot y (slice_get_within a.calls.items slot x w.stored))
+          | inr ne ↦ grind (arith, nat_tests, ne, h, slice_get-set_other a.calls.items slot i y ne, s.numbered i z h, s.numbered slot x w.stored, w)
+        ];
+      }
 
-  slot-keeps : (i : ℕ) (u v : StoredCall) → slice_get a.calls.items i ≡ Some u → slice_get (set a.calls.items slot y) i ≡ Some v → KeepsReport u v
-  slot-keeps i u v is now =
-      grind (arith, cases_eq i slot, rest, is, now, w.stored, slice_get-set_same a.calls.items slot y (slice_get_within a.calls.items slot x w.stored), slice_get-set_other a.calls.items slot i y)
+  slot-keeps : (i : ℕ) (z u : StoredCall) → slice_get a.calls.items i ≡ Some z → slice_get (set a.calls.items slot y) i ≡ Some u → (u.place ≡ z.place) × (next_report_of u ≡ next_report_of z)
+  slot-keeps i z u before now =
+      let w = (found-read s v e c is).2 in
+      grind (arith, cases_eq i slot, rest, before, now, w.stored, slice_get-set_same a.calls.items slot y (slice_get_within a.calls.items slot x w.stored), slice_get-set_other a.calls.items slot i y)
+
+  -- an edit of the calls is seen as a change of the event's values
+  edit-seen : (calls : Vec StoredCall Global) (r : TrainRecord) (m : NumberedTrain) → IsEdit a calls n.train g r m → IsStored (record a { calls = calls }) × (seen (record a { calls = calls }) ≡ with_event n f st)
+  edit-seen calls r m w =
+      (edited-stored a calls a.overrides n.train g r m w, rw (edited-trains a calls a.overrides n.train g r m w) (ap (with_event n f) v))
 
   -- where no report changes, all stays in place
-  pub slot-edit : ((c : Call) → call_report (h c) ≡ call_report c) → IsEdit a (with_item a.calls slot y) t (change_labelled l h) r n
-  slot-edit same =
-      let g = change_labelled l h in
-      let line = line_of a.calls.items r.len n in
-      let own = row-stored a t r n w.of in
-      let reports : (c : Call) → call_report (g c) ≡ call_report c = λ c. grind (arith, same c) in
-      let places = rw own.whole at (kept-places t g a.calls.items (set a.calls.items slot y) slot-changed slot-keeps reports t 0 (first_slot n) (first_slot n) line own.linked) in
-      let after = rw own.whole at (kept-reports t g a.calls.items (set a.calls.items slot y) slot-changed slot-keeps reports t 0 (first_slot n) (first_slot n) line own.linked refl own.reports) in
-      record { of = w.of; change = slot-changed; capacity = refl; places = places; reports = after }
+  pub slot-edited : ((c : Call) → call_report (change_event n.dep f c) ≡ call_report c) → IsStored (record a { calls = with_item a.calls slot y }) × (seen (record a { calls = with_item a.calls slot y }) ≡ with_event n f st)
+  slot-edited same =
+      let w = found-read s v e c is in
+      let own = row-stored a n.train w.0 w.1 w.2.of in
+      let ds = set a.calls.items slot y in
+      let maps = line-maps a n.train g ds w.0 w.1 w.2.of slot-changed in
+      let reports : (z : Call) → call_report (g z) ≡ call_report z = λ z. grind (arith, same z) in
+      let next = kept-next _ _ (maps (λ z. call_report (call_of z)) (λ z. call_report (call_of z)) (λ i z u h k t. grind (arith, slot-changed.at i z h, k, t, reports (call_of z)))) (maps next_report_of next_report_of (λ i z u h k t. (slot-keeps i z u h k).1)) own.reports in
+      let placed : IsPlacedAt ds n.train w.0.len own.at = record {
+        line = line-changed a n.train g ds w.0 w.1 w.2.of slot-changed;
+        places = λ j z l h. (let x = own.placed.line.calls j l in (slot-keeps (own.at j) x.call z x.stored h).0 ∙ own.placed.places j x.call l x.stored);
+      } in
+      edit-seen (with_item a.calls slot y) w.0 w.1 (record { of = w.2.of; change = slot-changed; capacity = refl; placed = placed; reports = next.0 })
 
--- calls that were changed and then renewed
-pub renewed-edit : (a : Inside) (calls : Vec StoredCall Global) (t len : ℕ) (g : Call → Call) (mid : List StoredCall) (r : TrainRecord) (n : NumberedTrain) → IsRowAt a t r n → IsLineChange t g a.calls.items mid → len ≡ r.len → ((first : ℕ) → IsTrainLine a.slots t first len mid → IsRenewed t first len mid calls.items) → vec_capacity calls ≡ vec_capacity a.calls → IsEdit a calls t g r n
-renewed-edit a calls t len g mid r n w k e renew capacity =
-    let done = (rw e at renew) (first_slot n) (changed-line a t g mid r n w k) in
-    record { of = w; change = then-renewed t r.len (first_slot n) g a.calls.items mid calls.items k done; capacity = capacity; places = done.places; reports = done.reports }
+  -- or the train's calls are renewed
+  pub slot-renewed : (calls : Vec StoredCall Global) {i : ℕ} {q : TrainRecord} → i ≡ n.train → q ≡ get_or a.records.items i q → ((first : ℕ) → IsTrainLine a.slots n.train first q.len (set a.calls.items slot y) → IsRenewed n.train first q.len (set a.calls.items slot y) calls.items) → vec_capacity calls ≡ vec_capacity a.calls → IsStored (record a { calls = calls }) × (seen (record a { calls = calls }) ≡ with_event n f st)
+  slot-renewed calls {q = q} at row renew capacity =
+      let w = found-read s v e c is in
+      edit-seen calls w.0 w.1 (renewed-edit a calls n.train q.len g (set a.calls.items slot y) w.0 w.1 w.2.of slot-changed (ap (λ (r : TrainRecord). r.len) (row-of q w.2.of at row)) renew capacity)

@@ -4,11 +4,8 @@ pub mod EditLemmas
 pub mod FoundParts
 pub mod LoadLemmas
 pub mod ReadLemmas
-pub mod RemovedLemmas
-pub mod ReportLemmas
 pub mod RerouteLemmas
 pub mod StoredLemmas
-pub mod StoredLines
 pub mod Words
 pub use Rattle.call_lines.proofs.EventLemmas
 pub use Rattle.connection_choices.proofs.KeepLemmas

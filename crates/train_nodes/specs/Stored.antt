@@ -1,5 +1,5 @@
 -- How stored trains are seen, and what holds of them.
-use Rattle.std.specs.Prelude.{◌≡◌, ℕ, ◌+◌, ◌-◌, ◌<◌, ◌≤◌, ◌^◌, List, [], ◌∷◌, true, Some, map, length, slice_get, unwrap_or, All, vec_capacity}
+use Rattle.std.specs.Prelude.{◌≡◌, ℕ, ◌+◌, ◌-◌, ◌<◌, ◌≤◌, ◌^◌, List, [], ◌∷◌, Some, map, length, slice_get, unwrap_or, All, vec_capacity}
 use Rattle.delay_model.specs.declared.state.Call.{Call}
 use Rattle.delay_model.specs.declared.state.Train.{Train}
 use Rattle.delay_model.specs.declared.state.State.{State}
@@ -8,7 +8,8 @@ use Rattle.train_nodes.specs.declared.train_records.TrainRecord.{TrainRecord}
 use Rattle.call_lines.specs.declared.stored_call.StoredCall.{StoredCall}
 use Rattle.train_nodes.specs.declared.trains.Trains.TheInside.{Inside}
 use Rattle.call_lines.specs.Calls.{last_label}
-use Rattle.call_lines.specs.Linked.{walk, call_of, slot_after, HasNextReports, IsLinked}
+use Rattle.call_lines.specs.Linked.{walk, call_of, HasNextReports}
+use Rattle.call_lines.specs.Lines.{IsPlacedAt}
 use Rattle.event_numbers.specs.Numbering.{NumberedTrain, slot_of}
 
 -- the slot of a train's first call
@@ -53,12 +54,13 @@ pub record AreLabelled (spare next : ℕ) (cs : List Call) : Type 0 where
   pub count : length cs ≤ next
   pub small : next + spare < 2 ^ 31
 
--- the calls of a stored train: as many as its row says, linked from the one with label 0 to the
--- last one that it was loaded with, which no rerouting takes out
+-- the calls of a stored train: as many as its row says, each in the slot of its place, the one
+-- with label 0 first, to the last one that it was loaded with, which no rerouting takes out
 pub record IsTrainStored (spare : ℕ) (cs : List StoredCall) (train len : ℕ)
     (n : NumberedTrain) : Type 0 where
-  pub whole : length (line_of cs len n) ≡ len
-  pub linked : IsLinked cs train 0 (first_slot n) (first_slot n) (line_of cs len n)
+  pub at : ℕ → ℕ
+  pub placed : IsPlacedAt cs train len at
+  pub begins : at 0 ≡ first_slot n
   pub reports : HasNextReports (line_of cs len n)
   pub labels : AreLabelled spare (length n.slots) (map call_of (line_of cs len n))
   pub last : last_label (map call_of (line_of cs len n)) ≡ Some (n.loaded - 1)
@@ -70,8 +72,8 @@ pub record IsCallAt (cs : List StoredCall) (train label slot : ℕ) : Type 0 whe
   pub train_is : call.train ≡ train
   pub label_is : call.label ≡ label
 
--- each train's calls are linked; a call has the slot that its train and label have; a current one
--- is found by its place from the first of its train on; and there is room for the spare ones
+-- each train's calls stand in its line; a call has the slot that its train and label have; and
+-- there is room for the spare ones
 pub record IsStored (a : Inside) : Type 0 where
   pub trains : (t : ℕ) (r : TrainRecord) (n : NumberedTrain) → slice_get a.records.items t ≡ Some r
       → slice_get a.slots.trains t ≡ Some n
@@ -79,10 +81,6 @@ pub record IsStored (a : Inside) : Type 0 where
   pub numbered : (i : ℕ) (x : StoredCall) → slice_get a.calls.items i ≡ Some x
       → slot_of a.slots x.train x.label ≡ Some i
   pub named : (t l i : ℕ) → slot_of a.slots t l ≡ Some i → IsCallAt a.calls.items t l i
-  pub placed : (i : ℕ) (x : StoredCall) (r : TrainRecord) (n : NumberedTrain)
-      → slice_get a.calls.items i ≡ Some x → x.current ≡ true
-      → slice_get a.records.items x.train ≡ Some r → slice_get a.slots.trains x.train ≡ Some n
-      → (x.place < r.len) × (slot_after a.calls.items x.place (first_slot n) ≡ i)
   pub records_count : length a.records.items ≡ length a.slots.trains
   pub calls_count : length a.calls.items ≡ a.slots.used
   pub records_room : length a.records.items + a.slots.spare_trains ≤ vec_capacity a.records

@@ -29,6 +29,7 @@ impl Trains {
 
     /// Cancels a train from the departure of one call to the arrival of a later one: these events
     /// no longer take place, and what was chosen for connections that name one of them goes.
+    #[tactic(auto, using(crate::proofs::FoundParts::there))]
     pub fn cancel(&mut self, t: TrainNo, from: Label, to: Label)
         requires { stands_before from to (calls_of self.old t) ≡ true }
         ensures { self.new ≡ effect self.old (Message.Cancel t from to) }
@@ -46,6 +47,7 @@ impl Trains {
     /// Lets a train make the calls `via` in place of those strictly between two of its calls. The
     /// new calls get the next labels, and what was chosen for connections that name an event of the
     /// others goes.
+    #[tactic(auto, using(crate::proofs::FoundParts::there))]
     pub fn reroute(&mut self, t: TrainNo, from: Label, to: Label, via: &[NewCall])
         requires stand { stands_before from to (calls_of self.old t) ≡ true }
         requires spare { length via.now ≤ self.old.spare_calls }

@@ -65,6 +65,7 @@ impl Model for Trains {
     ghost invariant = { IsStored };
 }
 
+#[tactic(auto, using(crate::proofs::ReadLemmas::look_ups))]
 impl Trains {
     /// No trains, with room for so many trains, calls of all trains together, and overrides.
     /// `OutOfMemory` where there is no memory, and for 2^31 calls or more, so that each new call
@@ -126,7 +127,7 @@ impl Trains {
         ensures train { self.new ≡ with_train (loaded_train day route calls.now) self.old }
     {
         self.slots.numbers_are_lawful();
-        let number = TrainNo::new(self.slots.count());
+        let number = TrainNo::new(self.count());
         let len = calls.len() as u32;
         let first = self.slots.push_train(len);
         push_calls(&mut self.calls, number, first, calls);
@@ -144,7 +145,7 @@ impl Trains {
             (Message.Extra (length self.old.trains) day route calls.now) }
     {
         self.slots.numbers_are_lawful();
-        let number = TrainNo::new(self.slots.count());
+        let number = TrainNo::new(self.count());
         let len = calls.len() as u32;
         let first = self.slots.push_train(len);
         push_extra_calls(&mut self.calls, number, first, calls);

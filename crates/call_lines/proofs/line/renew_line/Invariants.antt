@@ -6,5 +6,5 @@ use Rattle.call_lines.proofs.line.renew_line.Given as goal
 abbrev pub invariant-loop-place : goal.invariant-loop-place
 invariant-loop-place l =
     (vec_capacity l.calls ≡ vec_capacity l.fn.calls)
-    × ((train first : ℕ) → IsLine train first l.fn.last l.fn.len l.fn.calls.items
-    → IsPartlyRenewed train first l.fn.last l.fn.len l.place l.fn.calls.items l.calls.items l.slot l.next_report)
+    × ((train first : ℕ) (h : IsLine train first l.fn.last l.fn.len l.fn.calls.items)
+    → IsPartlyRenewed train l.fn.len l.place h.at l.fn.calls.items l.calls.items l.slot l.next_report)

@@ -1,5 +1,5 @@
 use Rattle.call_lines.proofs.Words.{refl, arith}
-use Rattle.call_lines.proofs.PartLemmas.{read-current}
+use Rattle.call_lines.proofs.PartLemmas.{setting}
 use Rattle.call_lines.proofs.parts.find_part.Goals as goal
 
 pub returns-then-first-last : goal.returns-then-first-last
@@ -8,11 +8,7 @@ returns-then-first-last c =
       train_is = refl;
       start = c.in_ok-from.ensures;
       end = c.in_ok-to.ensures;
-      first_is = grind (arith, c.place-first.ensures, read-current c.index-calls-from.result c.in_ok-from.ensures c.index-calls-from.is c.in_ok-from.ensures);
-      last_is = grind (arith, c.place-last.ensures, read-current c.index-calls-to.result c.in_ok-to.ensures c.index-calls-to.is c.in_ok-to.ensures);
-      order = c.if-first-last.true;
+      first_is = grind (arith, setting, c.place-first.ensures, c.index-calls-from.is, c.in_ok-from.ensures);
+      last_is = grind (arith, setting, c.place-last.ensures, c.index-calls-to.is, c.in_ok-to.ensures);
+      order = omega arith;
     }
-
-pub returns-else-first-last : goal.returns-else-first-last
-returns-else-first-last c = λ i j u v.
-    grind (arith, read-current c.index-calls-from.result c.in_ok-from.ensures c.index-calls-from.is u, read-current c.index-calls-to.result c.in_ok-to.ensures c.index-calls-to.is v)

@@ -1,4 +1,4 @@
-use Rattle.call_lines.proofs.Words.{◌≡◌, ◌<◌, ◌≤◌, length, vec_capacity, IsKilled}
+use Rattle.call_lines.proofs.Words.{◌≡◌, vec_capacity, IsKilled}
 use Rattle.call_lines.proofs.PartLemmas.{IsStanding}
 use Rattle.call_lines.proofs.parts.kill.Given as goal
 
@@ -7,7 +7,5 @@ abbrev pub invariant-loop-place : goal.invariant-loop-place
 invariant-loop-place l = record {
   killed : IsKilled l.part.train l.part.first l.place l.fn.calls.items l.calls.items;
   standing : IsStanding l.fn.calls.items l.part.train l.place l.slot;
-  from : l.part.first ≤ l.place;
-  within : l.slot < length l.calls.items;
   capacity : vec_capacity l.calls ≡ vec_capacity l.fn.calls;
 }

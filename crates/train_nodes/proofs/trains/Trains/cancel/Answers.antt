@@ -1,4 +1,4 @@
-use Rattle.train_nodes.proofs.Words.{◌∙◌, arith, never}
+use Rattle.train_nodes.proofs.Words.{◌∙◌, never}
 use Rattle.train_nodes.proofs.CancelLemmas.{cancelled}
 use Rattle.train_nodes.proofs.FoundParts.{found-part, part-found, stands-found}
 use Rattle.train_nodes.proofs.trains.Trains.cancel.Goals as goal
@@ -8,14 +8,7 @@ returns-in_default c =
     absurd (never c.find_part.result c.in_default.is (stands-found c.self.inside c.deref.result.now c.args.self.now c.args.t c.args.from c.args.to c.find_part.result c.self.invariant c.deref.ensures.value c.self.view_is c.find_part.ensures ∙ c.requires))
 
 pub kill-requires : goal.kill-requires
-kill-requires c = found-part (part-found c.self.invariant c.deref.ensures.value c.in-Some.ensures).2
-
-pub index-requires : goal.index-requires
-index-requires c = omega (arith, (part-found c.self.invariant c.deref.ensures.value c.in-Some.ensures).2.there.0)
-
-pub renew_train-requires : goal.renew_train-requires
-renew_train-requires c =
-    record { there = (part-found c.self.invariant c.deref.ensures.value c.in-Some.ensures).2.there.1 }
+kill-requires c = found-part (part-found c.self.invariant c.deref.ensures.value c.in-Some.ensures).3
 
 pub invariant_of-self : goal.invariant_of-self
 invariant_of-self c =

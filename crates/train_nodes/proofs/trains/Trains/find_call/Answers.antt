@@ -5,7 +5,7 @@ use Rattle.train_nodes.proofs.trains.Trains.find_call.Goals as goal
 
 pub returns-in-Some : goal.returns-in-Some
 returns-in-Some c =
-    let w = found-read _ _ _ _ _ _ c.self.invariant c.deref.ensures.value c.in-Some.ensures c.index.ensures in
+    let w = found-read c.self.invariant c.self.view_is c.deref.ensures.value c.in-Some.ensures c.index.ensures in
     record { found = rw (← c.self.view_is) (sym (found-named _ _ _ _ _ _ _ w.2)); labels = distinct-seen _ _ _ c.self.invariant c.self.view_is }
 
 pub returns-in-None : goal.returns-in-None
