@@ -17,7 +17,7 @@ use Rattle.delay_model.specs.Events.{events_at, events_of, train_events}
 use Rattle.delay_model.specs.Refusals.{against_rank, are_at_stops, first_against_rank, is_known, refusal, refused_if, shortage}
 use Rattle.cancel_reroute.specs.Ranks.{rank_along, last_of}
 use Rattle.cancel_reroute.proofs.RankLemmas.{along-parts}
-use Rattle.edge_rules.proofs.Beside.{events-append}
+use Rattle.edge_rules.proofs.Words.{events-append}
 
 get-last : (ts : List Train) (t : Train) (n : ℕ) → n ≡ length ts → slice_get (ts ++ t ∷ []) n ≡ Some t
 get-last [] t n e = rw e refl

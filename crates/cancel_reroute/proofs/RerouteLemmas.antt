@@ -18,7 +18,7 @@ use Rattle.delay_model.specs.Edges.{edges_along}
 use Rattle.delay_model.specs.Refusals.{first_against_rank, stands_before}
 use Rattle.delay_model.specs.Touched.{new_events}
 use Rattle.train_nodes.proofs.EventLemmas.{name-test}
-use Rattle.edge_rules.proofs.Beside.{events-append}
+use Rattle.edge_rules.proofs.Words.{events-append}
 use Rattle.cancel_reroute.specs.Ranks.{rank_along, last_of}
 use Rattle.cancel_reroute.proofs.RankLemmas.{along-parts}
 

@@ -1,15 +1,15 @@
 -- The rows of one event: its own, if it is live, or none.
 use Rattle.std.proofs.Common.{◌≡◌, ℕ, Bool, true, false, cond, ◌&&◌, List, [], ◌∷◌, ◌++◌, Option, Some, None, find, slice_get, append_assoc, get_or, refl, sym, ◌∙◌, ap}
-use Rattle.std.proofs.lemmas.Bool.{cond-false, cond-true, and_left}
+use Rattle.std.proofs.lemmas.Bool.{cond-false, false_from_ne_true, and_left}
 use Rattle.std.proofs.lemmas.Grind.{flat_map-append}
 use Rattle.std.proofs.lemmas.List.{append-nil}
-use Rattle.std.proofs.lemmas.List.Elements.{filter-append, All-head, All-tail, All-weaker, All-nil, All-cons}
+use Rattle.std.proofs.lemmas.List.Elements.{filter-append, All-head, All-tail, All-weaker, All-nil}
 use Rattle.std.specs.List.{All, AllPairs, flat_map}
 use Rattle.std.specs.Option.{option_map, option_map_or}
 use Rattle.mt_base.specs.declared.keys.Key.{Key}
 use Rattle.mt_base.specs.declared.keys.Node.{Node}
 use Rattle.mt_base.specs.Order.{node_of}
-use Rattle.mt_base.proofs.KeyLemmas.{same_node-is, same_node-itself}
+use Rattle.mt_base.proofs.KeyLemmas.{same_node-is}
 use Rattle.delay_model.specs.declared.network.Network.{Network}
 use Rattle.delay_model.specs.declared.state.Train.{Train}
 use Rattle.delay_model.specs.declared.state.State.{State}
@@ -19,7 +19,7 @@ use Rattle.delay_model.specs.Timing.{event_time}
 use Rattle.delay_model.proofs.Apart.{AreApart, events_at-train, events_at-apart}
 use Rattle.delay_model.proofs.Lists.{AllPairs-tail, AllPairs-after}
 use Rattle.edge_rules.specs.Inside.{HasOwnLabels}
-use Rattle.edge_rules.proofs.InLine.{not-then}
+use Rattle.edge_rules.proofs.InLine.{self-found}
 use Rattle.edge_rules.proofs.Neighbours.{own-labels}
 use Rattle.schedule_build.specs.Directory.{Names}
 use Rattle.timetable.specs.LiveTimes.{live_event, live_time}
@@ -74,7 +74,7 @@ found-step false e v rest found h none some = some refl h
 
 no-other : (n : Node) (e w : Event) → is_event n e ≡ true → AreApart e w → (is_event n w && w.live) ≡ false
 no-other n e w is apart =
-    and_left (is_event n w) w.live (not-then (is_event n w) (λ same. apart (same_node-is (node_of e.key) n is ∙ sym (same_node-is (node_of w.key) n same))))
+    and_left (is_event n w) w.live (false_from_ne_true (is_event n w) (λ same. apart (same_node-is (node_of e.key) n is ∙ sym (same_node-is (node_of w.key) n same))))
 
 -- among events that differ by name, the live event of a name is the event of that name, if it is live
 live-found : (n : Node) (es : List Event) (v : Event) → AllPairs AreApart es → find (is_event n) es ≡ Some v → find (λ v. is_event n v && v.live) es ≡ cond v.live (Some v) None
@@ -116,19 +116,6 @@ time-dead nw st n v trains h t =
 -- each of these events is the one of its name
 abbrev pub AreNamed : State → List Event → Type 0
 AreNamed st es = All (λ v. event_named st (node_of v.key) ≡ Some v) es
-
--- events that differ by name are found by their names
-self-found : (es : List Event) → AllPairs AreApart es → All (λ v. find (is_event (node_of v.key)) es ≡ Some v) es
-self-found [] h = All-nil (λ (v : Event). find (is_event (node_of v.key)) [] ≡ Some v)
-self-found (e ∷ es) h =
-    let rest = self-found es (AllPairs-tail AreApart e es h) in
-    let apart = AllPairs-after AreApart [] e es h in
-    All-cons (λ v. find (is_event (node_of v.key)) (e ∷ es) ≡ Some v) e es
-    (cond-true (is_event (node_of e.key) e) (Some e) (find (is_event (node_of e.key)) es) (same_node-itself (node_of e.key)))
-    (λ k d l.
-    let v = get_or es k d in
-    let other = not-then (is_event (node_of v.key) e) (λ is. apart k d l (same_node-is (node_of e.key) (node_of v.key) is)) in
-    cond-false (is_event (node_of v.key) e) (Some e) (find (is_event (node_of v.key)) es) other ∙ rest k d l)
 
 named-in : (st : State) (train : ℕ) (o : Option Train) → All HasOwnLabels st.trains → slice_get st.trains train ≡ o → AreNamed st (option_map_or (events_of train) o [])
 named-in st train None labels e = All-nil (λ (v : Event). event_named st (node_of v.key) ≡ Some v)

@@ -81,6 +81,7 @@ pub(crate) fn edge_between(opts: &Opts, from: &Event, to: &Event) -> Option<Edge
 
 /// The edge along its train that leads to an event, if there is one.
 #[inline(always)]
+#[tactic(auto, using(crate::proofs::GraphLemmas::joins))]
 pub(crate) fn edge_into(trains: &Trains, opts: &Opts, at: &Event) -> Option<Edge>
     requires labels { All HasOwnLabels trains.now.trains }
     requires there { event_named trains.now (node_of at.now.key) ≡ Some at.now }
@@ -93,6 +94,7 @@ pub(crate) fn edge_into(trains: &Trains, opts: &Opts, at: &Event) -> Option<Edge
 }
 
 /// The edge along its train that leaves an event, if there is one.
+#[tactic(auto, using(crate::proofs::GraphLemmas::joins))]
 pub(crate) fn edge_out(trains: &Trains, opts: &Opts, at: &Event) -> Option<Edge>
     requires labels { All HasOwnLabels trains.now.trains }
     requires there { event_named trains.now (node_of at.now.key) ≡ Some at.now }

@@ -79,6 +79,7 @@ impl Model for Graph {
     ghost invariant = { IsConsistent };
 }
 
+#[tactic(auto, using(crate::proofs::GraphLemmas::graphs))]
 impl Graph {
     /// The graph over these trains, by these change times, waiting rules and options. The index of
     /// live events takes its memory here. `OutOfMemory` where there is no memory, and where more

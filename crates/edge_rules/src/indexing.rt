@@ -19,6 +19,7 @@ use train_nodes::Trains;
 
 /// The index of the live events of these trains, with room for those of all new calls. More than
 /// 2^32 - 1 of either are answered as want of memory.
+#[tactic(auto, using(crate::proofs::InsideLemmas::indexing))]
 pub(crate) fn index_of(alloc: Global, trains: &Trains) -> Result<StationIndex, OutOfMemory>
     requires { All HasOwnLabels trains.now.trains }
     ensures { IfOk result (IsIndexOf trains.now) }
@@ -31,6 +32,7 @@ pub(crate) fn index_of(alloc: Global, trains: &Trains) -> Result<StationIndex, O
 }
 
 /// How many live events there are. More than 2^32 - 1 are answered as want of memory.
+#[tactic(auto, using(crate::proofs::InsideLemmas::indexing), unfolding(delay_model::specs::Events::events))]
 fn count_all(trains: &Trains) -> Result<u32, OutOfMemory>
     ensures { IfOk result (λ count. count ≡ length (entries_of (events trains.now))) }
 {
@@ -59,6 +61,7 @@ fn count_more(trains: &Trains, t: TrainNo, count: u32) -> Result<u32, OutOfMemor
 }
 
 /// The entries of all live events, fewer than 2^32.
+#[tactic(auto, using(crate::proofs::InsideLemmas::indexing), unfolding(delay_model::specs::Events::events))]
 fn list_all(alloc: Global, trains: &Trains) -> Result<Vec<Entry>, OutOfMemory>
     ensures entries { IfOk result (λ list. list.items ≡ entries_of (events trains.now)) }
     ensures few { IfOk result (λ list. length list.items < 2 ^ 32) }
@@ -146,6 +149,7 @@ pub(crate) fn remove_stretch(
 }
 
 /// Takes out the entries of the live events of the calls strictly between two calls of a train.
+#[tactic(auto, using(crate::proofs::InsideLemmas::indexing))]
 pub(crate) fn remove_between(
     index: &mut StationIndex,
     trains: &Trains,

@@ -1,7 +1,7 @@
 -- The rule at the events of a valid state, from stored times of which some are the event times.
 use Rattle.propagate.proofs.Words.{◌≡◌, ◌⊎◌, ℕ, ◌+◌, ◌^◌, ◌<◌, ◌&&◌, Bool, true, false, List}
 use Rattle.propagate.proofs.Words.{Some, unwrap_or, get_or, refl, sym, ◌∙◌, ap, arith, inl, inr, All, Contains, cases_Bool}
-use Rattle.propagate.proofs.Words.{and_from, or_parts, not-then, list_any}
+use Rattle.propagate.proofs.Words.{and_from, false_from_ne_true, or_parts, list_any}
 use Rattle.propagate.proofs.Words.{All-contains, All-contains_itself}
 use Rattle.propagate.proofs.Words.{Key, Node, is_before, is_same, node_of, is_same_node, before-itself, same_node-is, same-itself, Event, Edge, events, event_named, is_live, edges, incoming, outgoing}
 use Rattle.propagate.proofs.Words.{event_time, IsValid, Contains-filter, events-unique, IsLiveAt, valid-graph, incoming-leads, time-local, local, floor_of, StoredTimes, time_of, has_time, edges_to, edges_from}
@@ -102,7 +102,7 @@ module _ (g : GraphState) (valid : IsValid g.network g.state) {order : List Key}
     not_reached : (e : Edge) (q : Key) → Contains gs e → e.from ≡ k → e.to ≡ q → is_reached (stored_time old k) (stored_time new k) q ≡ false → may_change (stored_time old k) (stored_time new k) e ≡ false
     unfolding outgoing
     not_reached e q there from to none =
-        not-then _ (λ may.
+        false_from_ne_true _ (λ may.
         let here = Contains-filter (λ (e : Edge). is_same e.from k) gs e there (rw (from, same-itself k) refl) in
         let some = any-from (λ (e : Edge). is_same e.to q && may_change (stored_time old k) (stored_time new k) e) (outgoing gs k) e here (and_from (is_same e.to q) (may_change (stored_time old k) (stored_time new k) e) (rw (to, same-itself q) refl) may) in
         cc)

@@ -1,7 +1,7 @@
 -- The walk along the order of the keys: what is before the least mark is settled.
 use Rattle.propagate.proofs.Words.{◌≡◌, ◌≢◌, ◌⊎◌, ℕ, suc, ◌+◌, ◌^◌, ◌<◌, ◌≤◌, ◌||◌, ◌&&◌, Bool, true, false, not, List, [], ◌∷◌, ◌++◌, append_assoc, append-nil, map, map-append, Vec, Global, vec_len, vec_capacity}
 use Rattle.propagate.proofs.Words.{Some, unwrap_or, length, length-append, get_or, take, drop, refl, sym, ◌∙◌, ap, subst, arith, inl, inr, All, AllPairs, Contains, filter, filter-append, filter-none}
-use Rattle.propagate.proofs.Words.{false_from_ne_true, eqb-true, eq-eqb, and_from, and_parts, or_parts, or_cases, not-then, sum_by, sum_by-append, list_any}
+use Rattle.propagate.proofs.Words.{false_from_ne_true, eqb-true, eq-eqb, and_from, and_parts, or_parts, or_cases, sum_by, sum_by-append, list_any}
 use Rattle.propagate.proofs.Words.{take-append-drop, All-contains, All-contains_itself, Contains-append_left, Contains-append_right}
 use Rattle.propagate.proofs.Words.{Key, Node, is_before, is_same, node_of, is_same_node, before-itself, before-asymmetric, same-is, same-itself, Edge, events, is_live, edges, outgoing}
 use Rattle.propagate.proofs.Words.{event_time, IsValid, Contains-there, StoredTimes, time_of, has_time, edges_to, edges_from}
@@ -169,7 +169,7 @@ module _ {g : GraphState} (valid : IsValid g.network g.state) {order : List Key}
     -- what is before the key is not marked
     own : (q : Key) → Contains order q → is_before q k ≡ true → FollowsRule g times q
     own q h sooner =
-        part.values q h (not-then _ (λ marked.
+        part.values q h (false_from_ne_true _ (λ marked.
         let none = before-itself k in
         let not = before-asymmetric q k sooner in
         elim (or_cases (is_same k q) (is_marked less q) (sym (marked-now q) ∙ marked)) [
@@ -287,7 +287,7 @@ module _ {g : GraphState} (valid : IsValid g.network g.state) {order : List Key}
                     elim (one-or-other g valid is k q k-there h) [
                       | inl e ↦ subst (FollowsRule g new) (sym e) (value-own g valid is times new k k-there others-k y (ap (local_at g times) (sym name) ∙ rule) (ap (time_of new) (sym name) ∙ later))
                       | inr other ↦
-                          let apart = not-then (is_same k q) (λ s. let e = same-is k q s in let own = same_node-itself (node_of k) in let no = rw (← e) at other in cc) in
+                          let apart = false_from_ne_true (is_same k q) (λ s. let e = same-is k q s in let own = same_node-itself (node_of k) in let no = rw (← e) at other in cc) in
                           let none : is_marked marks q ≡ false = marked-now q ∙ rw (apart, r.0) refl in
                           value-left g valid is times new k k-there others-k q h other (part.values q h none)
                           (elim r.1 [ inl e ↦ inl (x-kept ∙ e ∙ sym y-kept) | inr f ↦ inr (rw (x-kept, y-kept) f) ])

@@ -22,7 +22,7 @@ pub use Rattle.std.proofs.lemmas.List.{length-set}
 pub use Rattle.std.specs.Cmp.{IsTotalOrder}
 pub use Rattle.std.specs.Ordering.{is_eq, is_lt}
 pub use Rattle.mt_base.proofs.KeyLemmas.{before-asymmetric, before-itself, before-trans, exact_keys, keys_total}
-pub use Rattle.edge_rules.proofs.InLine.{AllPairs-before, filter-none, not-then}
+pub use Rattle.edge_rules.proofs.InLine.{AllPairs-before, filter-none}
 unfoldable pub use Rattle.edge_rules.specs.AtEvent.{outgoing}
 pub use Rattle.edge_rules.specs.AtEvent.{edges_to, edges_from, stored_time, local_at}
 pub use Rattle.edge_rules.specs.Deciding.{may_change, may_decide}

@@ -5,8 +5,4 @@ use Rattle.edge_rules.proofs.indexing.insert_calls.Given as goal
 abbrev pub invariant-loop-call : goal.invariant-loop-call
 invariant-loop-call l =
     let left = new_entries l.t l.label (drop l.call-index l.calls) in
-    record {
-      label : l.label ≡ l.first + l.call-index;
-      new : AreNew left l.index;
-      same : with_entries left l.index ≡ with_entries (new_entries l.t l.first l.calls) l.fn.index;
-    }
+    (l.label ≡ l.first + l.call-index) × AreNew left l.index × (with_entries left l.index ≡ with_entries (new_entries l.t l.first l.calls) l.fn.index)

@@ -5,7 +5,4 @@ use Rattle.edge_rules.proofs.indexing.insert_train.Given as goal
 abbrev pub invariant-loop-event : goal.invariant-loop-event
 invariant-loop-event l =
     let left = entries_of l.event-iterator in
-    record {
-      new : AreNew left l.index;
-      same : with_entries left l.index ≡ with_entries (entries_of (train_events l.trains l.fn.t)) l.fn.index;
-    }
+    AreNew left l.index × (with_entries left l.index ≡ with_entries (entries_of (train_events l.trains l.fn.t)) l.fn.index)

@@ -1,4 +1,4 @@
-use Rattle.edge_rules.proofs.Words.{◌∙◌, refl, All-tail, HasLiveEvent}
+use Rattle.edge_rules.proofs.Words.{All-tail, HasLiveEvent, arith}
 use Rattle.edge_rules.proofs.transfers.next_planned.Goals as goal
 
 pub returns-in-Some-planned_edge-clause-left : goal.returns-in-Some-planned_edge-clause-left
@@ -7,4 +7,4 @@ returns-in-Some-planned_edge-clause-left c =
 
 pub loop-entry-preserved : goal.loop-entry-preserved
 loop-entry-preserved c =
-    (All-tail (HasLiveEvent c.args.graph.now.state) c.in-Some-next.entry c.next.new.self (rw c.in-Some-next.ensures.steps at c.loop-entry.invariant.0), c.loop-entry.invariant.1 ∙ rw (c.in-Some-next.ensures.steps, ← c.planned_edge.ensures, c.in_default-planned_edge.is) refl)
+    (All-tail (HasLiveEvent c.args.graph.now.state) c.in-Some-next.entry c.next.new.self (rw c.in-Some-next.ensures.steps at c.loop-entry.invariant.0), grind arith)

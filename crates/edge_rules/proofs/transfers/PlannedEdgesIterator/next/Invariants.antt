@@ -1,5 +1,5 @@
-use Rattle.edge_rules.proofs.Words.{[], flat_map, length, unwrap_or, HaveLiveEvents, of_entry, planned_by, planned_with}
-use Rattle.edge_rules.specs.Found.{AreWaitsAt}
+use Rattle.edge_rules.proofs.Words.{[], flat_map, length, unwrap_or, of_entry, planned_by, planned_with}
+use Rattle.edge_rules.specs.InsidePlanned.{IsConsistentPlanned}
 use Rattle.edge_rules.proofs.Taken.{IsTaken}
 use Rattle.edge_rules.proofs.transfers.PlannedEdgesIterator.next.Given as goal
 
@@ -8,9 +8,7 @@ abbrev pub invariant-loop-edge : goal.invariant-loop-edge
 invariant-loop-edge l =
     let a = l.self-inside in
     let g = a.graph.now in
-    AreWaitsAt g a.at a.wanted
-    × HaveLiveEvents g.state a.index.now.entries
-    × HaveLiveEvents g.state (unwrap_or a.near [])
+    IsConsistentPlanned a
     × IsTaken l.fn.self l.edge (flat_map (of_entry g.state (planned_with g a.wanted a.at a.seconds)) (unwrap_or a.near [])) (flat_map (planned_by g a.index.now.entries a.wanted a.at) a.changes.now)
 
 abbrev pub decreases-loop-edge : goal.decreases-loop-edge
