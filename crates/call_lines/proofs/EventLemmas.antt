@@ -2,7 +2,7 @@
 use Rattle.call_lines.proofs.Words.{◌≡◌, ◌≢◌, ℕ, suc, ◌<◌, List, [], ◌∷◌, Bool, true, false, ◌&&◌, nat_eq, length, take, refl, arith, Some, None}
 use Rattle.call_lines.proofs.Words.{slice_get, find, All, beq, list_any, option_map, option_map_or, Node, is_same_node, Call, Train, State, Event, is_call, node_at}
 use Rattle.call_lines.proofs.Words.{calls_of, events_at, is_event, event_by, event_named, is_live, values_of, call_named, has_call, label_after, label_before}
-use Rattle.call_lines.proofs.Words.{HasDistinctLabels, IsFirst, ◌+◌, nat_eq-same, nat_tests, length-take-le, ◌-◌, ◌∙◌, ap}
+use Rattle.call_lines.proofs.Words.{is_some, HasDistinctLabels, IsFirst, ◌+◌, nat_eq-same, nat_tests, length-take-le, ◌-◌, ◌∙◌, ap}
 use Rattle.call_lines.proofs.CallPlaces.{first-cut, get-drop, get-take, label_of, last-at}
 
 -- an event of a call
@@ -39,9 +39,14 @@ event-named st n route c h k = grind (arith, h, k, λ (t : Train). found_event n
 pub live-named : (st : State) (n : Node) → HasDistinctLabels (calls_of st n.train) → is_live st n ≡ option_map_or (λ (c : Call). (values_of n.dep c).live) (call_named st n.train n.label) false
 live-named st n h = grind (arith, h, λ (t : Train). found_live n.train t.route n.label n.dep t.calls)
 
+found-of-live : (p : Event → Bool) (es : List Event) → list_any (λ v. p v && v.live) es ≡ true → is_some (find p es) ≡ true
+found-of-live p [] h = absurd (cc)
+found-of-live p (e ∷ es) h = grind (arith, found-of-live p es)
+
 -- a live event is there
-pub live-there : (st : State) (n : Node) → HasDistinctLabels (calls_of st n.train) → is_live st n ≡ true → has_call st n.train n.label ≡ true
-live-there st n h live = grind (arith, live-named st n h)
+pub live-there : (st : State) (n : Node) → is_live st n ≡ true → has_call st n.train n.label ≡ true
+live-there st n h =
+    grind (arith, λ (t : Train). found-of-live (is_event n) (events_at n.train t.route t.calls), λ (t : Train). found_event n.train t.route n.label n.dep t.calls)
 
 -- the label after a call's place
 pub label_after-at : (cs : List Call) (l place : ℕ) → IsFirst (is_call l) place cs → label_after cs l ≡ option_map (λ (c : Call). c.label) (slice_get cs (suc place))

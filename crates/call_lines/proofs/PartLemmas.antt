@@ -1,18 +1,15 @@
 -- The calls of a part of a train, changed one after the other.
 use Rattle.call_lines.proofs.Words.{change_event, ◌≡◌, ℕ, ◌+◌, ◌-◌, ◌<◌, ◌≤◌, List, Bool, true, false, cond, ◌&&◌, nat_eq, Some, length, refl, ◌∙◌, arith, slice_get, get_or, set, nat_tests}
-use Rattle.call_lines.proofs.Words.{length-set, get_or-set_same, killed, slice_get_within, slice_get_read, slice_get-set_same, slice_get-set_other, edited, IsPart, IsKilledCall, IsKilled}
+use Rattle.call_lines.proofs.Words.{length-set, get_or-set_same, killed, slice_get_within, slice_get_read, slice_get_cases, set-get, edited, IsPart, IsKilledCall, IsKilled}
 use Rattle.call_lines.proofs.Words.{AreTakenOut, call_of, IsEdited, Kill, StoredCall}
 use Rattle.call_lines.proofs.TrainLines.{placed-at}
 
--- what stands in a list where one element is set
-pub set-at : {X : Type 0} (xs : List X) (s i : ℕ) (y : X) → s < length xs → slice_get (set xs s y) i ≡ cond (nat_eq i s) (Some y) (slice_get xs i)
-set-at xs s i y l = grind (arith, nat_tests, slice_get-set_same xs s y l, slice_get-set_other xs s i y)
-
-pub ruleset setting = (set-at, length-set, slice_get_read, slice_get_within, nat_tests)
+-- what is read in a list, also where one element is set
+pub ruleset slots = (set-get, slice_get_cases, length-set, slice_get_read, slice_get_within, nat_tests)
 
 -- what stands in a list where one element is set that was read before
-set-get : {X : Type 0} (xs : List X) (s i : ℕ) (x y z : X) → s < length xs → x ≡ get_or xs s x → slice_get xs i ≡ Some z → (slice_get (set xs s y) i ≡ Some (cond (nat_eq i s) y z)) × (nat_eq i s ≡ true → z ≡ x)
-set-get xs s i x y z l e h = grind (arith, setting, h)
+read-set : {X : Type 0} (xs : List X) (s i : ℕ) (x y z : X) → s < length xs → x ≡ get_or xs s x → slice_get xs i ≡ Some z → (slice_get (set xs s y) i ≡ Some (cond (nat_eq i s) y z)) × (nat_eq i s ≡ true → z ≡ x)
+read-set xs s i x y z l e h = grind (arith, slots, h)
 
 -- the call at a place of a train stands in this slot
 pub record IsStanding (cs : List StoredCall) (train place slot : ℕ) : Type 0 where
@@ -30,7 +27,7 @@ record IsKilledIf (dep b : Bool) (x y : StoredCall) : Type 0 where
   pub other : b ≡ false → y ≡ x
 
 killed-if : (dep : Bool) (xs : List StoredCall) (s i : ℕ) (x y z : StoredCall) → s < length xs → x ≡ get_or xs s x → call_of y ≡ change_event dep (edited Kill) (call_of x) → IsEdited x y → slice_get xs i ≡ Some z → (u : StoredCall) × (slice_get (set xs s y) i ≡ Some u) × IsKilledIf dep (nat_eq i s) z u
-killed-if dep xs s i x y z l e f g h = grind (arith, nat_tests, set-get xs s i x y z l e h)
+killed-if dep xs s i x y z l e f g h = grind (arith, nat_tests, read-set xs s i x y z l e h)
 
 -- one ride more
 ride-killed : (train first place : ℕ) (b d : Bool) (x y u v : StoredCall) → first ≤ place → IsKilledCall train first place x y → IsKilledIf true b y u → IsKilledIf false d u v → b ≡ ((nat_eq x.train train && x.current) && nat_eq x.place place) → d ≡ ((nat_eq x.train train && x.current) && nat_eq x.place (place + 1)) → IsKilledCall train first (place + 1) x v
@@ -39,7 +36,7 @@ ride-killed train first place b d x y u v l h k m e f = grind (arith, nat_tests)
 module _ {cs : List StoredCall} {train from to first last : ℕ} (w : IsPart cs train from to first last) where
   -- each place of the train is that of a slot
   stands-at : (place slot : ℕ) → place < w.len → w.at place ≡ slot → IsStanding cs train place slot
-  stands-at place slot l e = grind (arith, w.placed.line.calls place l, w.placed.places place, slice_get_within cs slot)
+  stands-at place slot l e = grind (arith, w.placed.line.calls place l, w.placed.line.current place, w.placed.places place, slice_get_within cs slot)
 
   -- the part begins and ends so
   pub begins : IsStanding cs train first from
@@ -84,5 +81,5 @@ module _ {cs : List StoredCall} {train from to first last : ℕ} (w : IsPart cs 
         same_count = length-set mid slot y ∙ k.same_count;
         calls = λ i z h.
             let a = k.calls i z h in
-            grind (arith, nat_tests, a, standing-test i z s h, set-get mid slot i x y a.0 (omega arith) x_at a.1);
+            grind (arith, nat_tests, a, standing-test i z s h, read-set mid slot i x y a.0 (omega arith) x_at a.1);
       }

@@ -43,7 +43,7 @@ pub record IsPartlyRenewed (train len todo : ℕ) (at : ℕ → ℕ) (old new : 
 module _ {train first last len : ℕ} {old : List StoredCall} (h : IsLine train first last len old) {todo slot : ℕ} {new : List StoredCall} {next : Option ℕ} (w : IsPartlyRenewed train len todo h.at old new slot next) (q : ℕ) (step : todo ≡ suc q) where
   -- the call before the place, and what stands in its slot now
   was : IsLineCall old train len h.at q
-  was = h.line.calls q (omega (arith, w.within))
+  was = h.calls q (omega (arith, w.within))
 
   now : IsRenewedCall train old new slot was.call
   now = w.alike slot was.call (grind (arith, w.slot_is, step, was.stored))
@@ -58,7 +58,7 @@ module _ {train first last len : ℕ} {old : List StoredCall} (h : IsLine train 
     -- what was gone through stays, behind this call
     rest : walk (set new slot y) (len - q) (h.at q) ≡ y ∷ walk new (len - todo) (h.at todo)
     rest =
-        let there = line-at old train len h.at h.line q (omega (arith, w.within)) ∙ was.stored in
+        let there = line-at old train len h.at h.calls q (omega (arith, w.within)) ∙ was.stored in
         let others = rw (← calls-alike train (len - todo) was.call.after old new w.same_count w.alike) at (labels-after old len first q (len - todo) was.call (omega (arith, w.within, step)) h.apart (rw h.begins at there)) in
         let more : len - q ≡ suc (len - todo) = omega (arith, w.within, step) in
         grind (arith, more, w.slot_is, step, slice_get-set_same new slot y inside, same_y, cases_eq (len - todo) 0, was.after_is, walk-set new (len - todo) was.call.after slot was.call.label now.now y now.there (grind (arith, now)) others)

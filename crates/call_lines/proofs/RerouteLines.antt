@@ -1,5 +1,5 @@
 -- The line of a train in which calls were replaced by others.
-use Rattle.call_lines.proofs.Words.{get-old, get-past, new_calls, new_call, Call, NewCall, ◌≡◌, ℕ, suc, ◌+◌, ◌-◌, ◌<◌, ◌≤◌, inl, inr, List, ◌∷◌, ◌++◌, cond, nat_lt, Some, length}
+use Rattle.call_lines.proofs.Words.{true, get-old, get-past, new_calls, new_call, Call, NewCall, ◌≡◌, ℕ, suc, ◌+◌, ◌-◌, ◌<◌, ◌≤◌, inl, inr, List, ◌∷◌, ◌++◌, cond, nat_lt, Some, length}
 use Rattle.call_lines.proofs.Words.{take, drop, refl, arith, slice_get, map, nat_le, ◌⊎◌, cases_lt, nat_tests, length-append, length-take-le, length-drop, length-map, slice_get_within}
 use Rattle.call_lines.proofs.Words.{slice_get-map, last_label, IsLineAt, IsPlacedAt, AreReplaced, IsLineCall, walk, call_of, StoredCall}
 use Rattle.call_lines.proofs.CallPlaces.{get-drop, get-take, last-at}
@@ -54,11 +54,19 @@ module _ {cs mid : List StoredCall} {train len from to first last label : ℕ} {
   fresh-call k j e l =
       let v = some-of via j l in grind (arith, nat_tests, w.replaced.made j v.0 v.1, w.start, w.end)
 
+  kept-current : (k m : ℕ) (y : StoredCall) → StaysAt k m → m < len → slice_get mid (new_at k) ≡ Some y → y.current ≡ true
+  kept-current k m y h l e =
+      let c = w.placed.line.calls m l in
+      grind (arith, nat_tests, stays k m h, e, c, w.placed.line.current m c.call l, w.placed.places m c.call l, w.replaced.calls (at m) c.call c.stored)
+
   -- the line of the rerouted train
   pub spliced-line : IsLineAt mid train size new_at
   spliced-line =
       record {
         calls = λ k l. grind (arith, kept-call k k, fresh-call k (k - (first + 1)), kept-call k (k + last - (first + 1 + count)));
+        current = λ k y l e.
+            let j = k - (first + 1) in
+            grind (arith, nat_tests, e, kept-current k k y, fresh-call k j, λ (v : NewCall). w.replaced.made j v, some-of via j, kept-current k (k + last - (first + 1 + count)) y);
         covers = λ i y g t c. elim (cases_lt i (length cs)) [
           | inl old ↦ (
               let x = some-of cs i old in
@@ -76,17 +84,17 @@ module _ {cs mid : List StoredCall} {train len from to first last label : ℕ} {
   new_line = map call_of (walk mid size (new_at 0))
 
   sizes : (length new_line ≡ size) × (length old_calls ≡ len)
-  sizes = (simp length-map (line-length mid train size new_at spliced-line), simp length-map (line-length cs train len at w.placed.line))
+  sizes = (simp length-map (line-length mid train size new_at spliced-line.calls), simp length-map (line-length cs train len at w.placed.line.calls))
 
   kept-get : (k m : ℕ) → k < size → m < len → StaysAt k m → slice_get new_line k ≡ slice_get old_calls m
   kept-get k m l n e =
       let c = w.placed.line.calls m n in
-      grind (arith, nat_tests, slice_get-map call_of, line-at mid train size new_at spliced-line k l, w.replaced.calls (at m) c.call c.stored, line-at cs train len at w.placed.line m n, c.stored)
+      grind (arith, nat_tests, slice_get-map call_of, line-at mid train size new_at spliced-line.calls k l, w.replaced.calls (at m) c.call c.stored, line-at cs train len at w.placed.line.calls m n, c.stored)
 
   fresh-get : (k j : ℕ) → k < size → k ≡ first + 1 + j → j < count → slice_get new_line k ≡ slice_get (new_calls label via) j
   fresh-get k j m e l =
       let v = some-of via j l in
-      grind (arith, nat_tests, slice_get-map call_of, line-at mid train size new_at spliced-line k m, w.replaced.made j v.0 v.1, get-new label (label + j) via j v.0 refl v.1)
+      grind (arith, nat_tests, slice_get-map call_of, line-at mid train size new_at spliced-line.calls k m, w.replaced.made j v.0 v.1, get-new label (label + j) via j v.0 refl v.1)
 
   -- its calls
   pub spliced-calls : new_line ≡ take (first + 1) old_calls ++ new_calls label via ++ drop last old_calls

@@ -1,5 +1,5 @@
 -- The stored calls of a train by the slots of its places, and a change of them.
-use Rattle.call_lines.proofs.Words.{same-gets, HasDistinctLabels, ◌≡◌, ◌≢◌, ℕ, zero, suc, ◌+◌, ◌-◌, ◌<◌, ◌≤◌, List, [], ◌∷◌, true, Some, length, refl, ◌∙◌}
+use Rattle.call_lines.proofs.Words.{IsLineCall, same-gets, HasDistinctLabels, ◌≡◌, ◌≢◌, ℕ, zero, suc, ◌+◌, ◌-◌, ◌<◌, ◌≤◌, List, true, Some, length, refl, ◌∙◌}
 use Rattle.call_lines.proofs.Words.{arith, slice_get, map, slice_get_past, slice_get_within, IsLineAt, IsPlacedAt, Call}
 use Rattle.call_lines.proofs.Words.{walk, call_of, IsLine, IsRenewed, StoredCall, slice_get_cases, inl, inr}
 
@@ -34,11 +34,11 @@ one-of xs i x y h k = cc
 pub same-within : {X : Type 0} (xs ys : List X) → length xs ≡ length ys → ((k : ℕ) → k < length xs → slice_get xs k ≡ slice_get ys k) → xs ≡ ys
 same-within xs ys e h = same-gets xs ys (λ k. grind (arith, h k, slice_get_past xs k, slice_get_past ys k))
 
-module _ (cs : List StoredCall) (train len : ℕ) (at : ℕ → ℕ) (w : IsLineAt cs train len at) where
+module _ (cs : List StoredCall) (train len : ℕ) (at : ℕ → ℕ) (calls : (place : ℕ) → place < len → IsLineCall cs train len at place) where
   -- a walk along it finds so many calls, those in the slots of the places
   walked : (n j s : ℕ) → j + n ≤ len → (0 < n → s ≡ at j) → (length (walk cs n s) ≡ n) × ((k i : ℕ) → k < n → i ≡ j + k → slice_get (walk cs n s) k ≡ slice_get cs (at i))
   walked zero j s l e = (refl, λ k i m f. absurd (omega arith))
-  walked (suc n) j s l e = grind (arith, e, w.calls j, λ (z : ℕ). walked n (j + 1) z)
+  walked (suc n) j s l e = grind (arith, e, calls j, λ (z : ℕ). walked n (j + 1) z)
 
   pub line-length : length (walk cs len (at 0)) ≡ len
   line-length = (walked len 0 (at 0) (omega arith) (λ l. refl)).0
@@ -47,8 +47,8 @@ module _ (cs : List StoredCall) (train len : ℕ) (at : ℕ → ℕ) (w : IsLine
   pub line-at : (k : ℕ) → k < len → slice_get (walk cs len (at 0)) k ≡ slice_get cs (at k)
   line-at k l = (walked len 0 (at 0) (omega arith) (λ l. refl)).1 k k l (omega arith)
 
-  pub line-of : 0 < len → HasDistinctLabels (map call_of (walk cs len (at 0))) → IsLine train (at 0) (at (len - 1)) len cs
-  line-of l distinct = record { at = at; line = w; begins = refl; ends = refl; apart = distinct }
+  pub line-of : HasDistinctLabels (map call_of (walk cs len (at 0))) → IsLine train (at 0) (at (len - 1)) len cs
+  line-of distinct = record { at = at; calls = calls; begins = refl; ends = refl; apart = distinct }
 
 -- a call of the train stands at its place
 pub placed-at : (cs : List StoredCall) (train len : ℕ) (at : ℕ → ℕ) (w : IsPlacedAt cs train len at) (i : ℕ) (x : StoredCall) → slice_get cs i ≡ Some x → x.train ≡ train → x.current ≡ true → (x.place < len) × (at x.place ≡ i)
@@ -59,7 +59,8 @@ pub renewed-line : (old new : List StoredCall) (train len : ℕ) (at : ℕ → �
 renewed-line old new train len at w r =
     let line : IsLineAt new train len at = record {
       calls = λ k l. grind (arith, w.calls k l, r.alike (at k) (w.calls k l).call (w.calls k l).stored);
+      current = λ k y l h. let c = w.calls k l in grind (arith, h, w.current k c.call l c.stored, r.alike (at k) c.call c.stored);
       covers = λ i y h t c.
           let x = some-of old i (omega (arith, slice_get_within new i y h, r.same_count)) in grind (arith, h, t, c, x, r.alike i x.0 x.1, w.covers i x.0 x.1);
     } in
-    record { line = line; places = λ k x l h. r.places k x l (line-at new train len at line k l ∙ h) }
+    record { line = line; places = λ k x l h. r.places k x l (line-at new train len at line.calls k l ∙ h) }

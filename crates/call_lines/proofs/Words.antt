@@ -18,7 +18,7 @@ pub use Rattle.delay_model.specs.declared.state.Call.{Call}
 pub use Rattle.delay_model.specs.declared.state.Event.{Event}
 pub use Rattle.delay_model.specs.declared.state.State.{State}
 pub use Rattle.delay_model.specs.declared.state.Train.{Train}
-pub use Rattle.event_numbers.proofs.ListLemmas.{get-end, get-more, get-old, get-past, same-gets, slice_get-set_other, slice_get-set_same}
+pub use Rattle.event_numbers.proofs.ListLemmas.{get-end, get-more, get-old, get-past, same-gets, set-get, slice_get-set_other, slice_get-set_same}
 pub use Rattle.event_numbers.proofs.NumberTests.{nat_eq-same}
 pub use Rattle.event_numbers.proofs.NumberingLemmas.{last-there, loaded-read}
 pub use Rattle.event_numbers.specs.Numbering.{slot_of}

@@ -9,26 +9,35 @@ use Rattle.call_lines.specs.declared.stored_call.StoredCall.{StoredCall}
 use Rattle.call_lines.specs.Linked.{call_of, values_by, walk, IsEdited, IsCurrentAt}
 use Rattle.event_numbers.specs.Numbering.{NumberedTrain, Numbering, slot_of}
 
--- the call at a place of a train that makes so many: it leads to the ones beside it by their slots
+-- the call at a place of a line of so many calls of a train: it leads to the ones beside it by
+-- their slots
 pub record IsLineCall (cs : List StoredCall) (train len : ℕ) (at : ℕ → ℕ) (place : ℕ) : Type 0 where
   pub call : StoredCall
   pub stored : slice_get cs (at place) ≡ Some call
   pub train_is : call.train ≡ train
-  pub is_current : call.current ≡ true
   pub after_is : place + 1 < len → call.after ≡ at (place + 1)
   pub before_is : call.before ≡ at (place - 1)
 
--- the calls of a train stand in these slots, and no other call is one of its calls now
+-- the calls that a train makes now stand in these slots, and no others are its calls now
 pub record IsLineAt (cs : List StoredCall) (train len : ℕ) (at : ℕ → ℕ) : Type 0 where
   pub calls : (place : ℕ) → place < len → IsLineCall cs train len at place
+  pub current : (place : ℕ) (x : StoredCall) → place < len → slice_get cs (at place) ≡ Some x
+      → x.current ≡ true
   pub covers : (i : ℕ) (x : StoredCall) → slice_get cs i ≡ Some x → x.train ≡ train
       → x.current ≡ true
       → (place : ℕ) × (place < len) × (at place ≡ i)
 
--- a line of calls of a train: so many from a slot on, the last in the slot `last`
+-- and each knows its place
+pub record IsPlacedAt (cs : List StoredCall) (train len : ℕ) (at : ℕ → ℕ) : Type 0 where
+  pub line : IsLineAt cs train len at
+  pub places : (place : ℕ) (x : StoredCall) → place < len → slice_get cs (at place) ≡ Some x
+      → x.place ≡ place
+
+-- a line of calls of a train, as far as its links tell: so many from a slot on, the last in the
+-- slot `last`
 pub record IsLine (train first last len : ℕ) (cs : List StoredCall) : Type 0 where
   pub at : ℕ → ℕ
-  pub line : IsLineAt cs train len at
+  pub calls : (place : ℕ) → place < len → IsLineCall cs train len at place
   pub begins : at 0 ≡ first
   pub ends : at (len - 1) ≡ last
   pub apart : HasDistinctLabels (map call_of (walk cs len first))
@@ -39,12 +48,6 @@ abbrev pub IsTrainLine : Numbering → ℕ → ℕ → ℕ → List StoredCall �
 IsTrainLine nb train first len cs =
     (n : NumberedTrain) (last : ℕ) → slice_get nb.trains train ≡ Some n
     → slot_of nb train (n.loaded - 1) ≡ Some last → IsLine train first last len cs
-
--- and each knows its place
-pub record IsPlacedAt (cs : List StoredCall) (train len : ℕ) (at : ℕ → ℕ) : Type 0 where
-  pub line : IsLineAt cs train len at
-  pub places : (place : ℕ) (x : StoredCall) → place < len → slice_get cs (at place) ≡ Some x
-      → x.place ≡ place
 
 -- a part of a train: the calls in two slots, which stand at two places of its line, the one before
 -- the other

@@ -28,7 +28,7 @@ pub struct Part {
 }
 
 /// The part of a train from one call to another that stands after it.
-#[tactic(auto, using(crate::proofs::PartLemmas::setting))]
+#[tactic(auto, using(crate::proofs::PartLemmas::slots))]
 pub fn find_part(
     calls: &[StoredCall],
     slots: &Slots,
@@ -136,7 +136,7 @@ fn push_via(calls: &mut Vec<StoredCall>, part: &Part, label: Label, via: &[NewCa
 
 /// Lets the ends of a part lead to each other over so many new calls, of which the first has the
 /// slot `new`.
-#[tactic(auto, using(crate::proofs::PartLemmas::setting))]
+#[tactic(auto, using(crate::proofs::PartLemmas::slots))]
 fn join(calls: &mut Vec<StoredCall>, part: &Part, new: u32, count: u32)
     requires from { part.now.from < vec_len calls.old }
     requires to { part.now.to < vec_len calls.old }

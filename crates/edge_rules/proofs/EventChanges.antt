@@ -1,5 +1,5 @@
 -- Which entries a message takes out of the index of events, and which it puts in.
-use Rattle.edge_rules.proofs.Words.{◌≡◌, ℕ, ◌+◌, ◌-◌, ◌<◌, ◌≤◌, Bool, true, false, List, [], ◌∷◌, ◌++◌, Some, option_map, length, map, refl, sym, ap, subst, arith, ◌≢◌, All-map, get_or, slice_get_within, All, AllPairs, append_assoc, slice_get, option_map_or, node_of, NewCall, effect, node_at, stretch, is_event, kill_in, new_calls, rerouted, events_between, events, events_at, events_of, calls_of, live_events, up_to, before, after, Cancel, Reroute, Event, State, Train, AreApart, same_node-itself, filter-append, AllPairs-filter, AllPairs-nil, labels-apart, All-left, Entry, HasOwnLabels, entries_of, entry_of}
+use Rattle.edge_rules.proofs.Words.{◌≡◌, ℕ, ◌-◌, ◌<◌, ◌≤◌, Bool, true, false, List, [], ◌∷◌, ◌++◌, Some, option_map, length, map, refl, sym, ap, subst, arith, ◌≢◌, All-map, get_or, slice_get_within, All, AllPairs, append_assoc, slice_get, option_map_or, node_of, NewCall, effect, node_at, stretch, is_event, kill_in, new_calls, rerouted, events_between, events, events_at, events_of, calls_of, live_events, up_to, before, after, Cancel, Reroute, Event, State, Train, AreApart, same_node-itself, filter-append, AllPairs-filter, AllPairs-nil, labels-apart, All-left, Entry, HasOwnLabels, entries_of, entry_of}
 use Rattle.state_laws.proofs.Words.{map-append, map_fixed, list_any_at, list_any_none, stands_before}
 use Rattle.delay_model.specs.Cuts as Cuts
 use Rattle.delay_model.proofs.Lists.{AllPairs-after, AllPairs-cons, AllPairs-tail}

@@ -1,10 +1,5 @@
--- What is read of an event by its name.
-use Rattle.edge_rules.proofs.Words.{arith, List, [], Bool, Option, None, Some, filter, option_map_or, is_same, Node, Event, Edge, edges, edges_from, edges_to, incoming, outgoing, GraphState}
-
--- what holds of nothing, and of what each event makes, holds of what the event makes that may be there
-pub if-there : {X : Type 0} (P : List X → Type 0) (o : Option Event) (f : Event → List X) → P [] → ((v : Event) → P (f v)) → P (option_map_or f o [])
-if-there P None f none h = none
-if-there P (Some v) f none h = h v
+-- What holds of the edges at an event.
+use Rattle.edge_rules.proofs.Words.{arith, List, [], Bool, filter, is_same, Node, Event, Edge, edges, edges_from, edges_to, incoming, outgoing, GraphState}
 
 -- what holds of all edges, and of those of them that pass a test, holds of the edges at an event
 pub at-each : (P : List Edge → Type 0) (g : GraphState) → P [] → ((p : Edge → Bool) (es : List Edge) → P es → P (filter p es)) → P (edges g.network g.state) → (n : Node) → P (edges_to g n) × P (edges_from g n)

@@ -9,7 +9,8 @@ use Rattle.edge_rules.proofs.EdgesFound.{index-events, holds, edges-to_found, ed
 use Rattle.edge_rules.proofs.NoneFound.{not-chosen, no-event}
 use Rattle.edge_rules.proofs.EventChanges.{IsNextLabel, reroute-next, reroute-there}
 use Rattle.delay_model.proofs.Bounds.{fold-same}
-use Rattle.edge_rules.proofs.Neighbours.{live-there, named-is, beside, named-there, IsBeside}
+use Rattle.train_nodes.proofs.EventLemmas.{live-there}
+use Rattle.edge_rules.proofs.Neighbours.{named-is, beside, named-there, IsBeside}
 use Rattle.edge_rules.proofs.InsideLemmas.{choice_keeps, cancel-there, extra-keeps, reroute-removes, reroute-keeps}
 
 -- of the edges at an event no two lead from one event to one event, also in another order
@@ -40,11 +41,11 @@ module _ {a : Inside} {g : GraphState} {v : Event} (h : IsConsistent a) (is : se
       (fold-same (stored_time k) so_far _ _ (All-permutation (Contains _) _ _ p (All-contains_itself _)) (All-permutation (Contains _) _ _ q (All-contains_itself _)), length_permutation _ _ p, All-permutation (IsReady k) _ _ q)
 
 -- the events beside an event are there, by any options
-abbrev pub any : Opts
-any = record { slack = 0; stop = 0; change = 0; window = 0; spare_trains = 0; spare_calls = 0; overrides = 0 }
+abbrev pub any_opts : Opts
+any_opts = record { slack = 0; stop = 0; change = 0; window = 0; spare_trains = 0; spare_calls = 0; overrides = 0 }
 
-pub beside-all : (st : State) (v : Event) → All HasOwnLabels st.trains → event_named st (node_of v.key) ≡ Some v → (event_named st (node_of v.key) ≡ Some v) × IsBeside any st v × ((o : Opts) → (incoming (train_edges o 0 st.trains) v.key ≡ along_to o st (node_of v.key)) × (outgoing (train_edges o 0 st.trains) v.key ≡ along_from o st (node_of v.key)) × IsBeside o st v)
-beside-all st v labels named = (named, beside any st labels v named, λ o. (rw named refl, rw named refl, beside o st labels v named))
+pub beside-all : (st : State) (v : Event) → All HasOwnLabels st.trains → event_named st (node_of v.key) ≡ Some v → (event_named st (node_of v.key) ≡ Some v) × IsBeside any_opts st v × ((o : Opts) → (incoming (train_edges o 0 st.trains) v.key ≡ along_to o st (node_of v.key)) × (outgoing (train_edges o 0 st.trains) v.key ≡ along_from o st (node_of v.key)) × IsBeside o st v)
+beside-all st v labels named = (named, beside any_opts st labels v named, λ o. (rw named refl, rw named refl, beside o st labels v named))
 
 -- what the edges along a train need
 pub ruleset joins = (beside-all, named-there)
@@ -53,5 +54,5 @@ pub ruleset joins = (beside-all, named-there)
 pub reroute-fits : (st : State) (n from to : ℕ) (via : List NewCall) → stands_before from to (calls_of st n) ≡ true → (effect st (Reroute n from to via) ≡ effect st (Reroute n from to via)) × ((next : ℕ) → IsNextLabel (effect st (Reroute n from to via)) n next → length via ≤ next)
 reroute-fits st n from to via stands = (refl, λ next h. (reroute-next st n from to next via stands h).0)
 
--- what the functions of a graph need that have no answers
+-- what the functions of a graph need
 pub ruleset graphs = (choice_keeps, not-chosen, no-event, live-there, named-is, named-there, cancel-there, extra-keeps, index-events, reroute-fits, reroute-there, reroute-removes, reroute-keeps, transfers-found)

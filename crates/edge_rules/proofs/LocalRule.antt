@@ -1,5 +1,5 @@
 -- The local rule at an event.
-use Rattle.edge_rules.proofs.Words.{◌^◌, Edge, floor_of, local, IsLater, All-right, local_at, ◌≡◌, ℕ, ◌+◌, ◌<◌, List, arith, true, false, Option, Some, unwrap_or, All, fold, length-append, Node, Event, event_named, later, capped, report_after, IsReady, transfers_to, All-left, node_of, along_to, edges_to, stored_time, HasOwnLabels, GraphState}
+use Rattle.edge_rules.proofs.Words.{◌^◌, Edge, floor_of, local, IsLater, All-right, local_at, ◌≡◌, ℕ, ◌+◌, ◌<◌, arith, true, Some, unwrap_or, All, fold, length-append, Node, Event, event_named, later, capped, report_after, IsReady, transfers_to, All-left, node_of, along_to, edges_to, stored_time, HasOwnLabels, GraphState}
 use Rattle.std.proofs.lemmas.List.Sums.{fold-append}
 use Rattle.train_nodes.specs.Times.{StoredTimes, has_time}
 use Rattle.edge_rules.proofs.TransferLemmas.{edges-at}

@@ -1,7 +1,6 @@
 -- The edges along its train at an event of a state, by the names of the events beside it.
-use Rattle.edge_rules.proofs.Words.{◌≡◌, ℕ, Bool, true, false, ◌&&◌, cond, List, [], ◌∷◌, ◌++◌, ◌∙◌, ap, subst, arith, Option, Some, None, find, is_some, slice_get, All, All-contains, AllPairs, option_map, option_map_or, Key, Node, Opts, is_same, node_of, same-is, same_node-is, is_same_node, Call, Train, State, Event, Edge, before, after, is_call, node_at, events, events_of, events_at, event_named, is_event, is_live, train_events, edge_on, edges_along, filter, incoming, outgoing, AreApart, events_at-train, events-from_each, has_event, first_label, last_label, along_to, along_from, HasOwnLabels, suc}
+use Rattle.edge_rules.proofs.Words.{◌≡◌, ℕ, Bool, true, false, cond, List, [], ◌∷◌, ◌++◌, ◌∙◌, ap, subst, arith, Option, Some, None, find, is_some, slice_get, All, All-contains, AllPairs, option_map, option_map_or, Key, Node, Opts, is_same, node_of, same-is, same_node-is, is_same_node, Call, Train, State, Event, Edge, before, after, is_call, node_at, events, events_of, events_at, event_named, is_event, train_events, edge_on, edges_along, filter, incoming, outgoing, AreApart, events_at-train, events-from_each, has_event, first_label, last_label, along_to, along_from, HasOwnLabels, suc}
 use Rattle.std.proofs.lemmas.Grind.{elements}
-use Rattle.std.specs.List.{list_any}
 use Rattle.delay_model.specs.Valid.{HasDistinctLabels}
 use Rattle.delay_model.proofs.Apart.{events_at-apart}
 use Rattle.state_laws.proofs.Changed.{train_events-there}
@@ -34,14 +33,6 @@ named-is st n v h = same_node-is _ n (found-there (is_event n) (train_events st 
 -- its call is there
 pub named-there : (st : State) (n : Node) (v : Event) → event_named st n ≡ Some v → has_event st n ≡ true
 named-there st n v h = grind (arith, λ (t : Train). found_event n.train t.route n.label n.dep t.calls)
-
-found-of-live : (p : Event → Bool) (es : List Event) → list_any (λ v. p v && v.live) es ≡ true → is_some (find p es) ≡ true
-found-of-live p [] h = absurd (cc)
-found-of-live p (e ∷ es) h = grind (arith, found-of-live p es)
-
--- a live event is there
-pub live-there : (st : State) (n : Node) → is_live st n ≡ true → has_event st n ≡ true
-live-there st n h = grind (arith, found-of-live (is_event n) (train_events st n.train) h, λ (t : Train). found_event n.train t.route n.label n.dep t.calls)
 
 -- the labels of the train of a number differ
 pub own-labels : (ts : List Train) (i : ℕ) (t : Train) → All HasOwnLabels ts → slice_get ts i ≡ Some t → HasDistinctLabels t.calls

@@ -1,6 +1,5 @@
 -- Where no edge between trains is found.
-use Rattle.edge_rules.proofs.Words.{◌≡◌, ℕ, Bool, true, false, not, nat_eq, List, [], length, None, arith, cond, nat_tests, All-filter, filter_passes, Node, Entry, Override, State, Event, wait_between, transfer, event_named, connection, wait, HasLiveEvent, HaveLiveEvents, of_entry, planned_with, planned_by, planned_at, kept_with, kept_at, of_name, GraphState, Wanted, Into, WaitsAt, Change, nil_from_length, connection_cmp, has_call, are_into, can_be_at, entries_near}
-pub use Rattle.edge_rules.proofs.Unreported.{told-is, train-there}
+use Rattle.edge_rules.proofs.Words.{◌≡◌, ℕ, Bool, true, false, nat_eq, List, [], length, None, arith, cond, nat_tests, All-filter, filter_passes, Node, Entry, Override, State, Event, wait_between, transfer, event_named, connection, wait, HasLiveEvent, HaveLiveEvents, of_entry, planned_with, planned_by, planned_at, kept_with, kept_at, of_name, GraphState, Wanted, Into, WaitsAt, Change, nil_from_length, connection_cmp, has_call, are_into, can_be_at, entries_near}
 use mathlib.Core.Bool.{beq}
 use Rattle.std.specs.FinMap as finmap
 use Rattle.std.specs.FinMap.{FinMap, get-empty, empty_of_len}
@@ -45,6 +44,5 @@ no-event st n h = grind (arith, named-there st n)
 pub live_near : (st : State) (es : List Entry) (window : ℕ) (wanted : Wanted) (time : ℕ) (c : Change) → HaveLiveEvents st es → HaveLiveEvents st (entries_near window es wanted time c)
 live_near st es window wanted time c h = All-filter _ (HasLiveEvent st) es h
 
-pub ruleset found = (nat_tests, planned_not, planned_into, kept_not, filter-none, planned-unwaited, live_near)
-
-pub ruleset told = (told-is, train-there)
+-- what is needed where no edges between trains are found, and of entries that are near
+pub ruleset none_found = (nat_tests, planned_not, planned_into, kept_not, filter-none, planned-unwaited, live_near)

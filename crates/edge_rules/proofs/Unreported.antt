@@ -9,3 +9,6 @@ train-there st e h = grind (arith, named-at st e.node, slice_get_within st.train
 -- what the entry and the route tell
 pub told-is : (st : State) (e : Entry) (route : ℕ) → HasLiveEvent st e → option_map (λ (t : Train). t.route) (slice_get st.trains e.node.train) ≡ Some route → option_map unreported (event_named st e.node) ≡ Some (record { key = record { time = e.time; train = e.node.train; label = e.node.label; dep = e.node.dep }; stop = e.stop; route = route; live = true; forecast = None; report = None })
 told-is st e route h is = grind (arith, h, named-at st e.node h.event h.named)
+
+-- what the event of an entry needs
+pub ruleset told = (told-is, train-there)

@@ -123,7 +123,7 @@ impl<'a> Iterator for KeptEdges<'a> {
 
 /// The planned edges that lead to an event, if there can be any: only if its train waits there.
 #[inline(always)]
-#[tactic(auto, using(crate::proofs::NoneFound::found))]
+#[tactic(auto, using(crate::proofs::NoneFound::none_found))]
 pub(crate) fn planned_to<'a>(
     graph: &'a Graph,
     index: &'a StationIndex,
@@ -143,7 +143,7 @@ pub(crate) fn planned_to<'a>(
 }
 
 /// The planned edges that are wanted at an event, if there can be any.
-#[tactic(auto, using(crate::proofs::NoneFound::found))]
+#[tactic(auto, using(crate::proofs::NoneFound::none_found))]
 pub(crate) fn planned_edges<'a>(
     graph: &'a Graph,
     index: &'a StationIndex,
@@ -171,7 +171,7 @@ pub(crate) fn planned_edges<'a>(
 
 /// The kept edges that lead to an event (`into`) or leave it, if there can be any.
 #[inline(always)]
-#[tactic(auto, using(crate::proofs::NoneFound::found))]
+#[tactic(auto, using(crate::proofs::NoneFound::none_found))]
 pub(crate) fn kept_edges<'a>(graph: &'a Graph, into: bool, at: &Event) -> Option<KeptEdges<'a>>
     ensures { unwrap_or result [] ≡ kept_at graph.now into at.now }
 {
@@ -247,7 +247,7 @@ fn planned_edge(
 /// stands with its call. The entry and the route of the train tell the rest, and the call, which
 /// lies far from others of the stop, is not read.
 #[inline(always)]
-#[tactic(auto, using(crate::proofs::NoneFound::told))]
+#[tactic(auto, using(crate::proofs::Unreported::told))]
 fn event_of(graph: &Graph, entry: &Entry) -> Event
     requires { HasLiveEvent graph.now.state entry.now }
     ensures { option_map unreported (event_named graph.now.state entry.now.node) ≡ Some result }
@@ -308,7 +308,7 @@ fn joined_stops<'a>(changes: &'a Changes, into: bool, stop: StopNo) -> &'a [Chan
 /// The entries of the events at the other end of a change by which those edges lead that are wanted
 /// at an event: arrivals for edges to it, departures for edges from it. None only if there are no
 /// such edges.
-#[tactic(auto, using(crate::proofs::NoneFound::found))]
+#[tactic(auto, using(crate::proofs::NoneFound::none_found))]
 fn entries_near<'a>(
     graph: &Graph,
     index: &'a StationIndex,

@@ -3,7 +3,7 @@ use Rattle.train_nodes.proofs.Words.{◌≡◌, ◌≢◌, ℕ, ◌+◌, ◌-◌
 use Rattle.train_nodes.proofs.Words.{slot_of, NumberedTrain, IsTrainStored, IsCallAt, IsStored, IsGrown, slice_get_cases, slice_get_within}
 use Rattle.train_nodes.proofs.StoredLemmas.{IsOneAnew, anew-stored}
 
--- a train is stored anew: old calls keep their slots, so many new ones of it are labelled from one on, and nothing of other trains changes
+-- a train is stored anew: old calls keep their slots, so many new ones of it have the labels from `from` on, and nothing of other trains changes
 pub record IsTrainChange (a b : Inside) (t from calls : ℕ) (q : TrainRecord) (m : NumberedTrain) : Type 0 where
   pub before : IsStored a
   pub row : slice_get b.records.items t ≡ Some q

@@ -1,11 +1,11 @@
 -- A part of a train that was found by the labels of its ends, and what a cancellation or a rerouting takes out of it.
 use Rattle.train_nodes.proofs.Words.{up_to, before, is_call, is_among, is_event, events_at, events_between, node_at, stretch, names_one_of, is_same_node}
 use Rattle.train_nodes.proofs.Words.{calls_between, calls_of, has_call, stands_before, HasDistinctLabels, Call, Event, Node, State, ◌≡◌, ℕ, zero, suc, ◌+◌, ◌-◌, ◌<◌}
-use Rattle.train_nodes.proofs.Words.{◌≤◌, ◌^◌, inl, inr, List, [], ◌∷◌, Bool, true, false, ◌&&◌, ◌||◌, not, nat_lt, nat_eq, None, Some, length, take, drop, refl}
-use Rattle.train_nodes.proofs.Words.{sym, ◌∙◌, arith, map, ◌⊎◌, Option, get_or, MatchOption, is_some, cases_Bool, nat_tests, take-append-drop, length-map}
+use Rattle.train_nodes.proofs.Words.{◌≤◌, ◌^◌, List, [], ◌∷◌, Bool, true, false, ◌&&◌, ◌||◌, not, nat_lt, nat_eq, None, Some, length, take, drop, refl}
+use Rattle.train_nodes.proofs.Words.{sym, ◌∙◌, arith, ◌⊎◌, Option, get_or, MatchOption, is_some, cases_Bool, nat_tests, take-append-drop, length-map}
 use Rattle.train_nodes.proofs.Words.{slice_get_within, list_any, first-within, none-any, past-none, stands, stands-no-first, stands-no-last, stands-not, between-at}
 use Rattle.train_nodes.proofs.Words.{IsPart, IsPartOf, HasNoPart, call_of, is_between, IsCurrentAt, HasNoCurrent, NumberedTrain, slot_of, IsFirst}
-use Rattle.train_nodes.proofs.Words.{AreInOrder, IsTrainStored, line-length, placed-at, first_slot, line_of, seen, IsStored, TrainRecord, Part, StoredCall, Inside}
+use Rattle.train_nodes.proofs.Words.{AreInOrder, IsTrainStored, line-length, placed-at, line_of, seen, IsStored, TrainRecord, Part, StoredCall, Inside}
 use Rattle.train_nodes.proofs.Words.{list_any-append, nat_le, change-length, retain_keys, is_removed, names_removed, Overrides}
 use Rattle.delay_model.specs.Cuts as Cuts
 use Rattle.train_nodes.proofs.ReadLemmas.{distinct-seen}
@@ -70,7 +70,7 @@ part-found {a} {cs} {t} {from} {to} {p} s read g =
     let k = found a t from p.from h.start.call s h.start h.start.stored in
     let line = row-stored a t k.0 k.1 k.2.of in
     let stands : (l slot : ℕ) (c : IsCurrentAt a.calls.items a.slots t l slot) → (c.call.place < k.0.len) × (line.at c.call.place ≡ slot) × IsFirst (is_call l) c.call.place (calls_of (seen a) t) = λ l slot c. grind (arith, c, s.named t l slot c.number, placed-at a.calls.items t k.0.len line.at line.placed slot c.call c.stored, seen-first s c) in
-    (k.0, k.1, line, grind (arith, h, k.2.of, stands from p.from h.start, stands to p.to h.end, line, line.labels, rw line.begins at (line-length a.calls.items t k.0.len line.at line.placed.line), distinct-seen a (seen a) t s refl, first-within (is_call to) p.last (calls_of (seen a) t), length-map (line_of a.calls.items k.0.len k.1) call_of))
+    (k.0, k.1, line, grind (arith, h, k.2.of, stands from p.from h.start, stands to p.to h.end, line, line.labels, rw line.begins at (line-length a.calls.items t k.0.len line.at line.placed.line.calls), distinct-seen a (seen a) t s refl, first-within (is_call to) p.last (calls_of (seen a) t), length-map (line_of a.calls.items k.0.len k.1) call_of))
 
 -- it is one of the train's line
 pub found-part : {a : Inside} {t from to : ℕ} {p : Part} {r : TrainRecord} {n : NumberedTrain} {line : IsTrainStored a.slots.spare_calls a.calls.items t r.len n} → IsFoundPart a t from to p r n line → IsPart a.calls.items p.train p.from p.to p.first p.last

@@ -36,6 +36,7 @@ module _ {a : Inside} {number first k : ℕ} (records : Vec TrainRecord Global) 
   placed = record {
     line = record {
       calls = λ j l. (let z = new-at j l in grind (arith, z));
+      current = λ j x l h. grind (arith, h, new-at j l);
       covers = λ i x h t c.
           let past : first ≤ i = grind (arith, h, t, slice_get_cases a.calls.items i, laid.stay i, s.numbered i, slice_get_past a.slots.trains number, number-is, s.calls_count) in
           (i - first, omega (arith, laid.count, slice_get_within calls.items i x h, s.calls_count), omega arith);

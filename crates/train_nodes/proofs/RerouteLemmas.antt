@@ -55,7 +55,7 @@ module _ {a : Inside} {t from to : ℕ} {p : Part} {r : TrainRecord} {n : Number
   mid-labelled =
       let calls = map call_of (walk a.calls.items r.len (line.at 0)) in
       let old = rw (← line.begins) at line.labels in
-      let long : p.last < length calls = omega (arith, line-length a.calls.items t r.len line.at line.placed.line, length-map (walk a.calls.items r.len (line.at 0)) call_of) in
+      let long : p.last < length calls = omega (arith, line-length a.calls.items t r.len line.at line.placed.line.calls, length-map (walk a.calls.items r.len (line.at 0)) call_of) in
       let made = numbered-new (length n.slots) via in
       let distinct = joined-distinct (p.first + 1) p.last (length n.slots) via calls (omega arith) long old.distinct old.below in
       rw (spliced-calls splice, append_assoc) (grind (arith, elements, w, long, old, distinct, made))
@@ -64,7 +64,7 @@ module _ {a : Inside} {t from to : ℕ} {p : Part} {r : TrainRecord} {n : Number
   reroute-line : IsTrainLine nb t (at 0) size mid
   reroute-line k last known slot =
       let same = one-of nb.trains t m k (rw (change-get, nat_eq-same t, w.of.number) refl) known in
-      let whole = line-of mid t size at (spliced-line splice) (omega arith) mid-labelled.distinct in
+      let whole = line-of mid t size at (spliced-line splice).calls mid-labelled.distinct in
       let is : at (size - 1) ≡ last = grind (arith, spliced-ends splice, (calls-grown t (length via) a.slots n w.of.number).only t (n.loaded - 1) last (rw (← same) at slot), row-last a t r n w.of line, loaded) in
       rw (← is) whole
 

@@ -1,5 +1,5 @@
 -- Stored trains and seen ones.
-use Rattle.train_nodes.proofs.Words.{map-map, IsLineAt, IsPlacedAt, line-at, line-length, line-of, placed-at, renewed-line, same-within, ◌^◌, AreLabelled}
+use Rattle.train_nodes.proofs.Words.{IsLineCall, map-map, IsLineAt, IsPlacedAt, line-at, line-length, line-of, placed-at, renewed-line, same-within, ◌^◌, AreLabelled}
 use Rattle.train_nodes.proofs.Words.{last_label, inl, inr, ◌≡◌, ◌≢◌, ℕ, suc, ◌-◌, ◌<◌, ◌≤◌, List, [], ◌∷◌, length, refl, sym, ◌∙◌, ap, arith, Option}
 use Rattle.train_nodes.proofs.Words.{Some, None, slice_get, find, map, vec_capacity, Vec, Global, option_map, option_and_then, cases_eq, length-map}
 use Rattle.train_nodes.proofs.Words.{slice_get_within, slice_get_cases, slice_get-map, get_or_from_slice_get, option_and_then_some, Call, Train, is_call}
@@ -25,12 +25,12 @@ trains-labels cs rs ns e =
 pub seen-length : (a : Inside) → IsStored a → length (seen a).trains ≡ length a.slots.trains
 seen-length a s = simp length-map at (ap length (trains-labels a.calls.items a.records.items a.slots.trains s.records_count))
 
-change-get : (ts : List Train) (t u : ℕ) (f : Train → Train) → slice_get (change_train t f ts) u ≡ cond (nat_eq u t) (option_map f (slice_get ts u)) (slice_get ts u)
-change-get [] t u f = grind arith
-change-get (s ∷ ts) t u f = grind (arith, nat_tests, λ (v w : ℕ). change-get ts v w f)
+change_train-get : (ts : List Train) (t u : ℕ) (f : Train → Train) → slice_get (change_train t f ts) u ≡ cond (nat_eq u t) (option_map f (slice_get ts u)) (slice_get ts u)
+change_train-get [] t u f = grind arith
+change_train-get (s ∷ ts) t u f = grind (arith, nat_tests, λ (v w : ℕ). change_train-get ts v w f)
 
 -- the calls of a line, by their places
-pub line-by : (cs : List StoredCall) (t len : ℕ) (n : NumberedTrain) (at : ℕ → ℕ) → IsLineAt cs t len at → at 0 ≡ first_slot n → (length (line_of cs len n) ≡ len) × ((k : ℕ) → k < len → slice_get (line_of cs len n) k ≡ slice_get cs (at k))
+pub line-by : (cs : List StoredCall) (t len : ℕ) (n : NumberedTrain) (at : ℕ → ℕ) → ((k : ℕ) → k < len → IsLineCall cs t len at k) → at 0 ≡ first_slot n → (length (line_of cs len n) ≡ len) × ((k : ℕ) → k < len → slice_get (line_of cs len n) k ≡ slice_get cs (at k))
 line-by cs t len n at w b = (rw b at (line-length cs t len at w), rw b at (line-at cs t len at w))
 
 -- the row of a train that is there, and its numbers
@@ -53,13 +53,13 @@ module _ (a : Inside) (t : ℕ) (r : TrainRecord) (n : NumberedTrain) (w : IsRow
   row-stored = w.stored.trains t r n w.row w.number
 
   pub row-line : (length (line_of a.calls.items r.len n) ≡ r.len) × ((k : ℕ) → k < r.len → slice_get (line_of a.calls.items r.len n) k ≡ slice_get a.calls.items (row-stored.at k))
-  row-line = line-by a.calls.items t r.len n row-stored.at row-stored.placed.line row-stored.begins
+  row-line = line-by a.calls.items t r.len n row-stored.at row-stored.placed.line.calls row-stored.begins
 
   -- its last call is the last one that it was loaded with
   pub row-last : (own : IsTrainStored a.slots.spare_calls a.calls.items t r.len n) → slot_of a.slots t (n.loaded - 1) ≡ Some (own.at (r.len - 1))
   row-last own =
       let line = line_of a.calls.items r.len n in
-      let by = line-by a.calls.items t r.len n own.at own.placed.line own.begins in
+      let by = line-by a.calls.items t r.len n own.at own.placed.line.calls own.begins in
       let c = own.placed.line.calls (r.len - 1) (omega (arith, own.labels.some, by.0, length-map line call_of)) in
       grind (arith, w, own.last, own.labels.some, c, by, slice_get-map call_of line (r.len - 1), length-map line call_of, last-at (map call_of line), w.stored.numbered (own.at (r.len - 1)) c.call)
 
@@ -108,8 +108,9 @@ pub none-named : (a : Inside) (t l : ℕ) → IsStored a → HasNoCurrent a.call
 none-named a t l s none =
     let unseen : (r : TrainRecord) (n : NumberedTrain) → IsRowAt a t r n → find (is_call l) (map call_of (line_of a.calls.items r.len n)) ≡ None = λ r n w. none-labelled (line_of a.calls.items r.len n) l (λ k x h label.
     let within = slice_get_within (line_of a.calls.items r.len n) k x h in
-    let c = (row-stored a t r n w).placed.line.calls k (omega (arith, (row-line a t r n w).0, within)) in
-    absurd (grind (arith, c, row-line a t r n w, h, label, within, s.numbered ((row-stored a t r n w).at k) x, none ((row-stored a t r n w).at k) x))) in
+    let m : k < r.len = omega (arith, (row-line a t r n w).0, within) in
+    let line = (row-stored a t r n w).placed.line in
+    absurd (grind (arith, line.calls k m, line.current k x m, row-line a t r n w, h, label, within, s.numbered ((row-stored a t r n w).at k) x, none ((row-stored a t r n w).at k) x))) in
     grind (arith, s, trains-get a.calls.items a.records.items a.slots.trains t, unseen)
 
 -- one train is stored anew, and nothing of other trains changes
@@ -133,11 +134,12 @@ module _ (a b : Inside) (t : ℕ) (q : TrainRecord) (m : NumberedTrain) (w : IsO
       let placed : IsPlacedAt b.calls.items u p.len own.at = record {
         line = record {
           calls = λ j l. grind (arith, own.placed.line.calls j l, kept j l);
+          current = λ j x l h. own.placed.line.current j x l (let c = own.placed.line.calls j l in cc (kept j l, h, c.stored));
           covers = λ i x h e c. own.placed.line.covers i x (w.back i x h (λ f. ne (sym e ∙ f))) e c;
         };
         places = λ j x l h. own.placed.places j x l (let c = own.placed.line.calls j l in cc (kept j l, h, c.stored));
       } in
-      let now = line-by b.calls.items u p.len k own.at placed.line own.begins in
+      let now = line-by b.calls.items u p.len k own.at placed.line.calls own.begins in
       let was = row-line a u p k r in
       (placed, same-within _ _ (now.0 ∙ sym was.0) (λ j l. grind (arith, l, now.0, now.1 j, was.1 j, kept j, own.placed.line.calls j)))
 
@@ -164,7 +166,7 @@ module _ (a b : Inside) (t : ℕ) (q : TrainRecord) (m : NumberedTrain) (w : IsO
   one-changed f r n row number e =
       let now = trains-get b.calls.items b.records.items b.slots.trains in
       let was = trains-get a.calls.items a.records.items a.slots.trains in
-      same-gets _ _ (λ u. grind (arith, cases_eq u t, nat_tests, change-get (trains_by a.calls.items a.records.items a.slots.trains) t u f, now u, was u, now t, was t, w.row, w.number, w.other_rows u, w.other_numbers u, row, number, e, λ (p : TrainRecord) (k : NumberedTrain). other-seen u p k))
+      same-gets _ _ (λ u. grind (arith, cases_eq u t, nat_tests, change_train-get (trains_by a.calls.items a.records.items a.slots.trains) t u f, now u, was u, now t, was t, w.row, w.number, w.other_rows u, w.other_numbers u, row, number, e, λ (p : TrainRecord) (k : NumberedTrain). other-seen u p k))
 
 -- a change of a train's calls
 module _ (a : Inside) (t : ℕ) (g : Call → Call) (ds : List StoredCall) (r : TrainRecord) (n : NumberedTrain) (w : IsRowAt a t r n) (k : IsLineChange t g a.calls.items ds) where
@@ -172,6 +174,7 @@ module _ (a : Inside) (t : ℕ) (g : Call → Call) (ds : List StoredCall) (r : 
   pub line-changed : IsLineAt ds t r.len (row-stored a t r n w).at
   line-changed = record {
     calls = λ j l. (let c = (row-stored a t r n w).placed.line.calls j l in let y = k.at ((row-stored a t r n w).at j) c.call c.stored in grind (arith, c, y));
+    current = λ j y l h. (let c = (row-stored a t r n w).placed.line.calls j l in grind (arith, h, (row-stored a t r n w).placed.line.current j c.call l c.stored, k.at ((row-stored a t r n w).at j) c.call c.stored));
     covers = λ i y h e c. (let x = changed-back t g a.calls.items ds k i y h in (row-stored a t r n w).placed.line.covers i x.0 x.1 (sym x.2.train_same ∙ e) (sym x.2.current_same ∙ c));
   }
 
@@ -179,7 +182,7 @@ module _ (a : Inside) (t : ℕ) (g : Call → Call) (ds : List StoredCall) (r : 
   pub line-maps : {X : Type 0} (f h : StoredCall → X) → ((i : ℕ) (x y : StoredCall) → slice_get a.calls.items i ≡ Some x → slice_get ds i ≡ Some y → x.train ≡ t → f y ≡ h x) → map f (line_of ds r.len n) ≡ map h (line_of a.calls.items r.len n)
   line-maps f h e =
       let own = row-stored a t r n w in
-      let now = line-by ds t r.len n own.at line-changed own.begins in
+      let now = line-by ds t r.len n own.at line-changed.calls own.begins in
       let was = row-line a t r n w in
       let same : (j : ℕ) (l : j < r.len) → f (line-changed.calls j l).call ≡ h (own.placed.line.calls j l).call = λ j l. (let x = own.placed.line.calls j l in e (own.at j) x.call (line-changed.calls j l).call x.stored (line-changed.calls j l).stored x.train_is) in
       same-within _ _ (simp length-map (now.0 ∙ sym was.0)) (λ j l. grind (arith, l, now, was, now.1 j, was.1 j, length-map (line_of ds r.len n) f, slice_get-map f (line_of ds r.len n) j, slice_get-map h (line_of a.calls.items r.len n) j, own.placed.line.calls j, line-changed.calls j, same j))
@@ -195,8 +198,7 @@ module _ (a : Inside) (t : ℕ) (g : Call → Call) (ds : List StoredCall) (r : 
   changed-line m last number slot =
       let own = row-stored a t r n w in
       let ends : own.at (r.len - 1) ≡ last = grind (arith, number, w.number, slot, row-last a t r n w own) in
-      let some : 0 < r.len = omega (arith, own.labels.some, (row-line a t r n w).0, length-map (line_of a.calls.items r.len n) call_of) in
-      rw (← own.begins, ← ends) (line-of ds t r.len own.at line-changed some (rw (← own.begins) at (distinct-labels _ _ labels-changed own.labels.distinct)))
+      rw (← own.begins, ← ends) (line-of ds t r.len own.at line-changed.calls (rw (← own.begins) at (distinct-labels _ _ labels-changed own.labels.distinct)))
 
   -- where each call knows its place and the first report after it, it is stored
   changed-stored : IsPlacedAt ds t r.len (row-stored a t r n w).at → HasNextReports (line_of ds r.len n) → IsTrainStored a.slots.spare_calls ds t r.len n

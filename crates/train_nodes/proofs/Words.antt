@@ -11,7 +11,7 @@ pub use Rattle.call_lines.proofs.RenewLemmas.{calls-alike}
 pub use Rattle.call_lines.proofs.RerouteLines.{IsSplice, spliced, spliced-begins, spliced-calls, spliced-ends, spliced-last, spliced-line}
 pub use Rattle.call_lines.proofs.TrainLines.{line-at, line-length, line-of, one-of, placed-at, renewed-line, same-within, some-of}
 pub use Rattle.call_lines.specs.Calls.{call_named, first_label, label_after, label_before, last_label}
-pub use Rattle.call_lines.specs.Lines.{IsTrainLine, AreReplaced, HasNoPart, IsKilled, IsLineAt, IsPart, IsPartOf, IsPlacedAt, killed_by}
+pub use Rattle.call_lines.specs.Lines.{IsTrainLine, AreReplaced, HasNoPart, IsKilled, IsLineAt, IsLineCall, IsPart, IsPartOf, IsPlacedAt, killed_by}
 pub use Rattle.call_lines.specs.Linked.{AreLaid, HasNextReports, HasNoCurrent, IsCurrentAt, IsEdited, IsLaid, IsRenewed, call_of}
 pub use Rattle.call_lines.specs.Linked.{call_report, is_between, live_report, next_report_of, report_of, walk}
 pub use Rattle.call_lines.specs.Loaded.{by_table, call_at, loaded_from, loaded_train, with_train}

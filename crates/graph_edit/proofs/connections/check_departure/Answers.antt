@@ -1,4 +1,4 @@
-use Rattle.edge_rules.proofs.Neighbours.{live-there}
+use Rattle.train_nodes.proofs.EventLemmas.{live-there}
 use Rattle.graph_edit.proofs.connections.check_departure.Goals as goal
 
 pub event-event-requires : goal.event-event-requires

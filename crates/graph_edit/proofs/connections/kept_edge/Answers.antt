@@ -1,5 +1,5 @@
 use Rattle.std.proofs.Common.{sym, refl, Some, None}
-use Rattle.edge_rules.proofs.Neighbours.{live-there}
+use Rattle.train_nodes.proofs.EventLemmas.{live-there}
 use Rattle.graph_edit.proofs.ChoiceLemmas.{ends}
 use Rattle.graph_edit.proofs.ConnectionLemmas.{refused_is, edge_is}
 use Rattle.graph_edit.proofs.connections.kept_edge.Goals as goal

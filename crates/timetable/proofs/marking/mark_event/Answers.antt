@@ -1,5 +1,5 @@
 use Rattle.timetable.proofs.Words.{events, ap, ◌||◌, ◌∙◌}
-use Rattle.edge_rules.proofs.Neighbours.{live-there}
+use Rattle.train_nodes.proofs.EventLemmas.{live-there}
 use Rattle.propagate.proofs.Ordered.{live-keyed}
 use Rattle.rank_order.specs.Marked.{is_marked}
 use Rattle.timetable.proofs.Feeds.{key-marks, named-live}

@@ -1,4 +1,4 @@
-use Rattle.call_lines.proofs.Words.{Event, ◌≡◌, ◌-◌, ◌∷◌, Some, [], cond, length, slice_get, sym, ap, arith, common_steps, gets, slice_get_past, ltb-false, drop-nil, refl, suc, events_at, map, call_of, walk, drop}
+use Rattle.call_lines.proofs.Words.{Event, ◌≡◌, ◌-◌, ◌∷◌, Some, cond, length, slice_get, sym, ap, arith, common_steps, gets, slice_get_past, ltb-false, drop-nil, refl, suc, events_at, map, call_of, walk, drop}
 use Rattle.call_lines.proofs.events.TrainEventsIterator.next.Goals as goal
 
 pub returns-in_err-call-clause-steps : goal.returns-in_err-call-clause-steps

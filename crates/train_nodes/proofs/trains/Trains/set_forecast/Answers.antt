@@ -1,6 +1,6 @@
 use Rattle.train_nodes.proofs.Words.{arith, forecasted, live-there}
 use Rattle.train_nodes.proofs.EditLemmas.{slot-edited}
-use Rattle.train_nodes.proofs.ReadLemmas.{missing-read, distinct-seen}
+use Rattle.train_nodes.proofs.ReadLemmas.{missing-read}
 use Rattle.train_nodes.proofs.trains.Trains.set_forecast.Goals as goal
 
 pub invariant_of-self : goal.invariant_of-self
@@ -13,5 +13,5 @@ returns-in-Some c =
 
 pub returns-in_default : goal.returns-in_default
 returns-in_default c =
-    let live = live-there c.args.self.now c.args.n (distinct-seen _ _ _ c.self.invariant c.self.view_is) c.requires in
+    let live = live-there c.args.self.now c.args.n c.requires in
     absurd (missing-read c.args.n.train c.args.n.label c.self.invariant c.self.view_is c.deref.ensures.value c.in_default.ensures live)
