@@ -8,6 +8,3 @@ pub mod times;
 pub use slots::Slots;
 pub use steps::Steps;
 pub use times::NodeTimes;
-
-#[cfg(test)]
-mod tests;

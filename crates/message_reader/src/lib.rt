@@ -28,8 +28,3 @@ pub use resolve_error::ResolveError;
 pub use resolve_messages::resolve;
 pub use resolve_queries::{AskedQuery, resolve_query};
 pub use wire::{Connect, Line, Wire, WireCall, WireQuery, WireRef, WireTime};
-
-#[cfg(test)]
-mod small_timetable;
-#[cfg(test)]
-mod tests;

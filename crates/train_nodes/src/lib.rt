@@ -16,8 +16,3 @@ pub use event_numbers::{NodeTimes, Steps};
 pub use kinds::Kind;
 pub use trains::Trains;
 pub use well_formed::Msg;
-
-#[cfg(test)]
-mod message_tests;
-#[cfg(test)]
-mod tests;

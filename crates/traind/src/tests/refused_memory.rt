@@ -4,7 +4,8 @@ ghost use Rattle.std.specs.Prelude.{◌≡◌, ◌<◌, ◌≤◌, IfOk, length}
 
 use crate::feed::load_timetable;
 use crate::tests::exhaustion::{BLOCKS, is_all_refused, take_all};
-use crate::tests::{STOP_TIMES, feed, words};
+use crate::tests::example_feed::TABLES;
+use crate::tests::{CASE, feed_of, words_of};
 use command_words::read_words;
 use conn_scan::{Found, Scratch, earliest};
 use mt_base::journeys::Query;
@@ -22,9 +23,9 @@ const PLACES: u32 = 6;
 
 /// The timetable of the feed, by the options that the program has without further words.
 fn feed_timetable(alloc: Global) -> Result<Timetable, Fail> {
-    let words = words(alloc)?;
+    let words = words_of(alloc, CASE.words)?;
     let asked = read_words(alloc, &words)?;
-    let mut feed = feed(alloc, STOP_TIMES.as_bytes())?;
+    let mut feed = feed_of(alloc, &TABLES, None)?;
     let loaded = load_timetable(
         alloc,
         asked.folder,

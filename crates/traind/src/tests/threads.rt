@@ -2,27 +2,25 @@
 //! messages, each by a look of its own at the timetable. A gate holds each of two threads until the
 //! other has come somewhere, and no hold may expire.
 
-use crate::run::traind_within;
 use crate::status::Status;
-use crate::tests::{STOP_TIMES, feed, input, output, words_of};
-use mt_io::{Gate, Hold, MemFeed, NoGate, Point, TurnGate};
+use crate::tests::example_feed::{HELD, MISSED, QUERY, WITH_RULES};
+use crate::tests::{CASE, Case, is_text, run_at};
+use mt_io::{Gate, Hold, NoGate, Point, TurnGate};
 use std::alloc::Global;
 use std::sync::Wait;
 use std::test::*;
 use std::thread::Threads;
 
-/// Trains of the route R2 wait 300 seconds for those of R1.
-pub(super) const RULES: &str = "feeder_route_id,connecting_route_id,stop_id,max_wait
-R1,R2,,300
-";
+/// The query of another client.
+const SECOND_QUERY: &str =
+    r#"{"v":1,"type":"query","client":"c2","from":"A","to":"D","date":"20260105","time":"08:00:00"}"#;
 
-/// T1 arrives at B1 at 08:36:00, and T2 waits for it.
-pub(super) const HELD: &str =
-    r#"{"v":1,"type":"forecast","trip":"T1","date":"20260105","call":1,"event":"arr","time":"08:36:00"}"#;
+/// The words of `serve` with 2, 4 and 16 workers, without slack.
+const TWO_WORKERS: &str = "serve feed --from 20260105 --slack 0 --workers 2";
 
-/// T1 arrives at B1 at 08:38:01, and T2 does not wait so long.
-const MISSED: &str =
-    r#"{"v":1,"type":"forecast","trip":"T1","date":"20260105","call":1,"event":"arr","time":"08:38:01"}"#;
+const FOUR_WORKERS: &str = "serve feed --from 20260105 --slack 0 --workers 4";
+
+const SIXTEEN_WORKERS: &str = "serve feed --from 20260105 --slack 0 --workers 16";
 
 /// In so many turns another thread comes to where it is waited for, if it ever does.
 const TURNS: u64 = 10_000_000;
@@ -75,117 +73,134 @@ fn gate_of(alloc: Global, first: (Point, Point), second: (Point, Point)) -> Resu
     Ok(TurnGate::build(alloc, holds, TURNS)?)
 }
 
-/// The words of `serve` with so many workers, without slack.
-pub(super) fn words_of_serve(alloc: Global, workers: &str) -> Result<Vec<String>, Fail> {
-    let text = format!(in alloc; "serve feed --from 20260105 --slack 0 --workers {workers}")?;
-    words_of(alloc, text.as_str())
+/// These lines, each ended by LF.
+fn input_of(alloc: Global, lines: &[&str]) -> Result<Vec<u8>, Fail> {
+    let mut input = Vec::new(alloc);
+    for line in lines {
+        input.extend_from_slice(line.as_bytes())?;
+        input.push(b'\n')?;
+    }
+    Ok(input)
 }
 
-/// The feed with a waiting rule.
-pub(super) fn feed_with_rules(alloc: Global) -> Result<MemFeed, Fail> {
-    let mut feed = feed(alloc, STOP_TIMES.as_bytes())?;
-    let rules = Vec::from_slice(alloc, RULES.as_bytes())?;
-    feed.add("feed", "waiting_rules.txt", rules)?;
-    Ok(feed)
-}
-
-/// What `serve` writes for these lines with so many workers, on the feed with a waiting rule and
-/// without slack.
-pub(super) fn served<R: Threads + Wait + Sync, G: Gate + Sync>(
+/// What `serve` writes by these words for these lines, on the feed with a waiting rule.
+fn served<R: Threads + Wait + Sync, G: Gate + Sync>(
     rt: &R,
     alloc: Global,
-    workers: &str,
+    words: &str,
     lines: &[&str],
     gate: &G,
 ) -> Result<Vec<u8>, Fail> {
-    let all = words_of_serve(alloc, workers)?;
-    let mut feed = feed_with_rules(alloc)?;
-    let mut text = String::new(alloc);
-    for line in lines {
-        text.push_str(line)?;
-        text.push('\n')?;
-    }
-    let mut input = input(alloc, text.as_str())?;
-    let mut out = output(alloc)?;
-    let mut err = output(alloc)?;
-    let status = traind_within(
-        rt, alloc, &all, &mut feed, &mut input, &mut out, &mut err, gate, 1_000_000,
-    );
-    if status == Status::Ok {
-        return Ok(Vec::from_slice(alloc, out.bytes())?);
+    let input = input_of(alloc, lines)?;
+    let case = Case {
+        words,
+        tables: &WITH_RULES,
+        input: &input,
+        ..CASE
+    };
+    let ended = run_at(rt, alloc, &case, gate)?;
+    if ended.status == Status::Ok {
+        return Ok(Vec::from_slice(alloc, ended.objects.out.bytes())?);
     }
     Ok(Vec::new(alloc))
 }
 
+/// Whether the first query was answered before or after the message, and the second one after it.
+fn are_answered(alloc: Global, out: &[u8]) -> Result<bool, Fail> {
+    let accepted = "{\"accepted\":1,\"changed\":5,\"line\":3}\n";
+    let (early, late) = (scheduled(alloc, 1)?, held(alloc, 1)?);
+    let second = held(alloc, 2)?;
+    Ok(is_text(out, &[early.as_str(), second.as_str(), accepted])
+        || is_text(out, &[late.as_str(), second.as_str(), accepted]))
+}
+
 #[test]
 fn workers_answer_beside_one_another_and_the_publisher(rt: HostRuntime) -> Result<(), Fail> {
-    let alloc = rt.alloc();
-    let gate = gate_of(alloc, (look(1), look(2)), (look(2), post(3)))?;
-    let (one, two) = (asked(alloc, "c1")?, asked(alloc, "c2")?);
-    let lines = [one.as_str(), two.as_str(), HELD];
-    let out = served(&rt, alloc, "4", &lines, &gate)?;
-    let rest = format!(in alloc;
-        "{}{{\"accepted\":1,\"changed\":5,\"line\":3}}\n",
-        held(alloc, 2)?
-    )?;
-    let before = format!(in alloc; "{}{rest}", scheduled(alloc, 1)?)?;
-    let after = format!(in alloc; "{}{rest}", held(alloc, 1)?)?;
-    assert!(rt; out.as_slice() == before.as_bytes() || out.as_slice() == after.as_bytes());
+    let gate = gate_of(rt.alloc(), (look(1), look(2)), (look(2), post(3)))?;
+    let lines = [QUERY, SECOND_QUERY, HELD];
+    let out = served(&rt, rt.alloc(), FOUR_WORKERS, &lines, &gate)?;
+    let is_right = are_answered(rt.alloc(), &out)?;
+    assert!(rt; is_right);
     assert!(rt; !gate.expired());
     Ok(())
+}
+
+/// Whether the query was answered after the message.
+fn is_answered_late(alloc: Global, out: &[u8]) -> Result<bool, Fail> {
+    let late = held(alloc, 1)?;
+    let accepted = "{\"accepted\":1,\"changed\":5,\"line\":2}\n";
+    Ok(is_text(out, &[late.as_str(), accepted]))
 }
 
 #[test]
 fn a_worker_and_the_publisher_wait_for_one_another(rt: HostRuntime) -> Result<(), Fail> {
-    let alloc = rt.alloc();
-    let gate = gate_of(alloc, (look(1), post(2)), (post(2), look(1)))?;
-    let one = asked(alloc, "c1")?;
-    let out = served(&rt, alloc, "2", &[one.as_str(), HELD], &gate)?;
-    let want = format!(in alloc;
-        "{}{{\"accepted\":1,\"changed\":5,\"line\":2}}\n",
-        held(alloc, 1)?
-    )?;
-    assert_eq!(rt; out.as_slice(), want.as_bytes());
+    let gate = gate_of(rt.alloc(), (look(1), post(2)), (post(2), look(1)))?;
+    let out = served(&rt, rt.alloc(), TWO_WORKERS, &[QUERY, HELD], &gate)?;
+    let is_right = is_answered_late(rt.alloc(), &out)?;
+    assert!(rt; is_right);
     assert!(rt; !gate.expired());
     Ok(())
+}
+
+/// Whether the first query was answered between the messages, and the second one before or after
+/// the last.
+fn is_answered_between(alloc: Global, out: &[u8]) -> Result<bool, Fail> {
+    let first = "{\"accepted\":1,\"changed\":5,\"line\":1}\n";
+    let last = "{\"accepted\":2,\"changed\":5,\"line\":4}\n";
+    let gone = "{\"after\":2,\"arrives\":null,\"line\":3}\n";
+    let (second, still) = (held(alloc, 2)?, held(alloc, 3)?);
+    Ok(is_text(out, &[first, second.as_str(), still.as_str(), last])
+        || is_text(out, &[first, second.as_str(), gone, last]))
 }
 
 #[test]
 fn a_query_is_answered_between_two_posts(rt: HostRuntime) -> Result<(), Fail> {
-    let alloc = rt.alloc();
-    let gate = gate_of(alloc, (look(2), post(1)), (post(1), look(3)))?;
-    let one = asked(alloc, "c1")?;
-    let lines = [HELD, one.as_str(), one.as_str(), MISSED];
-    let out = served(&rt, alloc, "2", &lines, &gate)?;
-    let first = format!(in alloc;
-        "{{\"accepted\":1,\"changed\":5,\"line\":1}}\n{}",
-        held(alloc, 2)?
-    )?;
-    let last = "{\"accepted\":2,\"changed\":5,\"line\":4}\n";
-    let still = format!(in alloc; "{first}{}{last}", held(alloc, 3)?)?;
-    let gone = format!(in alloc; "{first}{{\"after\":2,\"arrives\":null,\"line\":3}}\n{last}")?;
-    assert!(rt; out.as_slice() == still.as_bytes() || out.as_slice() == gone.as_bytes());
+    let gate = gate_of(rt.alloc(), (look(2), post(1)), (post(1), look(3)))?;
+    let lines = [HELD, QUERY, QUERY, MISSED];
+    let out = served(&rt, rt.alloc(), TWO_WORKERS, &lines, &gate)?;
+    let is_right = is_answered_between(rt.alloc(), &out)?;
+    assert!(rt; is_right);
     assert!(rt; !gate.expired());
     Ok(())
 }
 
-#[test]
-fn sixteen_workers_answer_many_clients(rt: HostRuntime) -> Result<(), Fail> {
-    let alloc = rt.alloc();
+/// The queries of twelve clients.
+fn twelve_queries(alloc: Global) -> Result<Vec<String>, Fail> {
     let mut queries = Vec::new(alloc);
     for client in 0..12 {
         let name = format!(in alloc; "k{client}")?;
         queries.push(asked(alloc, name.as_str())?)?;
     }
+    Ok(queries)
+}
+
+/// What `serve` writes for these lines with sixteen workers.
+fn served_by_sixteen<R: Threads + Wait + Sync>(
+    rt: &R,
+    alloc: Global,
+    queries: &[String],
+) -> Result<Vec<u8>, Fail> {
     let mut lines = Vec::new(alloc);
-    for query in &queries {
+    for query in queries {
         lines.push(query.as_str())?;
     }
-    let out = served(&rt, alloc, "16", &lines, &NoGate)?;
+    served(rt, alloc, SIXTEEN_WORKERS, &lines, &NoGate)
+}
+
+/// The replies to twelve queries before any message.
+fn twelve_replies(alloc: Global) -> Result<String, Fail> {
     let mut want = String::new(alloc);
     for line in 1..13 {
         want.push_str(scheduled(alloc, line)?.as_str())?;
     }
-    assert_eq!(rt; out.as_slice(), want.as_bytes());
+    Ok(want)
+}
+
+#[test]
+fn sixteen_workers_answer_many_clients(rt: HostRuntime) -> Result<(), Fail> {
+    let queries = twelve_queries(rt.alloc())?;
+    let out = served_by_sixteen(&rt, rt.alloc(), &queries)?;
+    let want = twelve_replies(rt.alloc())?;
+    assert!(rt; is_text(&out, &[want.as_str()]));
     Ok(())
 }

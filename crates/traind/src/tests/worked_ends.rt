@@ -1,19 +1,17 @@
 //! Rows that were worked out by hand: runs on changed trains and other feeds, runs of `serve` and
 //! of `gen`, and runs that do not go well, with all that each must write.
 
-use crate::run::traind_within;
 use crate::status::Status;
-use crate::tests::generated::USAGE;
-use crate::tests::serve::FLUSH;
-use crate::tests::threads::{HELD, held, journey};
-use crate::tests::worked_rows::{
-    CALLS, DAYS, EXTRA, PLACES, TABLES, TIMES, TRAINS, Table, WAITS, feed_of, run_row, run_words,
-    text_of,
+use crate::tests::example_feed::{
+    CALLS, DAYS, FLUSH, HELD, PLACES, QUERY, TRAINS, USAGE, WAITS, WITH_RULES,
 };
-use crate::tests::{Ended, QUERY, input, is_end, is_next, output, words_of};
-use mt_io::{MemSink, MemSource, NoGate};
+use crate::tests::threads::{held, journey};
+use crate::tests::worked_rows::{EXTRA, TIMES, text_of};
+use crate::tests::{CASE, Case, Table, bytes_of, is_end, is_next, run};
 use std::alloc::Global;
+use std::sync::Wait;
 use std::test::*;
+use std::thread::Threads;
 
 /// The words of `serve`.
 const SERVE: &str = "serve feed --from 20260105 --slack 0";
@@ -66,7 +64,7 @@ const FROM_NOWHERE: &str = concat!(
 );
 
 /// The trips with a third train, N1.
-const NIGHT_TRAINS: Table = (
+const NIGHT_TRAINS: Table<'static> = (
     "trips.txt",
     "route_id,service_id,trip_id
 R1,W,T1
@@ -76,7 +74,7 @@ R1,W,N1
 );
 
 /// The calls of the three trains, of which N1 runs past midnight.
-const NIGHT_CALLS: Table = (
+const NIGHT_CALLS: Table<'static> = (
     "stop_times.txt",
     "trip_id,arrival_time,departure_time,stop_id,stop_sequence
 T1,08:00:00,08:00:00,A,1
@@ -90,7 +88,7 @@ N1,25:10:00,25:10:00,B1,2
 );
 
 /// The calls of the two trains, of which T2 leaves B2 after 61 minutes.
-const BAD_CALLS: Table = (
+const BAD_CALLS: Table<'static> = (
     "stop_times.txt",
     "trip_id,arrival_time,departure_time,stop_id,stop_sequence
 T1,08:00:00,08:00:00,A,1
@@ -102,7 +100,7 @@ T2,09:10:00,09:10:00,D,2
 );
 
 /// A table that must have no rows, with one.
-const FREQUENCIES: Table = (
+const FREQUENCIES: Table<'static> = (
     "frequencies.txt",
     "trip_id,start_time,end_time,headway_secs\nT1,08:00:00,09:00:00,600\n",
 );
@@ -110,7 +108,7 @@ const FREQUENCIES: Table = (
 /// A feed as its usual producers write it: a byte-order mark, quotes, lines that end with CR LF,
 /// tables and columns that are not read, rows out of order, a call without times, and a service
 /// that runs on single days alone.
-const USUAL: [Table; 6] = [
+const USUAL: [Table<'static>; 6] = [
     (
         "agency.txt",
         "agency_id,agency_name,agency_url,agency_timezone\r\n\
@@ -144,7 +142,7 @@ const USUAL: [Table; 6] = [
 struct Run {
     shows: &'static str,
     words: &'static str,
-    tables: &'static [Table],
+    tables: &'static [Table<'static>],
     lines: &'static [&'static str],
     out: &'static [&'static str],
 }
@@ -154,7 +152,7 @@ const RUNS: [Run; 7] = [
     Run {
         shows: "a cancelled feeder holds nobody",
         words: TIMES,
-        tables: &TABLES,
+        tables: &WITH_RULES,
         lines: &[HELD, CANCEL],
         out: &[
             r#"{"accepted":1,"changed":5,"line":1}"#,
@@ -169,7 +167,7 @@ const RUNS: [Run; 7] = [
     Run {
         shows: "a rerouted train",
         words: TIMES,
-        tables: &TABLES,
+        tables: &WITH_RULES,
         lines: &[REROUTE, ARRIVED_AT_B1, ARRIVED_AT_D],
         out: &[
             r#"{"accepted":1,"changed":4,"line":1}"#,
@@ -187,7 +185,7 @@ const RUNS: [Run; 7] = [
     Run {
         shows: "room for the calls of one extra train",
         words: "times feed --from 20260105 --slack 0 --spare-calls 2",
-        tables: &TABLES,
+        tables: &WITH_RULES,
         lines: &[EXTRA, SECOND_EXTRA],
         out: &[
             r#"{"accepted":1,"changed":2,"line":1}"#,
@@ -267,7 +265,7 @@ const RUNS: [Run; 7] = [
 struct Refusal {
     shows: &'static str,
     words: &'static str,
-    tables: &'static [Table],
+    tables: &'static [Table<'static>],
     status: Status,
     line: &'static str,
 }
@@ -298,147 +296,225 @@ const REFUSALS: [Refusal; 7] = [
     Refusal {
         shows: "no date",
         words: "times feed",
-        tables: &TABLES,
+        tables: &WITH_RULES,
         status: Status::Usage,
         line: USAGE,
     },
     Refusal {
         shows: "a date that is no day",
         words: "times feed --from 20260230",
-        tables: &TABLES,
+        tables: &WITH_RULES,
         status: Status::Usage,
         line: USAGE,
     },
     Refusal {
         shows: "an unknown command",
         words: "fly",
-        tables: &TABLES,
+        tables: &WITH_RULES,
         status: Status::Usage,
         line: USAGE,
     },
     Refusal {
         shows: "no words",
         words: "",
-        tables: &TABLES,
+        tables: &WITH_RULES,
         status: Status::Usage,
         line: USAGE,
     },
 ];
 
+/// Whether a run of these words over these tables, on these lines, goes well with this output.
+fn is_answered<R: Threads + Wait + Sync>(
+    rt: &R,
+    alloc: Global,
+    words: &str,
+    tables: &[Table<'_>],
+    lines: &[&str],
+    want: &str,
+) -> Result<bool, Fail> {
+    let input = text_of(alloc, lines)?;
+    let case = Case {
+        words,
+        tables,
+        input: input.as_bytes(),
+        budget: None,
+        ..CASE
+    };
+    let ended = run(rt, alloc, &case)?;
+    Ok(is_end(&ended, Status::Ok, &[want], ""))
+}
+
 /// Each run is made by itself, and nothing is written to the error stream.
 #[test]
 fn other_trains_and_other_feeds(rt: HostRuntime) -> Result<(), Fail> {
-    let alloc = rt.alloc();
     for run in &RUNS {
-        let ended = run_row(&rt, alloc, run.words, run.tables, run.lines)?;
-        let want = text_of(alloc, run.out)?;
-        assert!(rt;
-            is_end(&ended, Status::Ok, want.as_str(), ""),
-            "{}",
-            run.shows
-        );
+        let want = text_of(rt.alloc(), run.out)?;
+        let is_right =
+            is_answered(&rt, rt.alloc(), run.words, run.tables, run.lines, want.as_str())?;
+        assert!(rt; is_right, "{}", run.shows);
     }
     Ok(())
+}
+
+/// Whether the feed or the words are refused as they must be, and nothing is read from the input.
+fn is_refused<R: Threads + Wait + Sync>(
+    rt: &R,
+    alloc: Global,
+    refusal: &Refusal,
+) -> Result<bool, Fail> {
+    let input = text_of(alloc, &[HELD])?;
+    let case = Case {
+        words: refusal.words,
+        tables: refusal.tables,
+        input: input.as_bytes(),
+        budget: None,
+        ..CASE
+    };
+    let mut ended = run(rt, alloc, &case)?;
+    let is_refused = is_end(&ended, refusal.status, &[], refusal.line);
+    Ok(is_refused && is_next(alloc, &mut ended, HELD.as_bytes())?)
 }
 
 /// Where a feed or the words are refused, nothing is read from the input.
 #[test]
 fn refused_feeds_and_words(rt: HostRuntime) -> Result<(), Fail> {
-    let alloc = rt.alloc();
     for refusal in &REFUSALS {
-        let mut input = input(alloc, HELD)?;
-        let out = output(alloc)?;
-        let ended = run_words(&rt, alloc, refusal.words, refusal.tables, &mut input, out)?;
-        assert!(rt;
-            is_end(&ended, refusal.status, "", refusal.line),
-            "{}",
-            refusal.shows
-        );
-        let is_left = is_next(alloc, &mut input, HELD)?;
-        assert!(rt; is_left, "{}", refusal.shows);
+        let is_right = is_refused(&rt, rt.alloc(), refusal)?;
+        assert!(rt; is_right, "{}", refusal.shows);
     }
     Ok(())
 }
 
-/// The lines are 65,537 letters, the beginning of an object, and a query from a place that is not
-/// there. The read after the last byte fails.
+/// 65,537 letters, the beginning of an object, and a query from a place that is not there.
+fn bad_lines(alloc: Global) -> Result<Vec<u8>, Fail> {
+    let mut bytes = vec![in alloc; b'x'; 65_537]?;
+    let rest = bytes_of(alloc, &["\n", r#"{"v":1,"#, "\n", FROM_NOWHERE, "\n"])?;
+    bytes.extend_from_slice(&rest)?;
+    Ok(bytes)
+}
+
+/// Whether the replies to this input in single bytes are these, where the read after the last byte
+/// fails.
+fn is_answered_by_bytes<R: Threads + Wait + Sync>(
+    rt: &R,
+    alloc: Global,
+    input: &[u8],
+    want: &[&str],
+) -> Result<bool, Fail> {
+    let case = Case {
+        words: TIMES,
+        tables: &WITH_RULES,
+        input,
+        piece: 1,
+        failing_read: Some(input.len() as u64),
+        budget: None,
+        ..CASE
+    };
+    let ended = run(rt, alloc, &case)?;
+    Ok(is_end(&ended, Status::ReadFault, want, "traind: read fault\n"))
+}
+
+/// The read after the last byte fails.
 #[test]
 fn bad_lines_in_single_bytes(rt: HostRuntime) -> Result<(), Fail> {
-    let alloc = rt.alloc();
-    let mut bytes = vec![in alloc; b'x'; 65_537]?;
-    let rest = text_of(alloc, &["", r#"{"v":1,"#, FROM_NOWHERE])?;
-    bytes.extend_from_slice(rest.as_bytes())?;
-    let number = bytes.len() as u64;
-    let mut input = MemSource::build(bytes, 1, vec![in alloc; number]?);
-    let ended = run_words(&rt, alloc, TIMES, &TABLES, &mut input, output(alloc)?)?;
-    let bad = [
-        r#"{"bad":"long","line":1}"#,
-        r#"{"bad":"json","line":2}"#,
-        r#"{"bad":"stop","line":3}"#,
+    let input = bad_lines(rt.alloc())?;
+    let want = [
+        "{\"bad\":\"long\",\"line\":1}\n",
+        "{\"bad\":\"json\",\"line\":2}\n",
+        "{\"bad\":\"stop\",\"line\":3}\n",
     ];
-    let want = text_of(alloc, &bad)?;
-    let told = "traind: read fault\n";
-    assert!(rt; is_end(&ended, Status::ReadFault, want.as_str(), told));
+    let is_right = is_answered_by_bytes(&rt, rt.alloc(), &input, &want)?;
+    assert!(rt; is_right);
     Ok(())
+}
+
+/// A forecast 256 times, and a query.
+fn full_window(alloc: Global) -> Result<Vec<&'static str>, Fail> {
+    let mut lines = Vec::new(alloc);
+    for _ in 0..256 {
+        lines.push(HELD)?;
+    }
+    lines.push(QUERY)?;
+    Ok(lines)
+}
+
+/// The replies to these lines.
+fn full_window_replies(alloc: Global) -> Result<String, Fail> {
+    let mut replies = String::from_str(alloc, "{\"accepted\":1,\"changed\":5,\"line\":1}\n")?;
+    for line in 2_u64..257 {
+        let reply = format!(in alloc; "{{\"accepted\":{line},\"changed\":0,\"line\":{line}}}\n")?;
+        replies.push_str(reply.as_str())?;
+    }
+    let way = journey(alloc, 257, 256, ["08:36:00", "08:39:00", "09:13:00"])?;
+    replies.push_str(way.as_str())?;
+    Ok(replies)
 }
 
 /// The query is line 257, so it is answered after the 256 lines before it.
 #[test]
 fn query_behind_a_full_window(rt: HostRuntime) -> Result<(), Fail> {
-    let alloc = rt.alloc();
-    let mut lines = Vec::new(alloc);
-    let mut want = String::from_str(alloc, "{\"accepted\":1,\"changed\":5,\"line\":1}\n")?;
-    lines.push(HELD)?;
-    for line in 2_u64..257 {
-        lines.push(HELD)?;
-        let reply = format!(in alloc; "{{\"accepted\":{line},\"changed\":0,\"line\":{line}}}\n")?;
-        want.push_str(reply.as_str())?;
-    }
-    lines.push(QUERY)?;
-    let way = journey(alloc, 257, 256, ["08:36:00", "08:39:00", "09:13:00"])?;
-    want.push_str(way.as_str())?;
-    let ended = run_row(&rt, alloc, SERVE, &TABLES, &lines)?;
-    assert!(rt; is_end(&ended, Status::Ok, want.as_str(), ""));
+    let lines = full_window(rt.alloc())?;
+    let want = full_window_replies(rt.alloc())?;
+    let is_right = is_answered(&rt, rt.alloc(), SERVE, &WITH_RULES, &lines, want.as_str())?;
+    assert!(rt; is_right);
     Ok(())
 }
 
 /// The flush ends the window, so the query is answered after the line before it.
 #[test]
 fn query_behind_a_flush(rt: HostRuntime) -> Result<(), Fail> {
-    let alloc = rt.alloc();
-    let ended = run_row(&rt, alloc, SERVE, &TABLES, &[HELD, FLUSH, QUERY])?;
-    let want = format!(in alloc;
+    let want = format!(in rt.alloc();
         "{{\"accepted\":1,\"changed\":5,\"line\":1}}\n{{\"flush\":1,\"line\":2}}\n{}",
-        held(alloc, 3)?
+        held(rt.alloc(), 3)?
     )?;
-    assert!(rt; is_end(&ended, Status::Ok, want.as_str(), ""));
+    let lines = [HELD, FLUSH, QUERY];
+    let is_right = is_answered(&rt, rt.alloc(), SERVE, &WITH_RULES, &lines, want.as_str())?;
+    assert!(rt; is_right);
     Ok(())
+}
+
+/// Whether a run on a forecast that does not go well ends like this, with nothing on the output.
+fn is_stopped<R: Threads + Wait + Sync>(
+    rt: &R,
+    alloc: Global,
+    case: &Case<'_>,
+    status: Status,
+    told: &str,
+) -> Result<bool, Fail> {
+    let input = text_of(alloc, &[HELD])?;
+    let case = Case {
+        tables: &WITH_RULES,
+        input: input.as_bytes(),
+        ..*case
+    };
+    Ok(is_end(&run(rt, alloc, &case)?, status, &[], told))
 }
 
 /// No reply of the window is written.
 #[test]
 fn first_write_that_fails(rt: HostRuntime) -> Result<(), Fail> {
-    let alloc = rt.alloc();
-    let mut input = input(alloc, HELD)?;
-    let out = MemSink::build(alloc, 4_096, vec![in alloc; 0]?)?;
-    let ended = run_words(&rt, alloc, SERVE, &TABLES, &mut input, out)?;
-    assert!(rt; is_end(&ended, Status::WriteFault, "", "traind: write fault\n"));
+    let case = Case {
+        words: SERVE,
+        failing_write: Some(0),
+        budget: None,
+        ..CASE
+    };
+    let told = "traind: write fault\n";
+    let is_right = is_stopped(&rt, rt.alloc(), &case, Status::WriteFault, told)?;
+    assert!(rt; is_right);
     Ok(())
 }
 
 /// The line has more than the ten bytes that are taken.
 #[test]
 fn input_of_more_than_ten_bytes(rt: HostRuntime) -> Result<(), Fail> {
-    let alloc = rt.alloc();
-    let words = words_of(alloc, TIMES)?;
-    let mut feed = feed_of(alloc, &TABLES)?;
-    let mut input = input(alloc, HELD)?;
-    let mut out = output(alloc)?;
-    let mut err = output(alloc)?;
-    let status = traind_within(
-        &rt, alloc, &words, &mut feed, &mut input, &mut out, &mut err, &NoGate, 10,
-    );
-    let ended = Ended { status, out, err };
-    assert!(rt; is_end(&ended, Status::TooLong, "", "traind: input too long\n"));
+    let case = Case {
+        words: TIMES,
+        budget: Some(10),
+        ..CASE
+    };
+    let told = "traind: input too long\n";
+    let is_right = is_stopped(&rt, rt.alloc(), &case, Status::TooLong, told)?;
+    assert!(rt; is_right);
     Ok(())
 }

@@ -1,35 +1,15 @@
 //! Rows that were worked out by hand: each is a run of `times` on the feed of two trains, of which
 //! one waits for the other, with all that it must write.
 
-use crate::run::traind;
 use crate::status::Status;
-use crate::tests::threads::{HELD, RULES};
-use crate::tests::{
-    CALENDAR, EARLIER, Ended, FORECAST, HEADER, KEEP, MISSED, QUERY, STOP_TIMES, STOPS, TRIPS,
-    input, is_end, output, words_of,
+use crate::tests::example_feed::{
+    EARLIER, FORECAST, HEADER, HELD, KEEP, MISSED, QUERY, WITH_RULES,
 };
-use mt_io::{MemFeed, MemSink, MemSource, NoGate};
+use crate::tests::{CASE, Case, is_end, run};
 use std::alloc::Global;
 use std::sync::Wait;
 use std::test::*;
 use std::thread::Threads;
-
-/// The name of a table and its text.
-pub(super) type Table = (&'static str, &'static str);
-
-// The tables of the feed of the two trains.
-pub(super) const PLACES: Table = ("stops.txt", STOPS);
-
-pub(super) const TRAINS: Table = ("trips.txt", TRIPS);
-
-pub(super) const CALLS: Table = ("stop_times.txt", STOP_TIMES);
-
-pub(super) const DAYS: Table = ("calendar.txt", CALENDAR);
-
-pub(super) const WAITS: Table = ("waiting_rules.txt", RULES);
-
-/// The feed of the two trains, of which T2 waits for T1.
-pub(super) const TABLES: [Table; 5] = [PLACES, TRAINS, CALLS, DAYS, WAITS];
 
 /// The words of most rows.
 pub(super) const TIMES: &str = "times feed --from 20260105 --slack 0";
@@ -348,62 +328,41 @@ fn table_of(alloc: Global, times: &str) -> Result<String, Fail> {
     Ok(table)
 }
 
-/// A feed of these tables, which never fails.
-pub(super) fn feed_of(alloc: Global, tables: &[(&str, &str)]) -> Result<MemFeed, Fail> {
-    let mut feed = MemFeed::build(alloc, Vec::new(alloc));
-    for (name, text) in tables {
-        let bytes = Vec::from_slice(alloc, text.as_bytes())?;
-        feed.add("feed", name, bytes)?;
-    }
-    Ok(feed)
-}
-
-/// A run of the words of this text over these tables, on this input and output.
-pub(super) fn run_words<R: Threads + Wait + Sync>(
+/// Whether a run of these words on this input has these replies and the table with these times.
+fn is_answered<R: Threads + Wait + Sync>(
     rt: &R,
     alloc: Global,
     words: &str,
-    tables: &[(&str, &str)],
-    input: &mut MemSource,
-    mut out: MemSink,
-) -> Result<Ended, Fail> {
-    let words = words_of(alloc, words)?;
-    let mut feed = feed_of(alloc, tables)?;
-    let mut err = output(alloc)?;
-    let status = traind(
-        rt, alloc, &words, &mut feed, input, &mut out, &mut err, &NoGate,
-    );
-    Ok(Ended { status, out, err })
+    input: &[u8],
+    replies: &str,
+    times: &str,
+) -> Result<bool, Fail> {
+    let case = Case {
+        words,
+        tables: &WITH_RULES,
+        input,
+        budget: None,
+        ..CASE
+    };
+    let ended = run(rt, alloc, &case)?;
+    let table = table_of(alloc, times)?;
+    Ok(is_end(&ended, Status::Ok, &[replies, table.as_str()], ""))
 }
 
-/// The same on these lines, with an output that never fails.
-pub(super) fn run_row<R: Threads + Wait + Sync>(
-    rt: &R,
-    alloc: Global,
-    words: &str,
-    tables: &[(&str, &str)],
-    lines: &[&str],
-) -> Result<Ended, Fail> {
-    let text = text_of(alloc, lines)?;
-    let mut input = input(alloc, text.as_str())?;
-    let out = MemSink::build(alloc, 16_384, Vec::new(alloc))?;
-    run_words(rt, alloc, words, tables, &mut input, out)
+/// Whether a run of a row goes as it must.
+fn is_right<R: Threads + Wait + Sync>(rt: &R, alloc: Global, row: &Row) -> Result<bool, Fail> {
+    let input = text_of(alloc, row.lines)?;
+    let replies = text_of(alloc, row.replies)?;
+    let (input, replies) = (input.as_bytes(), replies.as_str());
+    is_answered(rt, alloc, row.words, input, replies, row.times)
 }
 
 /// Each row is run by itself, on the whole feed.
 #[test]
 fn lines_about_two_trains(rt: HostRuntime) -> Result<(), Fail> {
-    let alloc = rt.alloc();
     for row in &ROWS {
-        let ended = run_row(&rt, alloc, row.words, &TABLES, row.lines)?;
-        let replies = text_of(alloc, row.replies)?;
-        let table = table_of(alloc, row.times)?;
-        let want = format!(in alloc; "{replies}{table}")?;
-        assert!(rt;
-            is_end(&ended, Status::Ok, want.as_str(), ""),
-            "{}",
-            row.shows
-        );
+        let is_right = is_right(&rt, rt.alloc(), row)?;
+        assert!(rt; is_right, "{}", row.shows);
     }
     Ok(())
 }
@@ -411,12 +370,8 @@ fn lines_about_two_trains(rt: HostRuntime) -> Result<(), Fail> {
 /// The byte FF stands in no UTF-8.
 #[test]
 fn line_that_is_no_text(rt: HostRuntime) -> Result<(), Fail> {
-    let alloc = rt.alloc();
-    let bytes = Vec::from_slice(alloc, b"\xFF\n".as_slice())?;
-    let mut input = MemSource::build(bytes, 100, Vec::new(alloc));
-    let ended = run_words(&rt, alloc, TIMES, &TABLES, &mut input, output(alloc)?)?;
-    let table = table_of(alloc, SCHEDULED)?;
-    let want = format!(in alloc; "{{\"bad\":\"utf8\",\"line\":1}}\n{table}")?;
-    assert!(rt; is_end(&ended, Status::Ok, want.as_str(), ""));
+    let reply = "{\"bad\":\"utf8\",\"line\":1}\n";
+    let is_right = is_answered(&rt, rt.alloc(), TIMES, b"\xFF\n", reply, SCHEDULED)?;
+    assert!(rt; is_right);
     Ok(())
 }
