@@ -33,6 +33,7 @@ ghost use Rattle.edge_rules.specs.Transfers.{transfers_to};
 
 use crate::along::{edge_between, edge_into, edge_out};
 use crate::connections::{is_planned, may_connect};
+use crate::copies::{copy_events, copy_rules};
 use crate::edges::Edges;
 use crate::indexing::{index_of, insert_calls, insert_train, remove_between, remove_stretch};
 use crate::rule::{by_reports, floor, later_by, later_by_each};
@@ -113,11 +114,14 @@ impl Graph {
     pub fn copy(&self, alloc: Global) -> Result<Graph, OutOfMemory>
         ensures { IfOk result (λ copy. copy ≡ self.now) }
     {
+        let rules = copy_rules(&self.waits, &self.changes)?;
+        let (index, trains) = copy_events(&self.index, &self.trains, alloc)?;
+        let (waits, changes) = rules;
         Ok(Graph {
-            trains: self.trains.copy(alloc)?,
-            index: self.index.copy(alloc)?,
-            changes: self.changes.copy()?,
-            waits: self.waits.copy()?,
+            trains,
+            index,
+            changes,
+            waits,
             opts: self.opts,
         })
     }

@@ -6,6 +6,7 @@
 
 mod along;
 mod connections;
+mod copies;
 pub mod edges;
 pub mod graph;
 mod indexing;
