@@ -8,8 +8,7 @@ ghost use Rattle.change_times.specs.Reach.{reached, reached_back, pairs};
 use crate::change::Change;
 use crate::faults::BuildFault;
 use crate::lists::Lists;
-use crate::near::Nearby;
-use crate::reach::{back, onward};
+use crate::reach::onward_and_back;
 use crate::table::Table;
 use feed_tables::FeedTables;
 use mt_base::memory::OutOfMemory;
@@ -54,9 +53,7 @@ impl Changes {
             → 4000000 < pairs (tables_of t.now default)) }
     {
         let table = Table::build(alloc, t, default)?;
-        let nearby = Nearby::build(alloc, &table)?;
-        let onward = onward(alloc, &table, &nearby)?;
-        let back = back(alloc, &table, &nearby)?;
+        let (onward, back) = onward_and_back(alloc, &table)?;
         Ok(Changes {
             table,
             onward,

@@ -148,3 +148,17 @@ pub(crate) fn back(alloc: Global, table: &Table, nearby: &Nearby) -> Result<List
     }
     Ok(lists)
 }
+
+/// The changes from each location, and those to each stop and platform.
+pub(crate) fn onward_and_back(alloc: Global, table: &Table) -> Result<(Lists, Lists), BuildFault>
+    ensures onward { IfOk result (λ lists. (a : ℕ) → slice_index_or lists.0 a []
+        ≡ listed table.now Direction.Onward a) }
+    ensures back { IfOk result (λ lists. (b : ℕ) → slice_index_or lists.1 b []
+        ≡ reached_back table.now b) }
+    ensures limit { IfOk result (λ _. pairs table.now ≤ 4000000) }
+    ensures many { IfErr result (λ e. e ≡ BuildFault.TooMany → 4000000 < pairs table.now) }
+{
+    let nearby = Nearby::build(alloc, table)?;
+    let onward = onward(alloc, table, &nearby)?;
+    Ok((onward, back(alloc, table, &nearby)?))
+}

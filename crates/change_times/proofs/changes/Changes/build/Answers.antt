@@ -11,8 +11,8 @@ returns-in_err-onward-clause-many c =
 
 pub invariant_of-result : goal.invariant_of-result
 invariant_of-result c = record {
-  onward = λ n. c.in_ok-onward.ensures.lists n ∙ onward-is c.in_ok-table.table n;
-  back = λ n. c.in_ok-back.ensures n;
+  onward = λ n. c.in_ok-onward.ensures.onward n ∙ onward-is c.in_ok-table.table n;
+  back = λ n. c.in_ok-onward.ensures.back n;
 }
 
 pub returns-clause-few : goal.returns-clause-few
