@@ -287,7 +287,6 @@ fn check_frequencies_in<F: Feed>(alloc: Global, feed: &mut F, folder: &str) -> R
 /// frequencies.txt. `Refused` has the first cause to refuse the feed: a table that must be there is
 /// absent, a table is too long, has a fault or has too many rows. `ReadFault` comes only where the
 /// feed failed. `OutOfMemory` where there is no memory.
-#[tactic(auto, unfolding(crate::specs::Feeds::tables_of))]
 pub fn read_tables<F: Feed>(
     alloc: Global,
     feed: &mut F,
