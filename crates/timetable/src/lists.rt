@@ -1,13 +1,17 @@
 //! The lists and marks of a timetable, as they are made.
 
-ghost use Rattle.std.specs.Prelude.{◌≡◌, ◌≤◌, IfOk, vec_capacity};
+ghost use Rattle.std.specs.Prelude.{◌≡◌, ◌+◌, ◌*◌, ◌≤◌, IfOk, length, vec_capacity};
+ghost use Rattle.delay_model.specs.Events.{events};
 ghost use Rattle.timetable.specs.Emptied.{AreEmpty};
+ghost use Rattle.timetable.specs.Settled.{HasTimesFor, most_live};
 
+use crate::events::count_live;
 use mt_base::keys::Node;
 use mt_base::memory::OutOfMemory;
 use propagate::TimeChange;
 use rank_order::Marks;
 use std::alloc::Global;
+use train_nodes::{NodeTimes, Trains};
 
 /// The lists of a timetable with their room, and its marks.
 #[derive(Drop)]
@@ -33,6 +37,18 @@ pub(crate) fn empty_lists(alloc: Global, room: u32) -> Result<Lists, OutOfMemory
         marks,
         time_changes,
     })
+}
+
+/// Times for the events of these trains, of which none is stored yet, and lists with room for all
+/// that can be live.
+pub(crate) fn blank_parts(alloc: Global, trains: &Trains) -> Result<(NodeTimes, Lists), OutOfMemory>
+    requires nodes { length (events trains.now) + 2 * trains.now.spare_calls ≤ 2097152 }
+    ensures times { IfOk result (λ parts. HasTimesFor trains.now parts.0) }
+    ensures lists { IfOk result (λ parts. AreEmpty (most_live trains.now) parts.1) }
+{
+    let room = count_live(trains) + 2 * trains.spare_calls();
+    let lists = empty_lists(alloc, room)?;
+    Ok((trains.blank_times(alloc)?, lists))
 }
 
 /// The same lists and marks once more, with the same room, but for the list of events that get

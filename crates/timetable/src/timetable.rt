@@ -18,10 +18,9 @@ ghost use Rattle.timetable.specs.Settled.{HasTimesFor, most_live};
 
 use crate::check::check;
 use crate::departures::{move_departures, take_departures};
-use crate::events::count_live;
 use crate::following::{names_from, take_times};
 use crate::leaving::list_taken;
-use crate::lists::{Lists, copy_lists, empty_lists};
+use crate::lists::{Lists, blank_parts, copy_lists};
 use crate::loading::settle_all;
 use crate::marking::{mark_after, mark_before};
 use crate::prepare::{apply, push_names};
@@ -98,9 +97,21 @@ impl Timetable {
         }) }
     {
         let graph = Graph::build(alloc, trains, changes, waits, opts)?;
-        let times = graph.trains().blank_times(alloc)?;
-        let room = count_live(graph.trains()) + 2 * graph.trains().spare_calls();
-        let lists = empty_lists(alloc, room)?;
+        Timetable::over(alloc, graph)
+    }
+
+    /// The timetable over this graph. No message was accepted.
+    fn over(alloc: Global, graph: Graph) -> Result<Timetable, OutOfMemory>
+        requires valid { IsValid graph.network graph.state }
+        requires nodes { length (events graph.state) + 2 * graph.state.spare_calls ≤ 2097152 }
+        ensures { IfOk result (λ t. t ≡ record {
+          network = graph.network;
+          state = graph.state;
+          count = 0;
+          changed = [];
+        }) }
+    {
+        let (times, lists) = blank_parts(alloc, graph.trains())?;
         Timetable::load(alloc, graph, times, lists)
     }
 
