@@ -1,4 +1,4 @@
-ghost use Rattle.std.specs.Prelude.{Some};
+ghost use Rattle.std.specs.Prelude.{◌≤◌, Some};
 ghost use Rattle.mt_io.specs.Causes.{no_faults};
 
 mod files;
@@ -9,35 +9,96 @@ use crate::{
     NoGate, Point, Sink, Source, StdSink, StdSource, SureFeed, SureSink, SureSource, TurnGate, put,
 };
 use std::alloc::{AllocError, Global};
-use std::fs;
 use std::test::Fail;
 use std::thread::join;
+use std::{fs, io};
 
-fn is_line(next: Next<'_>, want: &str) -> bool {
-    match next {
+// Whether the next answer is this line.
+fn gives_line<S: Source>(reader: &mut LineReader, source: &mut S, want: &str) -> bool {
+    match reader.next(source) {
         Next::Line(line) => line == want.as_bytes(),
         _ => false,
     }
 }
 
+// Whether the next answer is that a long line begins.
+fn is_long<S: Source>(reader: &mut LineReader, source: &mut S) -> bool {
+    matches!(reader.next(source), Next::LongLine)
+}
+
+// Whether the next answer is that all bytes were taken that may be.
+fn is_spent<S: Source>(reader: &mut LineReader, source: &mut S) -> bool {
+    matches!(reader.next(source), Next::Budget)
+}
+
+// Whether the next answer is the end.
+fn ends<S: Source>(reader: &mut LineReader, source: &mut S) -> bool {
+    matches!(reader.next(source), Next::End)
+}
+
+// What `put` answers.
+fn put_all<K: Sink>(sink: &mut K, bytes: &[u8]) -> Result<(), Failed> {
+    put(sink, bytes)
+}
+
+// What a write answers.
+fn write_front<K: Sink>(sink: &mut K, bytes: &[u8]) -> Result<usize, Failed> {
+    sink.write(bytes)
+}
+
+// Whether the feed gives this table, of these bytes.
+fn gives_table<F: Feed>(feed: &mut F, folder: &str, name: &str, want: &[u8]) -> bool {
+    match feed.table(folder, name) {
+        Ok(Some(found)) => found.as_slice() == want,
+        _ => false,
+    }
+}
+
+// Whether there is a table, or why it was not given.
+fn is_there<F: Feed>(feed: &mut F, folder: &str, name: &str) -> Result<bool, FeedFault> {
+    Ok(feed.table(folder, name)?.is_some())
+}
+
+// A source of four lines, of which a read gives at most `piece` bytes, and the second one fails.
+fn four_lines(alloc: Global, piece: usize) -> Result<MemSource, AllocError>
+    requires { 1 ≤ piece }
+{
+    let bytes = Vec::from_slice(alloc, b"ab\n\ncde\nf")?;
+    Ok(MemSource::build(bytes, piece, vec![in alloc; 1]?))
+}
+
+// How many calls it takes until the reader answers this line: one, two, or 0 where neither does.
+fn calls_for_line(reader: &mut LineReader, source: &mut MemSource, want: &str) -> u64 {
+    if gives_line(reader, source, want) {
+        return 1;
+    }
+    if gives_line(reader, source, want) {
+        return 2;
+    }
+    0
+}
+
+// Whether the four lines come, with at most one other answer among them.
+fn gives_four_lines(reader: &mut LineReader, source: &mut MemSource) -> bool {
+    let mut failed = false;
+    for want in ["ab", "", "cde", "f"] {
+        match calls_for_line(reader, source, want) {
+            1 => {}
+            2 if !failed => failed = true,
+            _ => return false,
+        }
+    }
+    true
+}
+
 #[test]
 fn lines_come_whole_whatever_the_pieces(rt: HostRuntime) -> Result<(), Fail> {
     for piece in [1, 2, 3, 100] {
-        let bytes = Vec::from_slice(rt.alloc(), b"ab\n\ncde\nf")?;
-        let mut source = MemSource::build(bytes, piece, vec![in rt.alloc(); 1]?);
+        let mut source = four_lines(rt.alloc(), piece)?;
         let mut reader = LineReader::build(rt.alloc(), 10)?;
-        let mut failed = false;
-        for want in ["ab", "", "cde", "f"] {
-            let mut found = is_line(reader.next(&mut source), want);
-            if !found {
-                assert!(rt; !failed, "one fault");
-                failed = true;
-                found = is_line(reader.next(&mut source), want);
-            }
-            assert!(rt; found, "{want} in pieces of {piece}");
-        }
-        assert!(rt; matches!(reader.next(&mut source), Next::End));
-        assert!(rt; matches!(reader.next(&mut source), Next::End));
+        let came = gives_four_lines(&mut reader, &mut source);
+        let ended = ends(&mut reader, &mut source) && ends(&mut reader, &mut source);
+        assert!(rt; came && ended, "in pieces of {piece}");
     }
     Ok(())
 }
@@ -60,185 +121,256 @@ impl Source for CountedSource {
     }
 }
 
-#[test]
-fn no_read_behind_a_whole_line(rt: HostRuntime) -> Result<(), Fail> {
-    let bytes = Vec::from_slice(rt.alloc(), b"ab\ncd\ne\nfgh")?;
-    let mut source = CountedSource {
+// A source of four lines in pieces of four bytes.
+fn counted_source(alloc: Global) -> Result<CountedSource, AllocError> {
+    let bytes = Vec::from_slice(alloc, b"ab\ncd\ne\nfgh")?;
+    Ok(CountedSource {
         inner: SureSource::build(bytes, 4),
         reads: 0,
-    };
+    })
+}
+
+// After how many reads in all this line is there. None where another answer comes.
+fn reads_for_line(reader: &mut LineReader, source: &mut CountedSource, want: &str) -> Option<u64> {
+    gives_line(reader, source, want).then_some(source.reads)
+}
+
+// After how many reads in all the end is there. None where another answer comes.
+fn reads_for_end(reader: &mut LineReader, source: &mut CountedSource) -> Option<u64> {
+    ends(reader, source).then_some(source.reads)
+}
+
+#[test]
+fn no_read_behind_a_whole_line(rt: HostRuntime) -> Result<(), Fail> {
+    let mut source = counted_source(rt.alloc())?;
     let mut reader = LineReader::build(rt.alloc(), 100)?;
     for (want, reads) in [("ab", 1), ("cd", 2), ("e", 2), ("fgh", 4)] {
-        assert!(rt; is_line(reader.next(&mut source), want), "{want}");
-        assert_eq!(rt; source.reads, reads, "reads up to {want}");
+        let found = reads_for_line(&mut reader, &mut source, want);
+        assert_eq!(rt; found, Some(reads), "reads up to {want}");
     }
-    assert!(rt; matches!(reader.next(&mut source), Next::End));
-    assert_eq!(rt; source.reads, 4);
+    assert_eq!(rt; reads_for_end(&mut reader, &mut source), Some(4));
     Ok(())
+}
+
+// A source of a long line and a short one.
+fn long_and_short(alloc: Global) -> Result<SureSource, AllocError> {
+    let mut bytes = vec![in alloc; 120; 70_000]?;
+    bytes.extend_from_slice(b"\nend\n")?;
+    Ok(SureSource::build(bytes, 1_000))
 }
 
 #[test]
 fn a_long_line_is_passed_over(rt: HostRuntime) -> Result<(), Fail> {
-    let mut bytes = vec![in rt.alloc(); 120; 70_000]?;
-    bytes.extend_from_slice(b"\nend\n")?;
-    let mut source = SureSource::build(bytes, 1_000);
+    let mut source = long_and_short(rt.alloc())?;
     let mut reader = LineReader::build(rt.alloc(), 70_005)?;
-    assert!(rt; matches!(reader.next(&mut source), Next::LongLine));
-    assert!(rt; is_line(reader.next(&mut source), "end"));
-    assert!(rt; matches!(reader.next(&mut source), Next::Budget));
+    let long = is_long(&mut reader, &mut source);
+    let end = gives_line(&mut reader, &mut source, "end");
+    let spent = is_spent(&mut reader, &mut source);
+    assert_eq!(rt; (long, end, spent), (true, true, true));
+    Ok(())
+}
+
+// Whether a sink with room for three bytes takes three of four, and fails then and later.
+fn a_sink_takes_three(alloc: Global) -> Result<bool, AllocError> {
+    let mut sink = MemSink::build(alloc, 3, vec![in alloc; 0]?)?;
+    let failed = put_all(&mut sink, b"abcd").is_err() && put_all(&mut sink, b"abcd").is_err();
+    Ok(failed && sink.bytes() == b"abc".as_slice())
+}
+
+#[test]
+fn bytes_in_memory(rt: HostRuntime) -> Result<(), Fail> {
+    assert!(rt; a_sink_takes_three(rt.alloc())?);
+    assert_eq!(rt; put_all(&mut SureSink::build(), b"abcd"), Ok(()));
+    Ok(())
+}
+
+// Makes these bytes a table of the feed.
+fn add_table(alloc: Global, feed: &mut MemFeed, bytes: &[u8]) -> Result<(), AllocError> {
+    feed.add("f", "t", Vec::from_slice(alloc, bytes)?)
+}
+
+#[test]
+fn tables_in_memory(rt: HostRuntime) -> Result<(), Fail> {
+    let mut feed = MemFeed::build(rt.alloc(), vec![in rt.alloc(); 1]?);
+    add_table(rt.alloc(), &mut feed, b"old")?;
+    add_table(rt.alloc(), &mut feed, b"new")?;
+    assert!(rt; gives_table(&mut feed, "f", "t", b"new"));
+    assert_eq!(rt; is_there(&mut feed, "f", "t"), Err(FeedFault::Failed));
+    assert_eq!(rt; is_there(&mut feed, "f", "u"), Ok(false));
     Ok(())
 }
 
 #[test]
-fn tables_and_bytes_in_memory(rt: HostRuntime) -> Result<(), Fail> {
-    let alloc = rt.alloc();
-    let mut sink = MemSink::build(alloc, 3, vec![in alloc; 0]?)?;
-    assert_eq!(rt; put(&mut sink, b"abcd"), Err(Failed));
-    assert_eq!(rt; put(&mut sink, b"abcd"), Err(Failed));
-    assert_eq!(rt; sink.bytes(), b"abc".as_slice());
-    assert_eq!(rt; put(&mut SureSink::build(), b"abcd"), Ok(()));
-    let mut feed = MemFeed::build(alloc, vec![in alloc; 1]?);
-    feed.add("f", "t", Vec::from_slice(alloc, b"old")?)?;
-    feed.add("f", "t", Vec::from_slice(alloc, b"new")?)?;
-    let found = feed.table("f", "t")?.ok_or("no table")?;
-    assert_eq!(rt; found.as_slice(), b"new".as_slice());
-    assert!(rt; matches!(feed.table("f", "t"), Err(FeedFault::Failed)));
-    assert!(rt; matches!(feed.table("f", "u"), Ok(None)));
-    let mut sure = SureFeed::build(alloc);
-    sure.add("f", "t", Vec::from_slice(alloc, b"one")?)?;
-    let found = sure.table("f", "t")?.ok_or("no table")?;
-    assert_eq!(rt; found.as_slice(), b"one".as_slice());
-    NoGate.at(Point::BeforeLook { line: 1 });
+fn a_table_in_memory_that_never_fails(rt: HostRuntime) -> Result<(), Fail> {
+    let mut feed = SureFeed::build(rt.alloc());
+    feed.add("f", "t", Vec::from_slice(rt.alloc(), b"one")?)?;
+    assert!(rt; gives_table(&mut feed, "f", "t", b"one"));
     Ok(())
+}
+
+// Whether a feed over the file system gives the table that is there, none where the file or the
+// folder is not there, and a fault at a folder.
+fn folder_answers(rt: HostRuntime) -> [bool; 4] {
+    let mut feed = FolderFeed::build(rt, rt.alloc());
+    [
+        gives_table(&mut feed, "feed_of_a_test", "stops.txt", b"stop_id\n"),
+        is_there(&mut feed, "feed_of_a_test", "trips.txt") == Ok(false),
+        is_there(&mut feed, "no_such_folder", "stops.txt") == Ok(false),
+        is_there(&mut feed, ".", "feed_of_a_test") == Err(FeedFault::Failed),
+    ]
 }
 
 #[test]
 fn a_real_folder(rt: HostRuntime) -> Result<(), Fail> {
     fs::create_dir(&rt, "feed_of_a_test")?;
     fs::write(&rt, "feed_of_a_test/stops.txt", "stop_id\n")?;
-    let alloc = rt.alloc();
-    let mut feed = FolderFeed::build(rt, alloc);
-    let found = feed
-        .table("feed_of_a_test", "stops.txt")?
-        .ok_or("no table")?;
-    let none = feed.table("feed_of_a_test", "trips.txt");
-    let no_folder = feed.table("no_such_folder", "stops.txt");
-    let no_file = feed.table(".", "feed_of_a_test");
+    let answers = folder_answers(rt);
     fs::remove_dir_all(&rt, "feed_of_a_test")?;
-    assert_eq!(rt; found.as_slice(), b"stop_id\n".as_slice());
-    assert!(rt; matches!(none, Ok(None)));
-    assert!(rt; matches!(no_folder, Ok(None)));
-    assert!(rt; matches!(no_file, Err(FeedFault::Failed)));
+    assert_eq!(rt; answers, [true; 4]);
     Ok(())
+}
+
+// What a sink answers that writes a new file.
+fn write_file(rt: HostRuntime) -> io::Result<Result<(), Failed>> {
+    let mut sink = StdSink::build(fs::create(&rt, "file_of_a_test")?);
+    Ok(put_all(&mut sink, b"ab\nc"))
+}
+
+// What a source answers over a file that is open for writing alone.
+fn read_unreadable(rt: HostRuntime) -> io::Result<Result<usize, Failed>> {
+    let mut source = StdSource::build(fs::create(&rt, "other_of_a_test")?);
+    Ok(source.read(&mut [0; 4]))
+}
+
+// What a sink answers over a file that is open for reading alone.
+fn write_unwritable(rt: HostRuntime) -> io::Result<Result<usize, Failed>> {
+    let mut sink = StdSink::build(fs::open(&rt, "file_of_a_test")?);
+    Ok(write_front(&mut sink, b"x"))
+}
+
+// Whether a file is read line by line.
+fn reads_back(rt: HostRuntime) -> io::Result<bool> {
+    let mut source = StdSource::build(fs::open(&rt, "file_of_a_test")?);
+    let mut reader = LineReader::build(rt.alloc(), 100)?;
+    let first = gives_line(&mut reader, &mut source, "ab");
+    let second = gives_line(&mut reader, &mut source, "c");
+    Ok(first && second && ends(&mut reader, &mut source))
 }
 
 #[test]
 fn real_readers_and_writers(rt: HostRuntime) -> Result<(), Fail> {
-    let mut sink = StdSink::build(fs::create(&rt, "file_of_a_test")?);
-    let written = put(&mut sink, b"ab\nc");
-    let mut unreadable = StdSource::build(fs::create(&rt, "other_of_a_test")?);
-    let mut unwritable = StdSink::build(fs::open(&rt, "file_of_a_test")?);
-    let mut source = StdSource::build(fs::open(&rt, "file_of_a_test")?);
+    let written = write_file(rt)?;
+    let unreadable = read_unreadable(rt)?;
+    let unwritable = write_unwritable(rt)?;
+    let is_read = reads_back(rt)?;
     fs::remove_file(&rt, "file_of_a_test")?;
     fs::remove_file(&rt, "other_of_a_test")?;
-    assert_eq!(rt; written, Ok(()));
-    let mut reader = LineReader::build(rt.alloc(), 100)?;
-    assert!(rt; is_line(reader.next(&mut source), "ab"));
-    assert!(rt; is_line(reader.next(&mut source), "c"));
-    assert!(rt; matches!(reader.next(&mut source), Next::End));
-    assert_eq!(rt; unwritable.write(b"x"), Err(Failed));
-    assert_eq!(rt; unreadable.read(&mut [0; 4]), Err(Failed));
-    assert_eq!(rt; put(&mut StdSink::build(rt.stdout()), b"written\n"), Ok(()));
+    assert_eq!(rt; (written, is_read), (Ok(()), true));
+    assert_eq!(rt; (unwritable, unreadable), (Err(Failed), Err(Failed)));
     Ok(())
+}
+
+#[test]
+fn the_real_output(rt: HostRuntime) {
+    let written = put_all(&mut StdSink::build(rt.stdout()), b"written\n");
+    assert_eq!(rt; written, Ok(()));
 }
 
 const FEW_TURNS: u64 = 10;
 
 const MANY_TURNS: u64 = 10_000_000;
 
-fn look(line: u64) -> Point {
-    Point::BeforeLook { line }
-}
+const LOOK_1: Point = Point::BeforeLook { line: 1 };
 
-fn post(line: u64) -> Point {
-    Point::AfterPost { line }
+const LOOK_2: Point = Point::BeforeLook { line: 2 };
+
+const POST_1: Point = Point::AfterPost { line: 1 };
+
+const POST_2: Point = Point::AfterPost { line: 2 };
+
+// A gate with these holds: at the first point of each until its second one.
+fn gate_of(alloc: Global, pairs: &[(Point, Point)], turns: u64) -> Result<TurnGate, AllocError> {
+    let mut holds = Vec::new(alloc);
+    for (at, until) in pairs {
+        holds.push(Hold {
+            at: *at,
+            until: *until,
+        })?;
+    }
+    TurnGate::build(alloc, holds, turns)
 }
 
 // A gate with one hold, at the look of line 1 until the post of line 2.
 fn look_after_post(alloc: Global) -> Result<TurnGate, AllocError> {
-    let hold = Hold {
-        at: look(1),
-        until: post(2),
-    };
-    TurnGate::build(alloc, vec![in alloc; hold]?, FEW_TURNS)
+    gate_of(alloc, &[(LOOK_1, POST_2)], FEW_TURNS)
+}
+
+// Whether a hold has expired once these points have come, one after another.
+fn is_expired_after(gate: &TurnGate, points: &[Point]) -> bool {
+    for point in points {
+        gate.at(*point);
+    }
+    gate.expired()
 }
 
 #[test]
 fn a_hold_expires_where_its_until_does_not_come(rt: HostRuntime) -> Result<(), Fail> {
     let gate = look_after_post(rt.alloc())?;
-    gate.at(look(2));
-    gate.at(post(1));
-    gate.at(look(1));
-    assert!(rt; gate.expired(), "its wait ran out");
-    gate.at(post(2));
-    gate.at(look(1));
-    assert!(rt; gate.expired(), "a wait that ran out is not forgotten");
+    let ran_out = is_expired_after(&gate, &[LOOK_2, POST_1, LOOK_1]);
+    let stays = is_expired_after(&gate, &[POST_2, LOOK_1]);
+    assert!(rt; ran_out, "its wait ran out");
+    assert!(rt; stays, "a wait that ran out is not forgotten");
     Ok(())
 }
 
 #[test]
 fn a_hold_does_not_expire_where_its_until_came_first(rt: HostRuntime) -> Result<(), Fail> {
     let gate = look_after_post(rt.alloc())?;
-    gate.at(post(2));
-    gate.at(look(1));
-    assert!(rt; !gate.expired());
-    let itself = Hold {
-        at: post(1),
-        until: post(1),
-    };
-    let gate = TurnGate::build(rt.alloc(), vec![in rt.alloc(); itself]?, 0)?;
-    gate.at(post(1));
-    assert!(rt;
-        !gate.expired(),
-        "it is noted that a point has come before the wait"
-    );
+    assert!(rt; !is_expired_after(&gate, &[POST_2, LOOK_1]));
+    Ok(())
+}
+
+#[test]
+fn a_point_is_noted_before_the_wait(rt: HostRuntime) -> Result<(), Fail> {
+    let gate = gate_of(rt.alloc(), &[(POST_1, POST_1)], 0)?;
+    assert!(rt; !is_expired_after(&gate, &[POST_1]));
     Ok(())
 }
 
 #[test]
 fn a_hold_whose_at_does_not_come_counts_as_expired(rt: HostRuntime) -> Result<(), Fail> {
     let gate = look_after_post(rt.alloc())?;
-    assert!(rt; gate.expired(), "nothing has come");
-    gate.at(post(2));
-    assert!(rt; gate.expired(), "its until alone has come");
-    let none = TurnGate::build(rt.alloc(), Vec::new(rt.alloc()), FEW_TURNS)?;
-    none.at(look(1));
-    assert!(rt; !none.expired(), "there is no hold");
+    let before = is_expired_after(&gate, &[]);
+    let after = is_expired_after(&gate, &[POST_2]);
+    assert!(rt; before, "nothing has come");
+    assert!(rt; after, "its until alone has come");
+    Ok(())
+}
+
+#[test]
+fn no_hold_does_not_expire(rt: HostRuntime) -> Result<(), Fail> {
+    let none = gate_of(rt.alloc(), &[], FEW_TURNS)?;
+    assert!(rt; !is_expired_after(&none, &[LOOK_1]));
+    NoGate.at(LOOK_1);
     Ok(())
 }
 
 // A gate where the looks of lines 1 and 2 wait for one another.
 fn looks_at_once(alloc: Global, turns: u64) -> Result<TurnGate, AllocError> {
-    let mut holds = Vec::new(alloc);
-    holds.push(Hold {
-        at: look(1),
-        until: look(2),
-    })?;
-    holds.push(Hold {
-        at: look(2),
-        until: look(1),
-    })?;
-    TurnGate::build(alloc, holds, turns)
+    gate_of(alloc, &[(LOOK_1, LOOK_2), (LOOK_2, LOOK_1)], turns)
 }
 
 #[test]
 fn two_threads_wait_for_one_another(rt: HostRuntime) -> Result<(), Fail> {
     let gate = looks_at_once(rt.alloc(), MANY_TURNS)?;
-    join(&rt, || gate.at(look(1)), || gate.at(look(2)));
-    assert!(rt; !gate.expired(), "two threads");
+    join(&rt, || gate.at(LOOK_1), || gate.at(LOOK_2));
+    assert!(rt; !gate.expired());
+    Ok(())
+}
+
+#[test]
+fn one_thread_waits_in_vain(rt: HostRuntime) -> Result<(), Fail> {
     let gate = looks_at_once(rt.alloc(), FEW_TURNS)?;
-    gate.at(look(1));
-    gate.at(look(2));
-    assert!(rt; gate.expired(), "one thread");
+    assert!(rt; is_expired_after(&gate, &[LOOK_1, LOOK_2]));
     Ok(())
 }

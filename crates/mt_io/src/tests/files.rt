@@ -1,5 +1,6 @@
 // The feed over a file system in which opening or reading fails.
-use crate::{Feed, FeedFault, FolderFeed};
+use super::{gives_table, is_there};
+use crate::{FeedFault, FolderFeed};
 use std::alloc::{Allocator, Global};
 use std::fs::{Metadata, OpenFile, OpenOptions};
 use std::io;
@@ -145,33 +146,28 @@ fn feed_of(alloc: Global, len: usize, fails: bool) -> FolderFeed<ShortFiles> {
     FolderFeed::build(files, alloc)
 }
 
-#[test]
-fn only_a_table_that_is_not_there_is_none(rt: HostRuntime) -> Result<(), Fail> {
-    let mut feed = refusing_feed(rt.alloc(), ErrorKind::NotFound);
-    assert!(rt; matches!(feed.table("f", "t"), Ok(None)));
-    let mut feed = refusing_feed(rt.alloc(), ErrorKind::OutOfMemory);
-    assert!(rt; matches!(feed.table("f", "t"), Err(FeedFault::OutOfMemory)));
-    for kind in [
-        ErrorKind::PermissionDenied,
-        ErrorKind::NotADirectory,
-        ErrorKind::FilesystemLoop,
-        ErrorKind::Other,
-    ] {
-        let mut feed = refusing_feed(rt.alloc(), kind);
-        assert!(rt;
-            matches!(feed.table("f", "t"), Err(FeedFault::Failed)),
-            "{kind:?}"
-        );
-    }
-    Ok(())
+// Whether there is a table, or why it was not given, where none can be opened for this cause.
+fn without_a_file(alloc: Global, kind: ErrorKind) -> Result<bool, FeedFault> {
+    is_there(&mut refusing_feed(alloc, kind), "f", "t")
 }
 
 #[test]
-fn a_table_whose_reading_fails_is_not_given_in_part(rt: HostRuntime) -> Result<(), Fail> {
-    let mut feed = feed_of(rt.alloc(), 3, true);
-    assert!(rt; matches!(feed.table("f", "t"), Err(FeedFault::Failed)));
-    let mut feed = feed_of(rt.alloc(), 3, false);
-    let found = feed.table("f", "t")?.ok_or("no table")?;
-    assert_eq!(rt; found.as_slice(), b"xxx".as_slice());
-    Ok(())
+fn only_a_table_that_is_not_there_is_none(rt: HostRuntime) {
+    for (kind, want) in [
+        (ErrorKind::NotFound, Ok(false)),
+        (ErrorKind::OutOfMemory, Err(FeedFault::OutOfMemory)),
+        (ErrorKind::PermissionDenied, Err(FeedFault::Failed)),
+        (ErrorKind::NotADirectory, Err(FeedFault::Failed)),
+        (ErrorKind::FilesystemLoop, Err(FeedFault::Failed)),
+        (ErrorKind::Other, Err(FeedFault::Failed)),
+    ] {
+        assert_eq!(rt; without_a_file(rt.alloc(), kind), want, "{kind:?}");
+    }
+}
+
+#[test]
+fn a_table_whose_reading_fails_is_not_given_in_part(rt: HostRuntime) {
+    let failed = is_there(&mut feed_of(rt.alloc(), 3, true), "f", "t");
+    let is_whole = gives_table(&mut feed_of(rt.alloc(), 3, false), "f", "t", b"xxx");
+    assert_eq!(rt; (failed, is_whole), (Err(FeedFault::Failed), true));
 }

@@ -1,6 +1,8 @@
 // The source over readers and the sink over writers that give, take and fail in their own ways.
-use super::is_line;
-use crate::{Failed, LineReader, Next, Sink, Source, StdSink, StdSource, put};
+ghost use Rattle.std.specs.Prelude.{◌≤◌};
+
+use super::{ends, gives_line, put_all, write_front};
+use crate::{Failed, LineReader, Next, Sink, Source, StdSink, StdSource};
 use std::alloc::Global;
 use std::io;
 use std::io::{ErrorKind, Read, Write};
@@ -24,17 +26,24 @@ impl Write for OneByteWriter {
     }
 }
 
+// Whether a sink over this writer takes three pieces one after another.
+fn puts_three_pieces(writer: &mut OneByteWriter) -> bool {
+    let mut sink = StdSink::build(writer);
+    for piece in ["abba", "", "c\n"] {
+        if put_all(&mut sink, piece.as_bytes()).is_err() {
+            return false;
+        }
+    }
+    true
+}
+
 #[test]
-fn short_writes_go_on_until_all_is_written(rt: HostRuntime) -> Result<(), Fail> {
+fn short_writes_go_on_until_all_is_written(rt: HostRuntime) {
     let mut writer = OneByteWriter {
         taken: Vec::new(rt.alloc()),
     };
-    let mut sink = StdSink::build(&mut writer);
-    assert_eq!(rt; put(&mut sink, b"abba"), Ok(()));
-    assert_eq!(rt; put(&mut sink, b""), Ok(()));
-    assert_eq!(rt; put(&mut sink, b"c\n"), Ok(()));
+    assert!(rt; puts_three_pieces(&mut writer));
     assert_eq!(rt; writer.taken.as_slice(), b"abbac\n".as_slice());
-    Ok(())
 }
 
 // A writer that holds what it takes, at most three bytes a call, until it is flushed. While it
@@ -61,19 +70,23 @@ impl Write for HoldingWriter {
     }
 }
 
+// Whether two writes and a `put` are taken by a sink over this writer, three bytes at a time.
+fn takes_three_at_a_time(writer: &mut HoldingWriter) -> bool {
+    let mut sink = StdSink::build(writer);
+    let first = write_front(&mut sink, b"ab") == Ok(2);
+    let second = write_front(&mut sink, b"cdef") == Ok(3);
+    first && second && put_all(&mut sink, b"fghijkl").is_ok()
+}
+
 #[test]
-fn each_write_is_flushed(rt: HostRuntime) -> Result<(), Fail> {
+fn each_write_is_flushed(rt: HostRuntime) {
     let mut writer = HoldingWriter {
         held: Vec::new(rt.alloc()),
         sent: Vec::new(rt.alloc()),
     };
-    let mut sink = StdSink::build(&mut writer);
-    assert_eq!(rt; sink.write(b"ab"), Ok(2));
-    assert_eq!(rt; sink.write(b"cdef"), Ok(3));
-    assert_eq!(rt; put(&mut sink, b"fghijkl"), Ok(()));
+    assert!(rt; takes_three_at_a_time(&mut writer));
     assert_eq!(rt; writer.sent.as_slice(), b"abcdefghijkl".as_slice());
     assert!(rt; writer.held.is_empty());
-    Ok(())
 }
 
 // A writer that takes two bytes in its first call and none later. `end` says how it fails.
@@ -121,34 +134,40 @@ fn ending_writer(alloc: Global, end: WritersEnd) -> EndingWriter {
     }
 }
 
+// Whether a `put` and a write behind it fail at a sink over this writer.
+fn both_fail(writer: &mut EndingWriter) -> bool {
+    let mut sink = StdSink::build(writer);
+    let put_failed = put_all(&mut sink, b"abcd") == Err(Failed);
+    put_failed && write_front(&mut sink, b"e") == Err(Failed)
+}
+
 #[test]
-fn a_write_that_takes_nothing_or_fails_is_not_tried_again(rt: HostRuntime) -> Result<(), Fail> {
+fn a_write_that_takes_nothing_or_fails_is_not_tried_again(rt: HostRuntime) {
     for end in [WritersEnd::TakesNothing, WritersEnd::FailsToWrite] {
         let mut writer = ending_writer(rt.alloc(), end);
-        let mut sink = StdSink::build(&mut writer);
-        assert_eq!(rt; put(&mut sink, b"abcd"), Err(Failed), "{end:?}");
-        assert_eq!(rt; sink.write(b"e"), Err(Failed), "{end:?}");
-        assert_eq!(rt; writer.taken.as_slice(), b"ab".as_slice(), "{end:?}");
-        assert_eq!(rt; writer.calls, 3, "{end:?}");
+        assert!(rt; both_fail(&mut writer), "{end:?}");
+        let seen = (writer.taken.as_slice(), writer.calls);
+        assert_eq!(rt; seen, (b"ab".as_slice(), 3), "{end:?}");
     }
-    Ok(())
+}
+
+// What a write of a byte and one of nothing behind it answer.
+fn write_byte_and_nothing(writer: &mut EndingWriter) -> [Result<usize, Failed>; 2] {
+    let mut sink = StdSink::build(writer);
+    [write_front(&mut sink, b"a"), write_front(&mut sink, b"")]
 }
 
 #[test]
-fn a_write_of_nothing_may_take_nothing(rt: HostRuntime) -> Result<(), Fail> {
+fn a_write_of_nothing_may_take_nothing(rt: HostRuntime) {
     let mut writer = ending_writer(rt.alloc(), WritersEnd::TakesNothing);
-    let mut sink = StdSink::build(&mut writer);
-    assert_eq!(rt; sink.write(b"a"), Ok(1));
-    assert_eq!(rt; sink.write(b""), Ok(0));
-    Ok(())
+    assert_eq!(rt; write_byte_and_nothing(&mut writer), [Ok(1), Ok(0)]);
 }
 
 #[test]
-fn a_flush_that_fails_is_a_fault(rt: HostRuntime) -> Result<(), Fail> {
+fn a_flush_that_fails_is_a_fault(rt: HostRuntime) {
     let mut writer = ending_writer(rt.alloc(), WritersEnd::FailsToFlush);
-    assert_eq!(rt; put(&mut StdSink::build(&mut writer), b"abcd"), Err(Failed));
-    assert_eq!(rt; writer.calls, 1);
-    Ok(())
+    let answer = put_all(&mut StdSink::build(&mut writer), b"abcd");
+    assert_eq!(rt; (answer, writer.calls), (Err(Failed), 1));
 }
 
 // A reader that gives its bytes one a call. At byte `fault_at` it fails once.
@@ -185,52 +204,58 @@ fn faulty_source(alloc: Global, fault_at: usize) -> io::Result<StdSource<FaultyR
     }))
 }
 
+// What a read into the buffer answers, from this place on.
+fn read_behind<S: Source>(source: &mut S, buf: &mut [u8; 4], from: usize) -> Result<usize, Failed>
+    requires { from ≤ 4 }
+{
+    source.read(&mut buf[from..])
+}
+
 #[test]
 fn a_read_that_fails_loses_nothing(rt: HostRuntime) -> Result<(), Fail> {
     let mut source = faulty_source(rt.alloc(), 2)?;
     let mut buf = *b"....";
-    assert_eq!(rt; source.read(&mut buf), Ok(1));
-    assert_eq!(rt; source.read(&mut buf[1..]), Ok(1));
-    assert_eq!(rt; source.read(&mut buf[2..]), Err(Failed));
-    assert_eq!(rt; buf, *b"ab..");
-    assert_eq!(rt; source.read(&mut buf[2..]), Ok(1));
-    assert_eq!(rt; source.read(&mut buf[3..]), Ok(1));
-    assert_eq!(rt; buf, *b"ab\nc");
-    assert_eq!(rt; source.read(&mut buf), Ok(0));
-    assert_eq!(rt; source.read(&mut buf), Ok(0));
+    for (from, answer, held) in [
+        (0, Ok(1), b"a..."),
+        (1, Ok(1), b"ab.."),
+        (2, Err(Failed), b"ab.."),
+        (2, Ok(1), b"ab\n."),
+        (3, Ok(1), b"ab\nc"),
+        (0, Ok(0), b"ab\nc"),
+        (0, Ok(0), b"ab\nc"),
+    ] {
+        let found = read_behind(&mut source, &mut buf, from);
+        assert_eq!(rt; (found, buf), (answer, *held), "from {from}");
+    }
     Ok(())
+}
+
+// Whether the next answer is that the source failed.
+fn read_fails<S: Source>(reader: &mut LineReader, source: &mut S) -> bool {
+    matches!(reader.next(source), Next::ReadFault)
+}
+
+// Whether the first line and one fault come, the fault as the first or as the second answer.
+fn gives_line_and_fault<S: Source>(
+    reader: &mut LineReader,
+    source: &mut S,
+    fault_is_first: bool,
+) -> bool {
+    if fault_is_first {
+        read_fails(reader, source) && gives_line(reader, source, "ab")
+    } else {
+        gives_line(reader, source, "ab") && read_fails(reader, source)
+    }
 }
 
 #[test]
 fn lines_come_whole_where_a_read_fails(rt: HostRuntime) -> Result<(), Fail> {
-    for fault_at in [0, 2, 3, 4] {
+    for (fault_at, fault_is_first) in [(0, true), (2, true), (3, false), (4, false)] {
         let mut source = faulty_source(rt.alloc(), fault_at)?;
         let mut reader = LineReader::build(rt.alloc(), 10)?;
-        let is_in_first_line = fault_at < 3;
-        if !is_in_first_line {
-            assert!(rt;
-                is_line(reader.next(&mut source), "ab"),
-                "fault at {fault_at}"
-            );
-        }
-        assert!(rt;
-            matches!(reader.next(&mut source), Next::ReadFault),
-            "fault at {fault_at}"
-        );
-        if is_in_first_line {
-            assert!(rt;
-                is_line(reader.next(&mut source), "ab"),
-                "fault at {fault_at}"
-            );
-        }
-        assert!(rt;
-            is_line(reader.next(&mut source), "c"),
-            "fault at {fault_at}"
-        );
-        assert!(rt;
-            matches!(reader.next(&mut source), Next::End),
-            "fault at {fault_at}"
-        );
+        let came = gives_line_and_fault(&mut reader, &mut source, fault_is_first);
+        let ended = gives_line(&mut reader, &mut source, "c") && ends(&mut reader, &mut source);
+        assert!(rt; came && ended, "fault at {fault_at}");
     }
     Ok(())
 }
