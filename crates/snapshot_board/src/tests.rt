@@ -16,7 +16,6 @@ use crate::viewer::Viewer;
 use linked_list_allocator::LocalHeap;
 use std::alloc::{AllocError, Allocator, Global};
 use std::marker::Brand;
-use std::process::Abort;
 use std::sync::Wait;
 use std::sync::atomic::{AtomicU64, Ordering};
 use std::test::*;
@@ -61,22 +60,78 @@ fn the_machine_accepts_steps_alone(rt: HostRuntime) -> Result<(), Fail> {
 
 #[test]
 fn what_was_posted_is_seen(rt: HostRuntime) -> Result<(), Fail> {
-    post_tell_learn_look_meet::<Brand, _>(
+    let fine = post_tell_learn_look_meet::<Brand, _>(
         &rt,
         rt.alloc(),
         NewHistory::new(),
         Sum::zero(),
         Sum::zero(),
-    )
+    )?;
+    assert!(rt; fine);
+    Ok(())
 }
 
-fn post_tell_learn_look_meet<H: Opening<u64>, R: Wait + Abort>(
+// Posts a message, while there are fewer than `POSTS`. It says whether it was taken.
+fn is_taken<H: Opening<u64>, A: Allocator, R: Wait>(
+    rt: &R,
+    publisher: &mut Publisher<Sum, H, A>,
+    message: u32,
+) -> bool {
+    publisher.count() < POSTS && publisher.post(rt, message).is_ok()
+}
+
+// The total that a viewer sees, and after how many messages.
+fn total_and_number<H: Opening<u64>, A: Allocator, R: Wait>(
+    rt: &R,
+    viewer: &mut Viewer<Sum, H, A>,
+) -> (u64, u64) {
+    viewer.look(rt, |s, n| (s.total, n))
+}
+
+// Whether so many messages were posted, and their sum is this one.
+fn has_posted<H: Opening<u64>>(publisher: &Publisher<Sum, H>, count: u64, total: u64) -> bool {
+    publisher.count() == count && publisher.state().total == total
+}
+
+// Whether a viewer that learns what was posted sees the first message, a 5.
+fn sees_the_first<H: Opening<u64>, R: Wait>(
+    rt: &R,
+    publisher: &Publisher<Sum, H>,
+    viewer: &mut Viewer<Sum, H>,
+) -> bool {
+    viewer.learn(publisher.tell());
+    total_and_number(rt, viewer) == (5, 1) && viewer.seen() == 1
+}
+
+// What the publisher finds where it meets a viewer.
+fn meeting<H: Opening<u64>>(publisher: &Publisher<Sum, H>, viewer: &mut Viewer<Sum, H>) -> Meet {
+    let note = publisher.tell();
+    publisher.meet(viewer, note)
+}
+
+// Whether a 5 is posted, a viewer sees it, and the publisher meets that viewer.
+fn is_posted_seen_and_met<H: Opening<u64>, R: Wait>(
+    rt: &R,
+    publisher: &mut Publisher<Sum, H>,
+    viewer: &mut Viewer<Sum, H>,
+) -> bool {
+    let is_posted = is_taken(rt, publisher, 5) && has_posted(publisher, 1, 5);
+    let is_seen = sees_the_first(rt, publisher, viewer);
+    let met = meeting(publisher, viewer);
+    let within = Meet::Within {
+        viewer: 1,
+        publisher: 1,
+    };
+    is_posted && is_seen && met == within
+}
+
+fn post_tell_learn_look_meet<H: Opening<u64>, R: Wait>(
     rt: &R,
     alloc: Global,
     history: NewHistory<u32>,
     first: Sum,
     second: Sum,
-) -> Result<(), Fail>
+) -> Result<bool, Fail>
     requires book { history ≡ H.book }
     requires opening { H.opening ≡ Some first.total }
     requires alike { first.total ≡ second.total }
@@ -84,23 +139,9 @@ fn post_tell_learn_look_meet<H: Opening<u64>, R: Wait + Abort>(
     let (mut publisher, mut viewers) = open_board::<Sum, H, R>(
         rt, alloc, history, first, second, 1,
     )?;
-    let posted = publisher.post(rt, 5);
-    assert!(rt; posted.is_ok() && publisher.count() == 1 && publisher.state().total == 5);
-    viewers[0].learn(publisher.tell());
-    let (total, number) = viewers[0].look(rt, |s, n| (s.total, n));
-    assert!(rt; total == 5 && number == 1 && viewers[0].seen() == 1);
-    let note = publisher.tell();
-    let met = publisher.meet(&mut viewers[0], note);
-    assert_eq!(rt;
-        met,
-        Meet::Within {
-            viewer: 1,
-            publisher: 1
-        }
-    );
+    let fine = is_posted_seen_and_met(rt, &mut publisher, &mut viewers[0]);
     let last = publisher.close(rt, viewers);
-    assert_eq!(rt; last.total, 5);
-    Ok(())
+    Ok(fine && last.total == 5)
 }
 
 const POSTS: u64 = 10_000;
@@ -125,7 +166,7 @@ fn post_often<H: Opening<u64>, A: Allocator, R: Wait>(
     posts: u64,
 ) -> bool {
     for _ in 0..posts {
-        if publisher.count() >= POSTS || publisher.post(rt, 2).is_err() {
+        if !is_taken(rt, publisher, 2) {
             return false;
         }
     }
@@ -138,7 +179,7 @@ fn look_to_the_end<H: Opening<u64>, R: Wait>(rt: &R, viewer: Viewer<Sum, H>) -> 
     let mut viewer = viewer;
     let mut before = 0;
     for _ in rt.forever() {
-        let (total, number) = viewer.look(rt, |s, n| (s.total, n));
+        let (total, number) = total_and_number(rt, &mut viewer);
         if number < before || total != number.wrapping_mul(2) {
             return false;
         }
@@ -163,6 +204,33 @@ fn both_look<H: Opening<u64> + Send + Sync, R: Threads + Wait + Sync>(
     a && b
 }
 
+// Takes two viewers out: the last one is the second.
+fn take_two<H: Opening<u64>>(
+    viewers: &mut Vec<Viewer<Sum, H>>,
+) -> Option<(Viewer<Sum, H>, Viewer<Sum, H>)> {
+    match (viewers.pop(), viewers.pop()) {
+        (Some(two), Some(one)) => Some((one, two)),
+        _ => None,
+    }
+}
+
+// Whether two viewers look beside all posts, and both see them.
+fn both_see_all_posts<H: Opening<u64> + Send + Sync, R: Threads + Wait + Sync>(
+    rt: &R,
+    publisher: &mut Publisher<Sum, H>,
+    viewers: &mut Vec<Viewer<Sum, H>>,
+) -> bool {
+    let Some((one, two)) = take_two(viewers) else {
+        return false;
+    };
+    let (seen, posted) = join(
+        rt,
+        move || both_look(rt, one, two),
+        || post_often(rt, publisher, POSTS),
+    );
+    seen && posted
+}
+
 fn look_beside_posts<H: Opening<u64> + Send + Sync, R: Threads + Wait + Sync>(
     rt: &R,
     alloc: Global,
@@ -177,17 +245,9 @@ fn look_beside_posts<H: Opening<u64> + Send + Sync, R: Threads + Wait + Sync>(
     let (mut publisher, mut viewers) = open_board::<Sum, H, R>(
         rt, alloc, history, first, second, 2,
     )?;
-    let (Some(two), Some(one)) = (viewers.pop(), viewers.pop()) else {
-        publisher.close(rt, viewers);
-        return Ok(false);
-    };
-    let (seen, posted) = join(
-        rt,
-        move || both_look(rt, one, two),
-        || post_often(rt, &mut publisher, POSTS),
-    );
+    let fine = both_see_all_posts(rt, &mut publisher, &mut viewers);
     publisher.close(rt, viewers);
-    Ok(seen && posted)
+    Ok(fine)
 }
 
 #[test]
@@ -201,6 +261,15 @@ fn a_post_is_taken_inside_a_look(rt: HostRuntime) -> Result<(), Fail> {
     )?;
     assert!(rt; fine);
     Ok(())
+}
+
+// Posts while a look is open. It says whether the post was taken, and the total that was seen.
+fn post_while_looking<H: Opening<u64>, R: Wait>(
+    rt: &R,
+    publisher: &mut Publisher<Sum, H>,
+    viewer: &mut Viewer<Sum, H>,
+) -> (bool, u64) {
+    viewer.look(rt, |s, _| (post_often(rt, publisher, 1), s.total))
 }
 
 // On one thread, posts while a look is open, and looks again.
@@ -218,12 +287,10 @@ fn post_inside_a_look<H: Opening<u64>, R: Wait>(
     let (mut publisher, mut viewers) = open_board::<Sum, H, R>(
         rt, alloc, history, first, second, 1,
     )?;
-    let (posted, before) = viewers[0].look(rt, |s, _| {
-        (post_often(rt, &mut publisher, 1), s.total)
-    });
-    let (after, number) = viewers[0].look(rt, |s, n| (s.total, n));
+    let before = post_while_looking(rt, &mut publisher, &mut viewers[0]);
+    let after = total_and_number(rt, &mut viewers[0]);
     let last = publisher.close(rt, viewers);
-    Ok(posted && before == 0 && after == 2 && number == 1 && last.total == 2)
+    Ok(before == (true, 0) && after == (2, 1) && last.total == 2)
 }
 
 #[test]
@@ -263,6 +330,24 @@ fn look_while_open<H: Opening<u64>, R: Wait>(
     })
 }
 
+// Whether the looks of two viewers are open at once.
+fn both_are_open<H: Opening<u64> + Send + Sync, R: Threads + Wait + Sync>(
+    rt: &R,
+    viewers: &mut Vec<Viewer<Sum, H>>,
+) -> bool {
+    let Some((one, two)) = take_two(viewers) else {
+        return false;
+    };
+    let first_is_in = AtomicU64::new(0);
+    let second_is_in = AtomicU64::new(0);
+    let (a, b) = join(
+        rt,
+        || look_while_open(rt, one, &first_is_in, &second_is_in),
+        || look_while_open(rt, two, &second_is_in, &first_is_in),
+    );
+    a && b
+}
+
 fn look_at_once<H: Opening<u64> + Send + Sync, R: Threads + Wait + Sync>(
     rt: &R,
     alloc: Global,
@@ -275,19 +360,9 @@ fn look_at_once<H: Opening<u64> + Send + Sync, R: Threads + Wait + Sync>(
     requires alike { first.total ≡ second.total }
 {
     let (publisher, mut viewers) = open_board::<Sum, H, R>(rt, alloc, history, first, second, 2)?;
-    let (Some(two), Some(one)) = (viewers.pop(), viewers.pop()) else {
-        publisher.close(rt, viewers);
-        return Ok(false);
-    };
-    let first_is_in = AtomicU64::new(0);
-    let second_is_in = AtomicU64::new(0);
-    let (a, b) = join(
-        rt,
-        || look_while_open(rt, one, &first_is_in, &second_is_in),
-        || look_while_open(rt, two, &second_is_in, &first_is_in),
-    );
+    let fine = both_are_open(rt, &mut viewers);
     publisher.close(rt, viewers);
-    Ok(a && b)
+    Ok(fine)
 }
 
 #[test]
@@ -353,6 +428,21 @@ fn use_up<'a>(
     Ok(taken)
 }
 
+// Whether nothing is left, and a byte more is refused.
+fn is_used_up(heap: &LocalHeap) -> bool {
+    heap.free() == 0 && Vec::<u8, _>::with_capacity(heap, 1).is_err()
+}
+
+// Ends a board whose viewers are gone.
+fn end_board<'a, H: Opening<u64>, R: Wait>(rt: &R, publisher: Publisher<Sum, H, &'a LocalHeap>) {
+    let PublisherOver {
+        writer,
+        history: _,
+        posted: _,
+    } = publisher;
+    drop(writer.take(rt));
+}
+
 fn post_without_memory<H: Opening<u64>, R: Wait>(
     rt: &R,
     alloc: Global,
@@ -369,16 +459,11 @@ fn post_without_memory<H: Opening<u64>, R: Wait>(
         rt, heap, history, first, second, 1,
     )?;
     let taken = use_up(alloc, heap);
-    let is_refused = heap.free() == 0 && Vec::<u8, _>::with_capacity(heap, 1).is_err();
+    let is_refused = is_used_up(heap);
     let posted = post_often(rt, &mut publisher, 1000);
-    let (total, number) = viewers[0].look(rt, |s, n| (s.total, n));
+    let seen = total_and_number(rt, &mut viewers[0]);
     drop(viewers);
-    let PublisherOver {
-        writer,
-        history: _,
-        posted: _,
-    } = publisher;
-    drop(writer.take(rt));
+    end_board(rt, publisher);
     drop(taken);
-    Ok(is_refused && posted && total == 2000 && number == 1000)
+    Ok(is_refused && posted && seen == (2000, 1000))
 }
