@@ -14,6 +14,3 @@ pub use laws::{
     input_is_its_lines, input_is_short, queries_stand_between_flushes, tables_are_short,
 };
 pub use source::GenLines;
-
-#[cfg(test)]
-mod tests;

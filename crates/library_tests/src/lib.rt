@@ -4,6 +4,18 @@
 #![tactic(auto)]
 
 #[cfg(test)]
+mod files;
+#[cfg(test)]
+mod gates;
+#[cfg(test)]
+mod made_feed;
+#[cfg(test)]
+mod objects;
+#[cfg(test)]
+mod plain_program;
+#[cfg(test)]
 mod slots;
+#[cfg(test)]
+mod streams;
 #[cfg(test)]
 mod trains;

@@ -12,7 +12,5 @@ pub mod overrides;
 pub mod refusals;
 pub mod reports;
 pub mod shapes;
-#[cfg(test)]
-mod tests;
 pub mod validity;
 pub mod windows;

@@ -21,6 +21,3 @@ pub use sure::{SureFeed, SureSink, SureSource};
 pub use system::{FolderFeed, StdSink, StdSource};
 pub use traits::{Failed, Feed, FeedFault, Sink, Source, put};
 pub use turn_gate::{Hold, TurnGate};
-
-#[cfg(test)]
-mod tests;

@@ -47,6 +47,12 @@ fn the_machine_accepts_steps_alone(rt: HostRuntime) -> Result<(), Fail> {
         (look_of(1, 0), false),
         (look_of(1, 1), true),
         (look_of(2, 0), false),
+        (Event::Post(7), true),
+        (Event::Tell, true),
+        (Event::Learn { viewer: 0, note: 1 }, true),
+        (Event::Learn { viewer: 0, note: 0 }, true),
+        (look_of(0, 1), false),
+        (look_of(0, 2), true),
     ];
     for (i, (event, accepted)) in rows.iter().enumerate() {
         assert_eq!(rt;

@@ -1,20 +1,18 @@
+//! Lines read from objects, the objects in memory, and the adapters over real files.
+
 ghost use Rattle.std.specs.Prelude.{◌≤◌, Some};
 ghost use Rattle.mt_io.specs.Causes.{no_faults};
 
-mod files;
-mod streams;
-
-use crate::{
-    Failed, Feed, FeedFault, FolderFeed, Gate, Hold, LineReader, MemFeed, MemSink, MemSource, Next,
-    NoGate, Point, Sink, Source, StdSink, StdSource, SureFeed, SureSink, SureSource, TurnGate, put,
+use mt_io::{
+    Failed, Feed, FeedFault, FolderFeed, LineReader, MemFeed, MemSink, MemSource, Next, Sink,
+    Source, StdSink, StdSource, SureFeed, SureSink, SureSource, put,
 };
 use std::alloc::{AllocError, Global};
 use std::test::Fail;
-use std::thread::join;
 use std::{fs, io};
 
 // Whether the next answer is this line.
-fn gives_line<S: Source>(reader: &mut LineReader, source: &mut S, want: &str) -> bool {
+pub(crate) fn gives_line<S: Source>(reader: &mut LineReader, source: &mut S, want: &str) -> bool {
     match reader.next(source) {
         Next::Line(line) => line == want.as_bytes(),
         _ => false,
@@ -32,22 +30,22 @@ fn is_spent<S: Source>(reader: &mut LineReader, source: &mut S) -> bool {
 }
 
 // Whether the next answer is the end.
-fn ends<S: Source>(reader: &mut LineReader, source: &mut S) -> bool {
+pub(crate) fn ends<S: Source>(reader: &mut LineReader, source: &mut S) -> bool {
     matches!(reader.next(source), Next::End)
 }
 
 // What `put` answers.
-fn put_all<K: Sink>(sink: &mut K, bytes: &[u8]) -> Result<(), Failed> {
+pub(crate) fn put_all<K: Sink>(sink: &mut K, bytes: &[u8]) -> Result<(), Failed> {
     put(sink, bytes)
 }
 
 // What a write answers.
-fn write_front<K: Sink>(sink: &mut K, bytes: &[u8]) -> Result<usize, Failed> {
+pub(crate) fn write_front<K: Sink>(sink: &mut K, bytes: &[u8]) -> Result<usize, Failed> {
     sink.write(bytes)
 }
 
 // Whether the feed gives this table, of these bytes.
-fn gives_table<F: Feed>(feed: &mut F, folder: &str, name: &str, want: &[u8]) -> bool {
+pub(crate) fn gives_table<F: Feed>(feed: &mut F, folder: &str, name: &str, want: &[u8]) -> bool {
     match feed.table(folder, name) {
         Ok(Some(found)) => found.as_slice() == want,
         _ => false,
@@ -55,7 +53,7 @@ fn gives_table<F: Feed>(feed: &mut F, folder: &str, name: &str, want: &[u8]) -> 
 }
 
 // Whether there is a table, or why it was not given.
-fn is_there<F: Feed>(feed: &mut F, folder: &str, name: &str) -> Result<bool, FeedFault> {
+pub(crate) fn is_there<F: Feed>(feed: &mut F, folder: &str, name: &str) -> Result<bool, FeedFault> {
     Ok(feed.table(folder, name)?.is_some())
 }
 
@@ -177,9 +175,17 @@ fn a_sink_takes_three(alloc: Global) -> Result<bool, AllocError> {
     Ok(failed && sink.bytes() == b"abc".as_slice())
 }
 
+// Whether a sink with room for one byte takes it, and no other.
+fn a_sink_takes_its_last_byte(alloc: Global) -> Result<bool, AllocError> {
+    let mut sink = MemSink::build(alloc, 1, Vec::new(alloc))?;
+    let taken = put_all(&mut sink, b"a").is_ok() && put_all(&mut sink, b"b").is_err();
+    Ok(taken && sink.bytes() == b"a".as_slice())
+}
+
 #[test]
 fn bytes_in_memory(rt: HostRuntime) -> Result<(), Fail> {
     assert!(rt; a_sink_takes_three(rt.alloc())?);
+    assert!(rt; a_sink_takes_its_last_byte(rt.alloc())?);
     assert_eq!(rt; put_all(&mut SureSink::build(), b"abcd"), Ok(()));
     Ok(())
 }
@@ -274,103 +280,4 @@ fn real_readers_and_writers(rt: HostRuntime) -> Result<(), Fail> {
 fn the_real_output(rt: HostRuntime) {
     let written = put_all(&mut StdSink::build(rt.stdout()), b"written\n");
     assert_eq!(rt; written, Ok(()));
-}
-
-const FEW_TURNS: u64 = 10;
-
-const MANY_TURNS: u64 = 10_000_000;
-
-const LOOK_1: Point = Point::BeforeLook { line: 1 };
-
-const LOOK_2: Point = Point::BeforeLook { line: 2 };
-
-const POST_1: Point = Point::AfterPost { line: 1 };
-
-const POST_2: Point = Point::AfterPost { line: 2 };
-
-// A gate with these holds: at the first point of each until its second one.
-fn gate_of(alloc: Global, pairs: &[(Point, Point)], turns: u64) -> Result<TurnGate, AllocError> {
-    let mut holds = Vec::new(alloc);
-    for (at, until) in pairs {
-        holds.push(Hold {
-            at: *at,
-            until: *until,
-        })?;
-    }
-    TurnGate::build(alloc, holds, turns)
-}
-
-// A gate with one hold, at the look of line 1 until the post of line 2.
-fn look_after_post(alloc: Global) -> Result<TurnGate, AllocError> {
-    gate_of(alloc, &[(LOOK_1, POST_2)], FEW_TURNS)
-}
-
-// Whether a hold has expired once these points have come, one after another.
-fn is_expired_after(gate: &TurnGate, points: &[Point]) -> bool {
-    for point in points {
-        gate.at(*point);
-    }
-    gate.expired()
-}
-
-#[test]
-fn a_hold_expires_where_its_until_does_not_come(rt: HostRuntime) -> Result<(), Fail> {
-    let gate = look_after_post(rt.alloc())?;
-    let ran_out = is_expired_after(&gate, &[LOOK_2, POST_1, LOOK_1]);
-    let stays = is_expired_after(&gate, &[POST_2, LOOK_1]);
-    assert!(rt; ran_out, "its wait ran out");
-    assert!(rt; stays, "a wait that ran out is not forgotten");
-    Ok(())
-}
-
-#[test]
-fn a_hold_does_not_expire_where_its_until_came_first(rt: HostRuntime) -> Result<(), Fail> {
-    let gate = look_after_post(rt.alloc())?;
-    assert!(rt; !is_expired_after(&gate, &[POST_2, LOOK_1]));
-    Ok(())
-}
-
-#[test]
-fn a_point_is_noted_before_the_wait(rt: HostRuntime) -> Result<(), Fail> {
-    let gate = gate_of(rt.alloc(), &[(POST_1, POST_1)], 0)?;
-    assert!(rt; !is_expired_after(&gate, &[POST_1]));
-    Ok(())
-}
-
-#[test]
-fn a_hold_whose_at_does_not_come_counts_as_expired(rt: HostRuntime) -> Result<(), Fail> {
-    let gate = look_after_post(rt.alloc())?;
-    let before = is_expired_after(&gate, &[]);
-    let after = is_expired_after(&gate, &[POST_2]);
-    assert!(rt; before, "nothing has come");
-    assert!(rt; after, "its until alone has come");
-    Ok(())
-}
-
-#[test]
-fn no_hold_does_not_expire(rt: HostRuntime) -> Result<(), Fail> {
-    let none = gate_of(rt.alloc(), &[], FEW_TURNS)?;
-    assert!(rt; !is_expired_after(&none, &[LOOK_1]));
-    NoGate.at(LOOK_1);
-    Ok(())
-}
-
-// A gate where the looks of lines 1 and 2 wait for one another.
-fn looks_at_once(alloc: Global, turns: u64) -> Result<TurnGate, AllocError> {
-    gate_of(alloc, &[(LOOK_1, LOOK_2), (LOOK_2, LOOK_1)], turns)
-}
-
-#[test]
-fn two_threads_wait_for_one_another(rt: HostRuntime) -> Result<(), Fail> {
-    let gate = looks_at_once(rt.alloc(), MANY_TURNS)?;
-    join(&rt, || gate.at(LOOK_1), || gate.at(LOOK_2));
-    assert!(rt; !gate.expired());
-    Ok(())
-}
-
-#[test]
-fn one_thread_waits_in_vain(rt: HostRuntime) -> Result<(), Fail> {
-    let gate = looks_at_once(rt.alloc(), FEW_TURNS)?;
-    assert!(rt; is_expired_after(&gate, &[LOOK_1, LOOK_2]));
-    Ok(())
 }

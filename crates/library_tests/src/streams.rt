@@ -1,8 +1,9 @@
-// The source over readers and the sink over writers that give, take and fail in their own ways.
+//! The source over readers and the sink over writers that give, take and fail in their own ways.
+
 ghost use Rattle.std.specs.Prelude.{◌≤◌};
 
-use super::{ends, gives_line, put_all, write_front};
-use crate::{Failed, LineReader, Next, Sink, Source, StdSink, StdSource};
+use crate::objects::{ends, gives_line, put_all, write_front};
+use mt_io::{Failed, LineReader, Next, Sink, Source, StdSink, StdSource};
 use std::alloc::Global;
 use std::io;
 use std::io::{ErrorKind, Read, Write};

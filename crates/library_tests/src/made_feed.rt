@@ -1,4 +1,6 @@
-use crate::{GenFeed, GenLines};
+//! The feed that is made of two trains, and its lines.
+
+use feed_gen::{GenFeed, GenLines};
 use mt_io::{Feed, Source};
 use std::test::Fail;
 

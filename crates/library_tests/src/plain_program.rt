@@ -1,8 +1,8 @@
-//! What no clause can say: that these calls find memory and succeed.
+//! The plain program over the example timetable.
 
-use crate::feed::{build_schedule, schedule_edges, schedule_times};
 use delay_model::events::list_train_events;
 use delay_model::overrides::{Connection, Override, Overrides};
+use model_examples::feed::{build_schedule, schedule_edges, schedule_times};
 use mt_base::keys::Node;
 use mt_base::names::Name;
 use mt_base::numbers::{Label, TrainNo};

@@ -1,6 +1,7 @@
-// The feed over a file system in which opening or reading fails.
-use super::{gives_table, is_there};
-use crate::{FeedFault, FolderFeed};
+//! The feed over a file system in which opening or reading fails.
+
+use crate::objects::{gives_table, is_there};
+use mt_io::{FeedFault, FolderFeed};
 use std::alloc::{Allocator, Global};
 use std::fs::{Metadata, OpenFile, OpenOptions};
 use std::io;
