@@ -10,6 +10,7 @@ mod refused_memory;
 mod runs;
 mod threads;
 mod worked_ends;
+mod worked_faults;
 mod worked_rows;
 
 use crate::run::{traind, traind_within};
@@ -123,11 +124,7 @@ fn calls_of(alloc: Global, failing: Option<u64>) -> Result<Vec<u64>, Fail> {
 }
 
 /// A feed of these tables, of which one call may fail.
-fn feed_of(
-    alloc: Global,
-    tables: &[Table<'_>],
-    failing: Option<u64>,
-) -> Result<MemFeed, Fail> {
+fn feed_of(alloc: Global, tables: &[Table<'_>], failing: Option<u64>) -> Result<MemFeed, Fail> {
     let mut feed = MemFeed::build(alloc, calls_of(alloc, failing)?);
     for (name, text) in tables {
         feed.add("feed", name, Vec::from_slice(alloc, text.as_bytes())?)?;
@@ -166,7 +163,14 @@ fn status_of<R: Threads + Wait + Sync, G: Gate + Sync>(
     gate: &G,
 ) -> Status {
     traind(
-        rt, alloc, &on.words, &mut on.feed, &mut on.input, &mut on.out, &mut on.err, gate,
+        rt,
+        alloc,
+        &on.words,
+        &mut on.feed,
+        &mut on.input,
+        &mut on.out,
+        &mut on.err,
+        gate,
     )
 }
 

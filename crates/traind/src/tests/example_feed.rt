@@ -109,7 +109,8 @@ pub(super) const KEEP: &str =
     r#"{"v":1,"type":"keep","feeder":{"trip":"T1","date":"20260105","call":1},"train":{"trip":"T2","date":"20260105","call":0}}"#;
 
 /// T1 does not run.
-pub(super) const CANCEL: &str = r#"{"v":1,"type":"cancel","trip":"T1","date":"20260105","from":0,"to":2}"#;
+pub(super) const CANCEL: &str =
+    r#"{"v":1,"type":"cancel","trip":"T1","date":"20260105","from":0,"to":2}"#;
 
 /// X1 runs from A to D, and has left A at 09:25:00.
 pub(super) const EXTRA: &str =
@@ -163,7 +164,8 @@ pub(super) const SHORT_QUERIES: &str =
 {"v":1,"type":"query","client":"c1","from":"A","to":"D","date":"20260106","time":"08:00:00"}"#;
 
 /// The replies to these queries.
-pub(super) const SHORT_REPLIES: &str = "{\"after\":0,\"arrives\":\"08:00:00\",\"line\":1,\"rides\":[]}
+pub(super) const SHORT_REPLIES: &str =
+    "{\"after\":0,\"arrives\":\"08:00:00\",\"line\":1,\"rides\":[]}
 {\"bad\":\"stop\",\"line\":2}
 {\"bad\":\"time\",\"line\":3}
 ";

@@ -44,9 +44,7 @@ fn is_table_fault<R: Threads + Wait + Sync>(
         return Ok(None);
     }
     let is_fault = is_end(&ended, Status::ReadFault, &[], READ_FAULT);
-    Ok(Some(
-        is_fault && is_next(alloc, &mut ended, FORECAST.as_bytes())?,
-    ))
+    Ok(Some(is_fault && is_next(alloc, &mut ended, FORECAST.as_bytes())?))
 }
 
 #[test]
@@ -139,7 +137,8 @@ fn count_failing_writes<R: Threads + Wait + Sync>(
         };
         let ended = run(rt, alloc, &case)?;
         if ended.status == Status::Ok {
-            let is_whole = ended.objects.out.bytes() == want && ended.objects.err.bytes().is_empty();
+            let is_whole = ended.objects.out.bytes() == want
+                && ended.objects.err.bytes().is_empty();
             return Ok(is_whole.then_some(write));
         }
         if !is_write_fault(&ended, want) {
@@ -190,9 +189,11 @@ fn is_usage_fault<R: Threads + Wait + Sync>(
         ..CASE
     };
     let ended = run(rt, alloc, &case)?;
-    Ok(ended.status == Status::Usage
-        && ended.objects.out.bytes().is_empty()
-        && ended.objects.err.bytes().len() <= room)
+    Ok(
+        ended.status == Status::Usage
+            && ended.objects.out.bytes().is_empty()
+            && ended.objects.err.bytes().len() <= room,
+    )
 }
 
 #[test]

@@ -119,8 +119,10 @@ fn are_late(alloc: Global, shown: &[u8]) -> Result<bool, Fail> {
 fn are_early(alloc: Global, shown: &[u8]) -> Result<bool, Fail> {
     let first = scheduled(alloc, 1)?;
     let (late, early) = (held(alloc, 3)?, scheduled(alloc, 3)?);
-    Ok(is_text(shown, &[first.as_str(), ACCEPTED, late.as_str()])
-        || is_text(shown, &[first.as_str(), ACCEPTED, early.as_str()]))
+    Ok(
+        is_text(shown, &[first.as_str(), ACCEPTED, late.as_str()])
+            || is_text(shown, &[first.as_str(), ACCEPTED, early.as_str()]),
+    )
 }
 
 #[test]

@@ -3,8 +3,8 @@
 ghost use Rattle.std.specs.Prelude.{◌≡◌, ◌<◌, ◌≤◌, IfOk, length};
 
 use crate::feed::load_timetable;
-use crate::tests::exhaustion::{BLOCKS, is_all_refused, take_all};
 use crate::tests::example_feed::TABLES;
+use crate::tests::exhaustion::{BLOCKS, is_all_refused, take_all};
 use crate::tests::{CASE, feed_of, words_of};
 use command_words::read_words;
 use conn_scan::{Found, Scratch, earliest};

@@ -110,8 +110,10 @@ fn are_answered(alloc: Global, out: &[u8]) -> Result<bool, Fail> {
     let accepted = "{\"accepted\":1,\"changed\":5,\"line\":3}\n";
     let (early, late) = (scheduled(alloc, 1)?, held(alloc, 1)?);
     let second = held(alloc, 2)?;
-    Ok(is_text(out, &[early.as_str(), second.as_str(), accepted])
-        || is_text(out, &[late.as_str(), second.as_str(), accepted]))
+    Ok(
+        is_text(out, &[early.as_str(), second.as_str(), accepted])
+            || is_text(out, &[late.as_str(), second.as_str(), accepted]),
+    )
 }
 
 #[test]
@@ -149,8 +151,10 @@ fn is_answered_between(alloc: Global, out: &[u8]) -> Result<bool, Fail> {
     let last = "{\"accepted\":2,\"changed\":5,\"line\":4}\n";
     let gone = "{\"after\":2,\"arrives\":null,\"line\":3}\n";
     let (second, still) = (held(alloc, 2)?, held(alloc, 3)?);
-    Ok(is_text(out, &[first, second.as_str(), still.as_str(), last])
-        || is_text(out, &[first, second.as_str(), gone, last]))
+    Ok(
+        is_text(out, &[first, second.as_str(), still.as_str(), last])
+            || is_text(out, &[first, second.as_str(), gone, last]),
+    )
 }
 
 #[test]
