@@ -98,8 +98,9 @@ fn train(trains: &Trains, number: u32) -> Train {
     ))
 }
 
-/// The first and the last call of a train.
-fn ends() -> [TableCall; 2] {
+/// One train of two calls, with room for one more train and three more calls.
+fn loaded(alloc: Global) -> Result<Trains, OutOfMemory> {
+    let mut trains = Trains::with_room(alloc, 2, 5, 7)?;
     let first = TableCall {
         stop: StopNo::new(3),
         arr: Time::new(100),
@@ -114,13 +115,7 @@ fn ends() -> [TableCall; 2] {
         board: false,
         alight: true,
     };
-    [first, last]
-}
-
-/// One train of two calls, with room for one more train and three more calls.
-fn loaded(alloc: Global) -> Result<Trains, OutOfMemory> {
-    let mut trains = Trains::with_room(alloc, 2, 5, 7)?;
-    let _ = trains.push_train(Day::new(1), RouteNo::new(4), &ends());
+    let _ = trains.push_train(Day::new(1), RouteNo::new(4), &[first, last]);
     Ok(trains)
 }
 
