@@ -136,7 +136,7 @@ fn feed_of(alloc: Global, tables: &[Table<'_>], failing: Option<u64>) -> Result<
 fn input_of(alloc: Global, case: &Case<'_>) -> Result<MemSource, Fail> {
     let bytes = Vec::from_slice(alloc, case.input)?;
     let failing = calls_of(alloc, case.failing_read)?;
-    Ok(MemSource::build(bytes, case.piece, failing))
+    Ok(MemSource::build(bytes, case.piece.max(1), failing))
 }
 
 /// A stream with so much room, of which one write may fail.

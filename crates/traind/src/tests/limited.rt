@@ -111,18 +111,19 @@ const ACCEPTED: &str = "{\"accepted\":1,\"changed\":5,\"line\":2}\n";
 
 /// Whether both queries were answered after the message.
 fn are_late(alloc: Global, shown: &[u8]) -> Result<bool, Fail> {
-    let (first, last) = (held(alloc, 1)?, held(alloc, 3)?);
+    let first = held(alloc, 1)?;
+    let last = held(alloc, 3)?;
     Ok(is_text(shown, &[first.as_str(), ACCEPTED, last.as_str()]))
 }
 
 /// Whether no query was answered after the message, or the last one alone.
 fn are_early(alloc: Global, shown: &[u8]) -> Result<bool, Fail> {
     let first = scheduled(alloc, 1)?;
-    let (late, early) = (held(alloc, 3)?, scheduled(alloc, 3)?);
-    Ok(
-        is_text(shown, &[first.as_str(), ACCEPTED, late.as_str()])
-            || is_text(shown, &[first.as_str(), ACCEPTED, early.as_str()]),
-    )
+    let late = held(alloc, 3)?;
+    let early = scheduled(alloc, 3)?;
+    let is_last_late = is_text(shown, &[first.as_str(), ACCEPTED, late.as_str()]);
+    let is_last_early = is_text(shown, &[first.as_str(), ACCEPTED, early.as_str()]);
+    Ok(is_last_late || is_last_early)
 }
 
 #[test]

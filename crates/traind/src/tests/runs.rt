@@ -187,7 +187,7 @@ const ENDED_RUNS: [Run; 4] = [
 ];
 
 /// Runs of `serve`.
-const SERVE_RUNS: [Run; 2] = [
+const SERVE_RUNS: [Run; 3] = [
     Run {
         shows: "windows that end with a flush line, and with the input",
         case: SERVE,
@@ -213,6 +213,18 @@ const SERVE_RUNS: [Run; 2] = [
         status: Status::ReadFault,
         out: &[ACCEPTED, FLUSHED],
         err: "traind: read fault\n",
+        left: None,
+    },
+    Run {
+        shows: "an input of more bytes than may be taken",
+        case: Case {
+            budget: Some((FORECAST.len() + FLUSH.len() + 2 + 10) as u64),
+            ..SERVE
+        },
+        input: &[FORECAST, "\n", FLUSH, "\n", QUERY, "\n"],
+        status: Status::TooLong,
+        out: &[ACCEPTED, FLUSHED],
+        err: "traind: input too long\n",
         left: None,
     },
 ];

@@ -25,6 +25,16 @@ const SIXTEEN_WORKERS: &str = "serve feed --from 20260105 --slack 0 --workers 16
 /// In so many turns another thread comes to where it is waited for, if it ever does.
 const TURNS: u64 = 10_000_000;
 
+/// Replies to a message in the first, in the third and in the fourth line, and to a query behind two
+/// messages that has no journey.
+const FIRST_ACCEPTED: &str = "{\"accepted\":1,\"changed\":5,\"line\":1}\n";
+
+const THIRD_ACCEPTED: &str = "{\"accepted\":1,\"changed\":5,\"line\":3}\n";
+
+const FOURTH_ACCEPTED: &str = "{\"accepted\":2,\"changed\":5,\"line\":4}\n";
+
+const THIRD_WITHOUT_JOURNEY: &str = "{\"after\":2,\"arrives\":null,\"line\":3}\n";
+
 /// The query of this client for the earliest arrival at D from A at 08:00:00.
 pub(super) fn asked(alloc: Global, client: &str) -> Result<String, Fail> {
     Ok(format!(in alloc;
@@ -107,13 +117,12 @@ fn served<R: Threads + Wait + Sync, G: Gate + Sync>(
 
 /// Whether the first query was answered before or after the message, and the second one after it.
 fn are_answered(alloc: Global, out: &[u8]) -> Result<bool, Fail> {
-    let accepted = "{\"accepted\":1,\"changed\":5,\"line\":3}\n";
-    let (early, late) = (scheduled(alloc, 1)?, held(alloc, 1)?);
+    let early = scheduled(alloc, 1)?;
+    let late = held(alloc, 1)?;
     let second = held(alloc, 2)?;
-    Ok(
-        is_text(out, &[early.as_str(), second.as_str(), accepted])
-            || is_text(out, &[late.as_str(), second.as_str(), accepted]),
-    )
+    let is_early = is_text(out, &[early.as_str(), second.as_str(), THIRD_ACCEPTED]);
+    let is_late = is_text(out, &[late.as_str(), second.as_str(), THIRD_ACCEPTED]);
+    Ok(is_early || is_late)
 }
 
 #[test]
@@ -147,14 +156,27 @@ fn a_worker_and_the_publisher_wait_for_one_another(rt: HostRuntime) -> Result<()
 /// Whether the first query was answered between the messages, and the second one before or after
 /// the last.
 fn is_answered_between(alloc: Global, out: &[u8]) -> Result<bool, Fail> {
-    let first = "{\"accepted\":1,\"changed\":5,\"line\":1}\n";
-    let last = "{\"accepted\":2,\"changed\":5,\"line\":4}\n";
-    let gone = "{\"after\":2,\"arrives\":null,\"line\":3}\n";
-    let (second, still) = (held(alloc, 2)?, held(alloc, 3)?);
-    Ok(
-        is_text(out, &[first, second.as_str(), still.as_str(), last])
-            || is_text(out, &[first, second.as_str(), gone, last]),
-    )
+    let second = held(alloc, 2)?;
+    let still = held(alloc, 3)?;
+    let is_early = is_text(
+        out,
+        &[
+            FIRST_ACCEPTED,
+            second.as_str(),
+            still.as_str(),
+            FOURTH_ACCEPTED,
+        ],
+    );
+    let is_late = is_text(
+        out,
+        &[
+            FIRST_ACCEPTED,
+            second.as_str(),
+            THIRD_WITHOUT_JOURNEY,
+            FOURTH_ACCEPTED,
+        ],
+    );
+    Ok(is_early || is_late)
 }
 
 #[test]
