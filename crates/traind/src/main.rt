@@ -1,18 +1,8 @@
 //! `traind`: a railway timetable that stays true while trains run late.
 #![tactic(auto)]
 
-mod feed;
-mod generated;
-mod refusal;
-pub mod run;
-pub mod status;
-mod telling;
-#[cfg(test)]
-mod tests;
-
+use commands::{Status, traind};
 use mt_io::{FolderFeed, NoGate, StdSink, StdSource, put};
-use run::traind;
-use status::Status;
 use std::io::ErrorKind;
 use std::process::ExitCode;
 use std::{env, io};

@@ -1,0 +1,6 @@
+use Rattle.std.proofs.Common.{◌≡◌}
+use Rattle.commands.proofs.tests.refused_memory.count_reached.Given as goal
+
+-- a query leaves the room of the scratch as it is
+abbrev pub invariant-loop-pair : goal.invariant-loop-pair
+invariant-loop-pair g l = l.scratch.stops ≡ l.initial.scratch.stops

@@ -1,0 +1,129 @@
+//! Queries while every request for memory is refused.
+
+ghost use Rattle.std.specs.Prelude.{◌≡◌, ◌<◌, ◌≤◌, IfOk, length};
+
+use crate::tests::example_feed::TABLES;
+use crate::tests::exhaustion::{BLOCKS, is_all_refused, take_all};
+use crate::tests::{CASE, feed_of, words_of};
+use command_words::read_words;
+use commands::load_timetable;
+use conn_scan::{Found, Scratch, earliest};
+use mt_base::journeys::Query;
+use mt_base::memory::OutOfMemory;
+use mt_base::numbers::{StopNo, Time};
+use std::alloc::Global;
+use std::marker::Brand;
+use std::sync::ledger::{Blank, Ledger};
+use std::test::*;
+use timetable::Timetable;
+use train_nodes::Steps;
+
+/// How many stops, stations and platforms the feed has.
+const PLACES: u32 = 6;
+
+/// The timetable of the feed, by the options that the program has without further words.
+fn feed_timetable(alloc: Global) -> Result<Timetable, Fail> {
+    let words = words_of(alloc, CASE.words)?;
+    let asked = read_words(alloc, &words)?;
+    let mut feed = feed_of(alloc, &TABLES, None)?;
+    let loaded = load_timetable(
+        alloc,
+        asked.folder,
+        asked.first,
+        asked.days,
+        &asked.opts,
+        &mut feed,
+    )?;
+    Ok(loaded.timetable)
+}
+
+/// Whether there is a journey from one place to another from 08:00:00 on.
+fn is_reached<L: Ledger>(
+    timetable: &Timetable,
+    scratch: &mut Scratch,
+    from: u32,
+    to: u32,
+    steps: &mut Steps<L>,
+) -> bool
+    requires stops { length timetable.now.network.stops ≤ scratch.old.stops }
+    ensures stops { scratch.new.stops ≡ scratch.old.stops }
+{
+    let query = Query {
+        from_stop: StopNo::new(from),
+        to_stop: StopNo::new(to),
+        time: Time::new(28_800),
+    };
+    earliest(timetable, &query, scratch, steps) != Found::NoWay
+}
+
+/// Between how many pairs of places there is a journey.
+fn count_reached<L: Ledger>(timetable: &Timetable, scratch: &mut Scratch, blank: Blank) -> u32
+    requires stops { length timetable.now.network.stops ≤ scratch.old.stops }
+    requires name { blank.name ≡ L.name }
+    requires parts { blank.parts ≡ L.parts }
+    requires some { 0 < blank.parts }
+{
+    let mut steps = Steps::<L>::open(blank);
+    let mut reached = 0_u32;
+    for pair in 0..PLACES * PLACES {
+        if is_reached(timetable, scratch, pair / PLACES, pair % PLACES, &mut steps) {
+            reached = reached.saturating_add(1);
+        }
+    }
+    reached
+}
+
+/// What the queries gave, and whether every request was refused before and after them.
+#[derive(Clone, Copy, Debug, PartialEq, Eq)]
+struct Outcome {
+    reached: u32,
+    is_refused: bool,
+}
+
+/// Takes all memory that is left, and asks for journeys between all pairs of places.
+fn query(
+    alloc: Global,
+    timetable: &Timetable,
+    scratch: &mut Scratch,
+    taken: &mut Vec<Vec<u8>>,
+) -> Outcome
+    requires stops { length timetable.now.network.stops ≤ scratch.old.stops }
+{
+    take_all(alloc, taken);
+    let is_refused = is_all_refused(alloc);
+    let reached = count_reached::<Brand>(timetable, scratch, Blank::new(1));
+    Outcome {
+        reached,
+        is_refused: is_refused && is_all_refused(alloc),
+    }
+}
+
+/// Room for queries over a timetable.
+fn scratch_for(alloc: Global, timetable: &Timetable) -> Result<Scratch, OutOfMemory>
+    ensures { IfOk result (λ scratch. length timetable.now.network.stops ≤ scratch.stops) }
+{
+    Scratch::build(alloc, timetable.graph().changes().stops(), 2)
+}
+
+/// Makes what queries want beforehand, and asks them without memory.
+fn query_without_memory(alloc: Global, timetable: &Timetable) -> Result<Outcome, OutOfMemory> {
+    let mut taken = Vec::with_capacity(alloc, BLOCKS)?;
+    let mut scratch = scratch_for(alloc, timetable)?;
+    Ok(query(alloc, timetable, &mut scratch, &mut taken))
+}
+
+/// Loads the timetable, and asks queries of it without memory.
+fn load_and_query(alloc: Global) -> Result<Outcome, Fail> {
+    let timetable = feed_timetable(alloc)?;
+    Ok(query_without_memory(alloc, &timetable)?)
+}
+
+/// Memory runs out only where the process may have less than is taken, so the test says whether
+/// it did.
+#[test]
+fn queries_want_no_memory(rt: HostRuntime) -> Result<(), Fail> {
+    let outcome = load_and_query(rt.alloc())?;
+    assert_eq!(rt; outcome.reached, 23);
+    println!(rt; "every request was refused: {}", outcome.is_refused)?;
+    Ok(())
+}

@@ -1,0 +1,70 @@
+-- Which command words ask for.
+use Rattle.std.proofs.Common.{◌≡◌, ◌∙◌, ◌≤◌, ◌<◌, length, get_or, map, subst, ℕ, List, [], ◌∷◌, Option, Some, None, Bool, true, false, if◌then◌else◌, bytes_eq, codes, ap, sym, refl, arith}
+use Rattle.std.proofs.lemmas.Option.{same_Some}
+use Rattle.clap.specs.Words.{Row, fault_of, first_of, matches_of}
+use Rattle.clap.specs.Walk.{is_empty}
+use Rattle.command_words.specs.declared.words.Command.{Command}
+use Rattle.command_words.specs.declared.words.Command.TheVariants.{Times, Serve}
+use Rattle.command_words.specs.Commands.{command_app}
+use Rattle.command_words.specs.Words.{◌>>=◌, Asked, asked_of, command_asked, command_of, first_date, number_within, options_of, values_ask}
+use Rattle.commands.specs.Runs.{AskFor}
+
+-- a chain that ends in one record
+chained : {A B C D E : Type 0} (x : Option A) (y : Option B) (z : Option C) (u : Option D) (v : Option E) (make : A → B → C → D → E → Asked) (command : Command) (r : Asked) → ((a : A) (b : B) (c : C) (d : D) (e : E) → (make a b c d e).command ≡ command)
+    → (x >>= λ a. y >>= λ b. z >>= λ c. u >>= λ d. v >>= λ e. Some (make a b c d e)) ≡ Some r → r.command ≡ command
+chained (Some a) (Some b) (Some c) (Some d) (Some e) make command r h is = sym (ap (λ (q : Asked). q.command) (same_Some _ r is)) ∙ h a b c d e
+chained None y z u v make command r h is = absurd cc
+chained (Some a) None z u v make command r h is = absurd cc
+chained (Some a) (Some b) None u v make command r h is = absurd cc
+chained (Some a) (Some b) (Some c) None v make command r h is = absurd cc
+chained (Some a) (Some b) (Some c) (Some d) None make command r h is = absurd cc
+
+values-command : (command : Command) (given : List Row) (a : Asked) → values_ask command given ≡ Some a → a.command ≡ command
+values-command command given a e =
+    chained (first_of (codes "feed") given) (first_date given) (number_within (codes "days") 1 31 given) (options_of given) (number_within (codes "workers") 1 16 given)
+    (λ folder first days opts workers. record { command = command; folder = folder; first = first; days = days; opts = opts; workers = workers }) command a (λ f d n o w. refl) e
+
+bound : (x : Option Command) (f : Command → Option Asked) (a : Asked) → (x >>= f) ≡ Some a → (c : Command) × (x ≡ Some c) × (f c ≡ Some a)
+bound None f a e = absurd cc
+bound (Some c) f a e = (c, refl, e)
+
+read-well : (well : Bool) (x : Option Asked) (a : Asked) → (if well then x else None) ≡ Some a → x ≡ Some a
+read-well true x a e = e
+read-well false x a e = absurd cc
+
+-- words that begin with the name of a command ask for it, if for anything
+named : (name : List ℕ) (rest : List (List ℕ)) (a : Asked) → asked_of (name ∷ rest) ≡ Some a → command_of name ≡ Some a.command
+unfolding asked_of
+named name rest a e =
+    let app = command_app name in
+    let words = name ∷ rest in
+    let command = bound (command_of name) (λ c. command_asked c app words) a e in
+    command.1 ∙ ap Some (sym (values-command command.0 (matches_of app words) a (read-well (is_empty (fault_of app words)) (values_ask command.0 (matches_of app words)) a command.2)))
+
+times-or-not : (is_times : Bool) (other : Option Command) (c : Command) → (if is_times then Some Times else other) ≡ Some c → is_times ≡ true → c ≡ Times
+times-or-not true other c e is = sym (same_Some Times c e)
+times-or-not false other c e is = absurd cc
+
+serve-or-none : (is_times is_serve : Bool) (c : Command) → (if is_times then Some Times else if is_serve then Some Serve else None) ≡ Some c → is_times ≡ false → c ≡ Serve
+serve-or-none true is_serve c e is = absurd cc
+serve-or-none false true c e is = sym (same_Some Serve c e)
+serve-or-none false false c e is = absurd cc
+
+pub times-asked : (name : List ℕ) (rest : List (List ℕ)) → bytes_eq name (codes "times") ≡ true → AskFor Times (name ∷ rest)
+times-asked name rest is a asked = times-or-not (bytes_eq name (codes "times")) _ a.command (named name rest a asked) is
+
+pub serve-asked : (name : List ℕ) (rest : List (List ℕ)) → bytes_eq name (codes "times") ≡ false → AskFor Serve (name ∷ rest)
+serve-asked name rest is a asked = serve-or-none (bytes_eq name (codes "times")) (bytes_eq name (codes "serve")) a.command (named name rest a asked) is
+
+pub none-asked : (c : Command) → AskFor c []
+unfolding asked_of
+none-asked c a asked = absurd cc
+
+-- the same by the first of some words
+pub asked-first : {X : Type 0} (f : X → List ℕ) (ws : List X) (x : X) (c : Command) → 1 ≤ length ws → x ≡ get_or ws 0 x → ((rest : List (List ℕ)) → AskFor c (f x ∷ rest)) → AskFor c (map f ws)
+asked-first f [] x c some is h = absurd (omega (arith, some))
+asked-first f (y ∷ ys) x c some is h = subst (λ (z : _). AskFor c (f z ∷ map f ys)) is (h (map f ys))
+
+pub asked-none : {X : Type 0} (f : X → List ℕ) (ws : List X) (c : Command) → length ws < 1 → AskFor c (map f ws)
+asked-none f [] c none = none-asked c
+asked-none f (y ∷ ys) c none = absurd (omega (arith, none))

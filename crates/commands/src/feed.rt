@@ -1,0 +1,122 @@
+//! The timetable that a feed holds.
+
+ghost use Rattle.std.specs.Prelude.{◌≡◌, ◌<◌, ◌≤◌, Ok, Some, IfOk, IsErrOf};
+ghost use Rattle.command_words.specs.Held.{asked_view};
+ghost use Rattle.feed_load.specs.Loaded.{loaded};
+ghost use Rattle.gtfs_tables.specs.Feeds.{Files, contents_of, tables_of};
+ghost use Rattle.gtfs_tables.specs.Refusals.{Gives};
+ghost use Rattle.mt_base.specs.Civil.{IsCivil};
+ghost use Rattle.mt_base.specs.Options.{IsInRange};
+ghost use Rattle.information_service.specs.Networks.{IsSame};
+ghost use Rattle.mt_io.specs.Causes.{counted};
+ghost use Rattle.mt_base.specs.declared.tables.Tables.{Tables as ATables};
+ghost use Rattle.schedule_build.specs.InStep.{AreInStep};
+ghost use Rattle.commands.specs.Feeds.{network, tables_in, asked_in};
+
+use command_words::Asked;
+use feed_load::load_feed;
+use gtfs_tables::FeedError;
+use information_service::InformationService;
+use mt_base::Opts;
+use mt_io::Feed;
+use schedule_build::Directory;
+use std::alloc::Global;
+use timetable::Timetable;
+
+/// A timetable that was loaded, with its names.
+#[derive(Drop)]
+pub struct LoadedTimetable {
+    /// The timetable.
+    pub timetable: Timetable,
+
+    /// The names of its trains, stops, routes and service days.
+    pub directory: Directory,
+
+    /// How many trains it has room for, extra trains among them.
+    pub room: u32,
+}
+
+/// The timetable of so many service days from the date `first` on that the feed in a folder holds,
+/// with its names.
+pub fn load_timetable<F: Feed>(
+    alloc: Global,
+    folder: &str,
+    first: u32,
+    days: u32,
+    opts: &Opts,
+    feed: &mut F,
+) -> Result<LoadedTimetable, FeedError>
+    // a date, and numbers in their ranges
+    requires civil { IsCivil first }
+    requires year { first < 21010000 }
+    requires days { (1 ≤ days) × (days ≤ 31) }
+    requires options { IsInRange opts.now }
+
+    // the timetable that the feed holds, or why it is refused
+    ensures exact { (told : Files) → F.tables feed.old ≡ Some told
+        → Gives (λ l. (l.timetable.state, l.directory)) result
+        (loaded (contents_of told folder.now) first days opts.now) }
+    ensures network { IfOk result (λ l. (told : Files) (rows : ATables) → F.tables feed.old
+        ≡ Some told → tables_of (contents_of told folder.now) ≡ Ok rows
+        → IsSame (network rows opts.now) l.timetable.network) }
+
+    // no message was accepted, and names and trains are in step
+    ensures new { IfOk result (λ l. l.timetable.count ≡ 0) }
+    ensures in_step { IfOk result (λ l. AreInStep l.directory l.timetable.state) }
+
+    // a read fault comes where one read failed, and else none failed
+    ensures failed { IsErrOf result FeedError.ReadFault
+        → Some (F.faults feed.new) ≡ counted (F.faults feed.old) }
+    ensures answered { ¬ (IsErrOf result FeedError.ReadFault)
+        → F.faults feed.new ≡ F.faults feed.old }
+{
+    let loaded = load_feed(alloc, feed, folder, first, days, opts)?;
+    let timetable = Timetable::build(alloc, loaded.trains, loaded.changes, loaded.waits, *opts)?;
+    let room = timetable
+        .graph()
+        .trains()
+        .count()
+        .saturating_add(opts.spare_trains);
+    Ok(LoadedTimetable {
+        timetable,
+        directory: loaded.directory,
+        room,
+    })
+}
+
+/// The timetable that the words ask for, as a service.
+pub(crate) fn load_service<F: Feed>(
+    alloc: Global,
+    asked: &Asked<'_>,
+    feed: &mut F,
+) -> Result<InformationService, FeedError>
+    // what words that were read ask for
+    requires civil { IsCivil asked.now.first }
+    requires year { asked.now.first < 21010000 }
+    requires days { (1 ≤ asked.now.days) × (asked.now.days ≤ 31) }
+    requires options { IsInRange asked.now.opts }
+
+    // the timetable that the feed holds, or why it is refused
+    ensures exact { (told : Files) → F.tables feed.old ≡ Some told
+        → Gives (λ s. (s.state, s.names)) result (asked_in told (asked_view asked.now)) }
+    ensures network { IfOk result (λ s. (told : Files) (rows : ATables) → F.tables feed.old
+        ≡ Some told → tables_in told (asked_view asked.now) ≡ Ok rows
+        → IsSame (network rows asked.now.opts) s.network) }
+    ensures new { IfOk result (λ s. s.count ≡ 0) }
+
+    // a read fault comes where one read failed, and else none failed
+    ensures failed { IsErrOf result FeedError.ReadFault
+        → Some (F.faults feed.new) ≡ counted (F.faults feed.old) }
+    ensures answered { ¬ (IsErrOf result FeedError.ReadFault)
+        → F.faults feed.new ≡ F.faults feed.old }
+{
+    let loaded = load_timetable(
+        alloc,
+        asked.folder,
+        asked.first,
+        asked.days,
+        &asked.opts,
+        feed,
+    )?;
+    Ok(InformationService::build(alloc, loaded.timetable, loaded.directory, loaded.room)?)
+}

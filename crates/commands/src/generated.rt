@@ -1,0 +1,92 @@
+//! The command `gen`: a feed and an input that are made from a number of trains.
+
+ghost use Rattle.std.specs.Prelude.{◌≡◌, ◌≤◌, map, IfOk, IfErr, string_bytes};
+ghost use Rattle.commands.specs.Seen.{stream_seen};
+ghost use Rattle.commands.specs.GenContract.{GenEndsAs, MeetsGenContract};
+ghost use Rattle.commands.specs.Summaries.{IsOnlySummary};
+
+use crate::feed::load_timetable;
+use crate::run::BYTE_BUDGET;
+use crate::status::{Fault, Status};
+use crate::telling::tell;
+use command_words::{AskedGen, default_options, read_gen_words};
+use feed_gen::{GenFeed, GenLines};
+use mt_io::{Gate, Sink, put};
+use reply_sums::summary_text;
+use snapshot_board::NewHistory;
+use std::alloc::Global;
+use std::marker::Brand;
+use std::sync::Wait;
+use std::thread::Threads;
+use window_service::sum_windows;
+
+/// The service day of the trains that are made, as the number YYYYMMDD.
+const SERVICE_DAY: u32 = 20_260_105;
+
+/// Does for the tables and the lines of so many trains what the program does for `serve`, and gives
+/// the summary of the replies. The only failure is being out of memory.
+fn summary<R: Threads + Wait + Sync, G: Gate + Sync>(
+    rt: &R,
+    alloc: Global,
+    asked: AskedGen,
+    gate: &G,
+) -> Result<Vec<u8>, Fault>
+    requires trains { (1 ≤ asked.trains) × (asked.trains ≤ 100000) }
+    requires workers { (1 ≤ asked.workers) × (asked.workers ≤ 16) }
+
+    ensures ok { IfOk result (λ line. IsOnlySummary asked.trains line.items) }
+    ensures fault { IfErr result (λ f. f ≡ Fault.OutOfMemory) }
+{
+    let mut feed = GenFeed::build(alloc, asked.trains);
+    let mut lines = GenLines::build(alloc, asked.trains)?;
+    let opts = default_options();
+    let loaded = load_timetable(alloc, "", SERVICE_DAY, 1, &opts, &mut feed)?;
+    let count = loaded.timetable.graph().trains().count();
+    let sums = sum_windows::<Brand, R, GenLines, G>(
+        rt,
+        alloc,
+        NewHistory::new(),
+        loaded.timetable,
+        loaded.directory,
+        loaded.room,
+        asked.workers,
+        &mut lines,
+        gate,
+        BYTE_BUDGET,
+    )?;
+    Ok(summary_text(alloc, &sums, count)?)
+}
+
+/// Reads the words of `gen`, and writes the summary that they ask for.
+fn write_summary<R: Threads + Wait + Sync, K: Sink, G: Gate + Sync>(
+    rt: &R,
+    alloc: Global,
+    words: &[String],
+    out: &mut K,
+    gate: &G,
+) -> Result<(), Fault>
+    ensures run { GenEndsAs (map string_bytes words.now)
+        (stream_seen K.written K.faults out.old out.new) out.old out.new result }
+{
+    let asked = read_gen_words(alloc, words)?;
+    let line = summary(rt, alloc, asked, gate)?;
+    put(out, line.as_slice())?;
+    Ok(())
+}
+
+/// All that the program does for `gen`.
+pub(crate) fn run_gen<R: Threads + Wait + Sync, K: Sink, E: Sink, G: Gate + Sync>(
+    rt: &R,
+    alloc: Global,
+    words: &[String],
+    out: &mut K,
+    err: &mut E,
+    gate: &G,
+) -> Status
+    ensures contract { MeetsGenContract (map string_bytes words.now)
+        (stream_seen K.written K.faults out.old out.new)
+        (stream_seen E.written E.faults err.old err.new) out.old out.new result }
+{
+    let run = write_summary(rt, alloc, words, out, gate);
+    tell(alloc, run, err)
+}

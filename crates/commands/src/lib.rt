@@ -1,0 +1,14 @@
+//! The program as a call: the commands `times`, `serve` and `gen`, each over any feed, input and
+//! outputs.
+#![tactic(auto)]
+
+mod feed;
+mod generated;
+mod refusal;
+mod run;
+mod status;
+mod telling;
+
+pub use feed::{LoadedTimetable, load_timetable};
+pub use run::{run_times, traind, traind_within};
+pub use status::Status;

@@ -1,0 +1,238 @@
+//! The program as a call: its commands over any feed, input and outputs.
+
+ghost use Rattle.std.specs.Prelude.{◌≡◌, ◌≤◌, map, true, false, string_bytes};
+ghost use Rattle.command_words.specs.GenWords.{is_gen};
+ghost use Rattle.commands.specs.Contract.{EndsAs, MeetsContract, byte_budget};
+ghost use Rattle.commands.specs.Seen.{feed_seen, stream_seen};
+ghost use Rattle.commands.specs.GenContract.{MeetsGenContract};
+ghost use Rattle.commands.specs.Runs.{AskFor, output_of};
+
+use crate::feed::{load_service, load_timetable};
+use crate::generated::run_gen;
+use crate::status::{Fault, Status};
+use crate::telling::tell;
+use command_words::{Command, is_gen, read_words};
+use information_service::write_output;
+use mt_io::{Feed, Gate, Sink, Source};
+use snapshot_board::NewHistory;
+use std::alloc::Global;
+use std::marker::Brand;
+use std::sync::Wait;
+use std::thread::Threads;
+use window_service::write_windows;
+
+/// Reads the words of `times`, loads the feed that they ask for, and answers the input.
+fn times_words<F: Feed, S: Source, K: Sink>(
+    alloc: Global,
+    words: &[String],
+    feed: &mut F,
+    input: &mut S,
+    out: &mut K,
+    budget: u64,
+) -> Result<(), Fault>
+    requires command { AskFor Command.Times (map string_bytes words.now) }
+
+    ensures run { EndsAs output_of budget (map string_bytes words.now)
+        (feed_seen F.tables F.faults feed.old feed.new)
+        (stream_seen S.left S.faults input.old input.new)
+        (stream_seen K.written K.faults out.old out.new)
+        feed.old feed.new input.old input.new out.old out.new result }
+{
+    let asked = read_words(alloc, words)?;
+    let mut service = load_service(alloc, &asked, feed)?;
+    write_output(alloc, &mut service, input, out, budget)?;
+    Ok(())
+}
+
+/// The same for `serve`.
+fn serve_words<R: Threads + Wait + Sync, F: Feed, S: Source, K: Sink, G: Gate + Sync>(
+    rt: &R,
+    alloc: Global,
+    words: &[String],
+    feed: &mut F,
+    input: &mut S,
+    out: &mut K,
+    gate: &G,
+    budget: u64,
+) -> Result<(), Fault>
+    requires command { AskFor Command.Serve (map string_bytes words.now) }
+
+    ensures run { EndsAs output_of budget (map string_bytes words.now)
+        (feed_seen F.tables F.faults feed.old feed.new)
+        (stream_seen S.left S.faults input.old input.new)
+        (stream_seen K.written K.faults out.old out.new)
+        feed.old feed.new input.old input.new out.old out.new result }
+{
+    let asked = read_words(alloc, words)?;
+    let loaded = load_timetable(
+        alloc,
+        asked.folder,
+        asked.first,
+        asked.days,
+        &asked.opts,
+        feed,
+    )?;
+    write_windows::<Brand, R, S, K, G>(
+        rt,
+        alloc,
+        NewHistory::new(),
+        loaded.timetable,
+        loaded.directory,
+        loaded.room,
+        asked.workers,
+        input,
+        out,
+        gate,
+        budget,
+    )?;
+    Ok(())
+}
+
+/// All that the program does for `times`. It reads the tables of the feed, answers each line of the
+/// input at once, and at the end of the input writes the table of all times. A query is answered by
+/// the times after the messages of the lines before it. It stops where `budget` bytes of the input
+/// were taken and no end was read. It waits for nobody and returns.
+pub fn run_times<F: Feed, S: Source, K: Sink, E: Sink>(
+    alloc: Global,
+    words: &[String],
+    feed: &mut F,
+    input: &mut S,
+    out: &mut K,
+    err: &mut E,
+    budget: u64,
+) -> Status
+    requires command { AskFor Command.Times (map string_bytes words.now) }
+    requires budget { 1 ≤ budget }
+    ensures contract { MeetsContract output_of budget (map string_bytes words.now)
+        (feed_seen F.tables F.faults feed.old feed.new)
+        (stream_seen S.left S.faults input.old input.new)
+        (stream_seen K.written K.faults out.old out.new)
+        (stream_seen E.written E.faults err.old err.new)
+        feed.old feed.new input.old input.new out.old out.new result }
+{
+    let run = times_words(alloc, words, feed, input, out, budget);
+    tell(alloc, run, err)
+}
+
+/// All that the program does for `serve`.
+fn run_serve<R: Threads + Wait + Sync, F: Feed, S: Source, K: Sink, E: Sink, G: Gate + Sync>(
+    rt: &R,
+    alloc: Global,
+    words: &[String],
+    feed: &mut F,
+    input: &mut S,
+    out: &mut K,
+    err: &mut E,
+    gate: &G,
+    budget: u64,
+) -> Status
+    requires command { AskFor Command.Serve (map string_bytes words.now) }
+    requires budget { 1 ≤ budget }
+    ensures contract { MeetsContract output_of budget (map string_bytes words.now)
+        (feed_seen F.tables F.faults feed.old feed.new)
+        (stream_seen S.left S.faults input.old input.new)
+        (stream_seen K.written K.faults out.old out.new)
+        (stream_seen E.written E.faults err.old err.new)
+        feed.old feed.new input.old input.new out.old out.new result }
+{
+    let run = serve_words(rt, alloc, words, feed, input, out, gate, budget);
+    tell(alloc, run, err)
+}
+
+/// Whether the first word is `times`.
+fn is_times(words: &[String]) -> bool
+    ensures times { result ≡ true → AskFor Command.Times (map string_bytes words.now) }
+    ensures serve { result ≡ false → AskFor Command.Serve (map string_bytes words.now) }
+{
+    match words {
+        [command, ..] => command.as_str() == "times",
+        [] => false,
+    }
+}
+
+/// The program. For `times` it does what `run_times` does. For `serve` it reads the tables of the
+/// feed and answers the input window after window, and queries beside the messages; the gate is
+/// called after each message and before each query. It stops where `budget` bytes of the input were
+/// taken and no end was read. For `gen` it does what it does for `serve` over a feed and an input
+/// that it makes from a number of trains, and writes one line with the sums over the replies; it
+/// asks nothing of `feed` and `input`.
+pub fn traind_within<
+    R: Threads + Wait + Sync,
+    F: Feed,
+    S: Source,
+    K: Sink,
+    E: Sink,
+    G: Gate + Sync,
+>(
+    rt: &R,
+    alloc: Global,
+    words: &[String],
+    feed: &mut F,
+    input: &mut S,
+    out: &mut K,
+    err: &mut E,
+    gate: &G,
+    budget: u64,
+) -> Status
+    requires budget { 1 ≤ budget }
+
+    // every command but `gen`
+    ensures contract { is_gen (map string_bytes words.now) ≡ false
+        → MeetsContract output_of budget (map string_bytes words.now)
+        (feed_seen F.tables F.faults feed.old feed.new)
+        (stream_seen S.left S.faults input.old input.new)
+        (stream_seen K.written K.faults out.old out.new)
+        (stream_seen E.written E.faults err.old err.new)
+        feed.old feed.new input.old input.new out.old out.new result }
+
+    // `gen`, which has a feed and an input of its own
+    ensures generated { is_gen (map string_bytes words.now) ≡ true
+        → MeetsGenContract (map string_bytes words.now)
+        (stream_seen K.written K.faults out.old out.new)
+        (stream_seen E.written E.faults err.old err.new) out.old out.new result }
+    ensures untouched { is_gen (map string_bytes words.now) ≡ true
+        → (feed.new ≡ feed.old) × (input.new ≡ input.old) }
+{
+    if is_gen(words) {
+        return run_gen(rt, alloc, words, out, err, gate);
+    }
+    if is_times(words) {
+        return run_times(alloc, words, feed, input, out, err, budget);
+    }
+    run_serve(rt, alloc, words, feed, input, out, err, gate, budget)
+}
+
+/// How many bytes of the input the program takes at most.
+pub(crate) const BYTE_BUDGET: u64 = 1 << 40;
+
+/// The program, as `traind_within` is it for 2^40 bytes: it stops where so many bytes of the input
+/// were taken and no end was read.
+pub fn traind<R: Threads + Wait + Sync, F: Feed, S: Source, K: Sink, E: Sink, G: Gate + Sync>(
+    rt: &R,
+    alloc: Global,
+    words: &[String],
+    feed: &mut F,
+    input: &mut S,
+    out: &mut K,
+    err: &mut E,
+    gate: &G,
+) -> Status
+    // every command but `gen`
+    ensures contract { is_gen (map string_bytes words.now) ≡ false
+        → MeetsContract output_of byte_budget (map string_bytes words.now)
+        (feed_seen F.tables F.faults feed.old feed.new)
+        (stream_seen S.left S.faults input.old input.new)
+        (stream_seen K.written K.faults out.old out.new)
+        (stream_seen E.written E.faults err.old err.new)
+        feed.old feed.new input.old input.new out.old out.new result }
+
+    // `gen`, which has a feed and an input of its own
+    ensures generated { is_gen (map string_bytes words.now) ≡ true
+        → MeetsGenContract (map string_bytes words.now)
+        (stream_seen K.written K.faults out.old out.new)
+        (stream_seen E.written E.faults err.old err.new) out.old out.new result }
+    ensures untouched { is_gen (map string_bytes words.now) ≡ true
+        → (feed.new ≡ feed.old) × (input.new ≡ input.old) }
+{
+    traind_within(rt, alloc, words, feed, input, out, err, gate, BYTE_BUDGET)
+}

@@ -1,5 +1,0 @@
-use Rattle.traind.proofs.GenEndings.{gen-contract-met}
-use Rattle.traind.proofs.generated.run_gen.Goals as goal
-
-pub returns : goal.returns
-returns g c = record { contract = gen-contract-met c.write_summary-run.result c.tell.result c.write_summary-run.ensures.run c.tell.ensures.status c.tell.ensures.memory c.tell.ensures.error_line }
