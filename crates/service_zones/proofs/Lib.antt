@@ -1,0 +1,4 @@
+pub mod BaseLemmas
+pub mod DateLemmas
+pub mod LastLemmas
+pub mod WeekdayLemmas

@@ -1,0 +1,14 @@
+//! Zone texts, and the bases of service days in a zone.
+#![tactic(auto)]
+
+pub mod changes;
+pub mod faults;
+pub mod laws;
+mod parts;
+mod texts;
+pub mod zone;
+
+pub use changes::{Change, SummerTime};
+pub use faults::BaseFault;
+pub use laws::{days_are_even_without_summer_time, the_last_change_decides};
+pub use zone::Zone;
