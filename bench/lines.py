@@ -3,17 +3,19 @@
 
 Usage: bench/lines.py [LINES ..]     (100000 1000000 where none are given)
 
-It runs `times` on the feed rows/feeds/a, twice for each number of lines. First the
+It runs `times` on the feed rows/feeds/a, thrice for each number of lines. First the
 lines are reports, forecasts, choices for connections and flush lines in turn: in 24
 of them 9 are bad, 10 are refused, 4 are accepted and one is a flush. Then ten more
 in each turn cancel, reroute and add trains. Of these 2 are bad, 4 are refused and
 one is accepted; the other three add a train, reroute it and cancel it. In the first
 200 turns they do so, which uses up the spare trains. Later the train is known, no
 part of it is left to reroute, and to cancel it again is accepted without effect.
-It prints the seconds, the lines per second and the peak memory when the last lines
-are handed over, which should not grow with the number of lines. It needs the folder
-/proc of Linux. It proves nothing and tests nothing; build the program first
-(README.md).
+At last, in place of these ten, eight of version 2: one is bad, three corrections
+and withdrawals are refused; a forecast is withdrawn, and a report is corrected,
+taken back and given again. It prints the seconds, the lines per second and the peak
+memory when the last lines are handed over, which should not grow with the number of
+lines. It needs the folder /proc of Linux. It proves nothing and tests nothing; build
+the program first (README.md).
 """
 
 import itertools
@@ -33,8 +35,8 @@ AT_ONCE = 10_000
 TURNS = 200
 
 
-def line(kind, **members):
-    return json.dumps({"v": 1, "type": kind} | members).encode()
+def line(kind, version=1, **members):
+    return json.dumps({"v": version, "type": kind} | members).encode()
 
 
 def value(kind, trip, call, event, day_time):
@@ -49,7 +51,7 @@ def choice(kind, feeder, train):
 
 FIRST = [value("report", "T1", 0, "dep", "08:05:00"), value("report", "T1", 1, "dep", "08:40:00")]
 BAD = [
-    b"", b"{", b"this is no message", b'{"v":1,"type":"hold"}', b'{"v":2,"type":"flush"}', b'{"v":1,"type":"fl\xff"}',
+    b"", b"{", b"this is no message", b'{"v":1,"type":"hold"}', b'{"v":3,"type":"flush"}', b'{"v":1,"type":"fl\xff"}',
     value("report", "T1", -1, "arr", "08:36:00"), value("forecast", "T1", 1, "arr", "8:60:00"), b'{"more":1e400}',
 ]  # fmt: skip
 REFUSED = [
@@ -63,6 +65,19 @@ ACCEPTED = [
 ]  # fmt: skip
 
 OTHERS = [*BAD, *REFUSED, *ACCEPTED, line("flush")]
+
+
+def of_t1(kind, call, event, version=2, **times):
+    """A correction or withdrawal for an event of T1."""
+    return line(kind, version, trip="T1", date=DATE, call=call, event=event, **times)
+
+
+CORRECTIONS = [
+    of_t1("correct", 1, "dep", version=1, time="08:41:00"), of_t1("correct", 1, "dep", time="08:04:00"),
+    of_t1("correct", 2, "arr", time=None), of_t1("withdraw", 0, "dep"), of_t1("withdraw", 1, "arr"),
+    of_t1("correct", 1, "dep", time="08:41:00"), of_t1("correct", 1, "dep", time=None),
+    line("report", 2, trip="T1", date=DATE, call=1, event="dep", time="08:40:00"),
+]  # fmt: skip
 
 
 def cancel(trip, last):
@@ -99,6 +114,7 @@ def one_train_more(number):
 MIXES = {
     "trains as they are": OTHERS,
     "changed trains": [text for number in range(TURNS) for text in one_train_more(number)],
+    "corrected reports": [*OTHERS, *CORRECTIONS],
 }
 
 

@@ -160,7 +160,7 @@ def nesting():
     yield asked("arrays and objects about the greatest depth", [*edges, (FLUSH, {"flush": 0})])
 
 
-LABELS = "0 1 2147483647 2147483648 4294967295".split()
+LABELS = "0 1 2 3 2147483647 2147483648 4294967295".split()
 OTHERS = """-0 -1 1e0 1E0 1.0 0.0 0e0 4294967296 9223372036854775808 18446744073709551615 18446744073709551616
     -9223372036854775809 1e308 1e-999 0e999 "1" [1] null""".split()
 OTHERS += ["1" * 30, "1" * 308, "0." + "0" * 60_000 + "1", "1e-" + "9" * 60_000]
@@ -173,7 +173,7 @@ def numbers():
     edges = []
     train = '"trip":"T9","date":"20260105"'
     shapes = {
-        '"v":{},"type":"flush"': lambda text: {"flush": 0} if text == "1" else bad("shape"),
+        '"v":{},"type":"flush"': lambda text: {"flush": 0} if text in ("1", "2") else bad("shape"),
         '"v":1,"type":"flush","x":{}': lambda text: {"flush": 0},
     }
     label = lambda text: refusal("Unknown") if text in LABELS else bad("shape")  # noqa: E731

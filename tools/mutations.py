@@ -89,7 +89,8 @@ ENDS = (
     b"", b"\n", b"\n", b"\n\n", b"\r\n", b" \t\r\n", b"\0\n", b"\n \n", b"}\n", b"{}\n", b"\n[]\n", b"\nnull\n",
     b"\n1\n", b'\n""\n',
 )  # fmt: skip
-TYPES = ("forecast", "report", "cancel", "reroute", "extra", "keep", "drop", "rule", "query", "flush", "Flush", "")
+MESSAGES = "forecast", "report", "correct", "withdraw", "cancel", "reroute", "extra", "keep", "drop", "rule"
+TYPES = (*MESSAGES, "query", "flush", "Flush", "")
 LONG = 65_536
 TIME = re.compile("[0-9]+:[0-9]+:[0-9]+")
 
@@ -345,7 +346,7 @@ def object_mutated(random, message):
         second = random.choice(list(part))
         part[name], part[second] = part[second], part[name]
     elif way == 3:
-        part[name] = random.choice((*TYPES, *TYPES[:8])) if name == "type" else [part[name]]
+        part[name] = random.choice((*TYPES, *MESSAGES)) if name == "type" else [part[name]]
     elif way == 4:
         part[other] = any_value(random)
     elif way == 5 and isinstance(part[name], list):

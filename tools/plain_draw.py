@@ -7,10 +7,12 @@ there most times, and trains that wait for one another.
 
 import itertools
 import json
+from collections import Counter
 from pathlib import Path
 from random import Random
 
 from plain_feed import DAY, WEEKDAYS, time_text
+from plain_lines import OF_VERSION_2
 from plain_program import place_of
 
 SERVED = (Path(__file__).resolve().parent.parent / "rows" / "served").read_text().split()
@@ -141,13 +143,20 @@ class Messages:
         draws = [self.value] * 12 + [self.choice] * 9 + [lambda: {"type": "flush"}]
         for feature, kinds in (
             ("reroutes", [self.reroute] * 5), ("cancellations", [self.cancel] * 2), ("extras", [self.extra] * 2),
-            ("queries", [self.query] * 8),
+            ("queries", [self.query] * 8), ("corrections", [self.correct] * 4 + [self.withdraw] * 2),
         ):  # fmt: skip
             draws += kinds if feature in SERVED else []
         for _ in range(number):
             if self.pick(range(8)) == 0:
                 self.pairs[self.pick(range(5))] = self.pair()
-            yield json.dumps({"v": 1} | self.pick(draws)())
+            message = self.pick(draws)()
+            yield json.dumps({"v": self.version(message)} | message)
+
+    def version(self, message):
+        """A version that the line can have; at times version 1 where its type is not of that version."""
+        if "corrections" not in SERVED:
+            return 1
+        return self.pick((1, *[2] * 15) if message["type"] in OF_VERSION_2 else (1, 2))
 
     def pair(self):
         """An arrival and a departure: a planned connection, one that can be kept, or any."""
@@ -181,6 +190,32 @@ class Messages:
         self.drawn.append((event, time))
         kind = self.pick(("report", *["forecast"] * 4))
         return self.named(event.name() | {"type": kind, "time": event.day_time(time)})
+
+    def event_with(self, value):
+        """An event that has a report or a forecast: of a watched train, of one that has several, or any.
+
+        At times it has none, on such a train or on any.
+        """
+        events = [event for train in self.plain.trains for event in train.events if event.live]
+        having = [event for event in events if getattr(event, value) is not None]
+        number = Counter(event.train.number for event in having)
+        watched = {end.train.number for pair in self.pairs for end in pair}
+        near = [event for event in having if event.train.number in watched]
+        several = [event for event in having if number[event.train.number] > 1]
+        beside = [event for event in events if event.train.number in number and event not in having]
+        return self.pick(self.pick((*[near or having] * 3, *[several or having] * 4, beside, [])) or [self.event()])
+
+    def correct(self):
+        """No report any more, or another: a little off, or at that of another event of the train or about it."""
+        event = self.event_with("report")
+        reports = [v.report for v in event.train.events if v.live and v.report is not None and v is not event]
+        time = self.pick((*reports, *reports, event.scheduled if event.report is None else event.report))
+        time = max(event.train.day * DAY, time + self.pick((0, 0, 1, -1, 60, -60, 300, -900)))
+        text = self.pick((None, *[event.day_time(time)] * 3))
+        return self.named(event.name() | {"type": "correct", "time": text})
+
+    def withdraw(self):
+        return self.named(self.event_with("forecast").name() | {"type": "withdraw"})
 
     def choice(self):
         feeder, train = (self.named(event.train.name() | {"call": event.label}) for event in self.pick(self.pairs))

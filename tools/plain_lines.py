@@ -129,27 +129,36 @@ def kind(value):
     return value in ("arr", "dep")
 
 
-def one(value):
-    return type(value) is int and value == 1
+def text_or_null(value):
+    return value is None or text(value)
 
 
-EVENT = {"trip": text, "date": text, "call": label}
-CALLS = [{"stop": text, "arr": text, "dep": text}]
-VALUE = EVENT | {"event": kind, "time": text}
+def version(value):
+    return type(value) is int and value in (1, 2)
+
+
+CALL = {"trip": text, "date": text, "call": label}
+EVENT = CALL | {"event": kind}
+VALUE = EVENT | {"time": text}
+NEW_CALLS = [{"stop": text, "arr": text, "dep": text}]
 STRETCH = {"trip": text, "date": text, "from": label, "to": label}
-CHOICE = {"feeder": EVENT, "train": EVENT}
+CHOICE = {"feeder": CALL, "train": CALL}
 TYPES = {
     "forecast": VALUE,
     "report": VALUE,
+    "correct": EVENT | {"time": text_or_null},
+    "withdraw": EVENT,
     "cancel": STRETCH,
-    "reroute": STRETCH | {"via": CALLS},
-    "extra": {"trip": text, "date": text, "route": text, "calls": CALLS},
+    "reroute": STRETCH | {"via": NEW_CALLS},
+    "extra": {"trip": text, "date": text, "route": text, "calls": NEW_CALLS},
     "keep": CHOICE,
     "drop": CHOICE,
     "rule": CHOICE,
     "query": dict.fromkeys(("client", "from", "to", "date", "time"), text),
     "flush": {},
 }
+# The types that no line of version 1 has.
+OF_VERSION_2 = ("correct", "withdraw")
 
 
 def shaped(value, shape):
@@ -173,7 +182,8 @@ def check_times(message):
         if not is_date(part.get("date", "20260105")):
             raise Bad("time")
     calls = [message, *message.get("via", ()), *message.get("calls", ())]
-    if not all(is_time(call[name]) for call in calls for name in ("time", "arr", "dep") if name in call):
+    times = [call[name] for call in calls for name in ("time", "arr", "dep") if name in call]
+    if not all(time is None or is_time(time) for time in times):
         raise Bad("time")
 
 
@@ -186,8 +196,8 @@ def read_line(line):
     except UnicodeDecodeError:
         raise Bad("utf8") from None
     value = Json(words).whole()
-    head = shaped(value, {"v": one, "type": text})
-    if head["type"] not in TYPES:
+    head = shaped(value, {"v": version, "type": text})
+    if head["type"] not in TYPES or (head["v"] == 1 and head["type"] in OF_VERSION_2):
         raise Bad("shape")
     message = {"type": head["type"]} | shaped(value, TYPES[head["type"]])
     if len(message.get("calls", "..")) < 2:

@@ -2,13 +2,12 @@
 
 It reads a feed from its folder, or takes one that tools/plain_tables.py has read, and
 answers lines as `traind times` does, from Monday 2026-01-05 where the feed does not
-say another day: all eight messages, queries, and flush lines. A query is also
+say another day: all ten messages, queries, and flush lines. A query is also
 answered by the rides of an earlier state, as `traind serve` may. It takes feeds
-that are not refused and lines that are not bad but for the places, the date and
-the time of a query. It does nothing fast: every pair of events is tried for a
+that are not refused. It does nothing fast: every pair of events is tried for a
 planned connection, and after each message every event gets its time anew. The
-feed is read by tools/plain_feed.py and journeys are found by
-tools/plain_journeys.py; the program tools/compare runs all this.
+feed is read by tools/plain_feed.py, lines by tools/plain_lines.py, and journeys
+are found by tools/plain_journeys.py; the program tools/compare runs all this.
 """
 
 import itertools
@@ -18,12 +17,13 @@ from collections import namedtuple
 
 from plain_feed import DAY, Feed, Train, seconds_of, time_text
 from plain_journeys import Journeys, rides_of
+from plain_lines import Bad, read_line
 
 DEFAULTS = {
     "days": 1, "slack": 7, "stop": 60, "change": 180, "window": 1800,
     "spare-trains": 200, "spare-calls": 4000, "overrides": 10_000,
 }  # fmt: skip
-UNKNOWN = {"refused": "Unknown"}
+UNKNOWN, NOTHING = {"refused": "Unknown"}, {"refused": "Nothing"}
 
 # Event v is not before event u plus the least time; a train edge and a kept connection have no limit (None).
 Edge = namedtuple("Edge", "u v least limit")
@@ -111,16 +111,44 @@ class Plain:
         events = train.events if train else ()
         return next((event for event in events if (event.label, event.kind) == (call, kind)), None)
 
+    def live_event(self, message):
+        """The event that a message names, or None where it is not there or not live."""
+        event = self.event(message["event"], message["trip"], message["date"], message["call"])
+        return event if event and event.live else None
+
     def take_value(self, message):
         """Report and forecast."""
-        event = self.event(message["event"], message["trip"], message["date"], message["call"])
-        if event is None or not event.live:
+        event = self.live_event(message)
+        if event is None:
             return UNKNOWN
         time = seconds_of(message["time"], event.train.day)
         contradicted = first_contradicted(event, time)
         if contradicted:
             return contradiction(contradicted)
         setattr(event, message["type"], time)
+        return None
+
+    def take_correct(self, message):
+        """The report that is replaced contradicts nothing; where there is none, there is nothing to correct."""
+        event = self.live_event(message)
+        if event is None:
+            return UNKNOWN
+        time = None if message["time"] is None else seconds_of(message["time"], event.train.day)
+        contradicted = time is not None and first_contradicted(event, time, is_replaced=True)
+        if contradicted:
+            return contradiction(contradicted)
+        if event.report is None:
+            return NOTHING
+        event.report = time
+        return None
+
+    def take_withdraw(self, message):
+        event = self.live_event(message)
+        if event is None:
+            return UNKNOWN
+        if event.forecast is None:
+            return NOTHING
+        event.forecast = None
         return None
 
     def stretch(self, message):
@@ -247,7 +275,10 @@ class Plain:
 
     def reply(self, line):
         """The reply to a line, without its number."""
-        return self.taken(json.loads(line))
+        try:
+            return self.taken(read_line(line.encode()))
+        except Bad as bad:
+            return {"bad": str(bad)}
 
     def taken(self, message):
         """The reply to what a line says, without its number."""
@@ -276,6 +307,8 @@ class Plain:
 TAKES = {
     "report": Plain.take_value,
     "forecast": Plain.take_value,
+    "correct": Plain.take_correct,
+    "withdraw": Plain.take_withdraw,
     "cancel": Plain.take_cancel,
     "reroute": Plain.take_reroute,
     "extra": Plain.take_extra,
@@ -316,12 +349,15 @@ def first_reported(events, contradicts=lambda report: True):
     return next((event for event in reported if contradicts(event.report)), None)
 
 
-def first_contradicted(event, time):
-    """The first event, in the order of the train, whose report does not go with this time of an event; or None."""
+def first_contradicted(event, time, is_replaced=False):
+    """The first event, in the order of the train, whose report does not go with this time of an event; or None.
+
+    A report of the event itself does not count where the message replaces it.
+    """
     before = event.train.events[: place_of(event)]
     return (
         first_reported(before, lambda report: report > time)
-        or first_reported([event], lambda report: report != time)
+        or first_reported([] if is_replaced else [event], lambda report: report != time)
         or first_reported(after(event), lambda report: report < time)
     )
 

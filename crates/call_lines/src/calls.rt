@@ -153,10 +153,10 @@ pub(crate) fn values(call: &Call, dep: bool) -> &EventValues
 /// A change of what is known of an event.
 #[derive(Clone, Copy, Debug)]
 pub enum Edit {
-    /// It is expected at a time.
-    Forecast(Time),
-    /// It took place at a time.
-    Report(Time),
+    /// It is expected at a time. None takes back what was expected.
+    Forecast(Option<Time>),
+    /// It took place at a time. None takes back that it did.
+    Report(Option<Time>),
     /// It does not take place.
     Kill,
 }

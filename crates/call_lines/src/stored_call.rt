@@ -49,8 +49,8 @@ impl StoredEvent {
         ensures { values_by self.new ≡ edited edit (values_by self.old) }
     {
         match edit {
-            Edit::Forecast(time) => self.forecast = OptionalTime::new(Some(time)),
-            Edit::Report(time) => self.report = OptionalTime::new(Some(time)),
+            Edit::Forecast(time) => self.forecast = OptionalTime::new(time),
+            Edit::Report(time) => self.report = OptionalTime::new(time),
             Edit::Kill => self.live = false,
         }
     }

@@ -1,5 +1,5 @@
 -- The calls and events of an extra train.
-use Rattle.std.proofs.Common.{rules, ◌≡◌, not, ◌&&◌, nat_le, nat_lt, ℕ, ◌+◌, ◌-◌, ◌≤◌, List, [], ◌∷◌, ◌++◌, Some, None, true, false, length, drop, get_or, refl, sym, ◌∙◌, ap, arith}
+use Rattle.std.proofs.Common.{rules, ◌≡◌, not, ◌&&◌, nat_le, nat_lt, ℕ, ◌+◌, ◌-◌, ◌≤◌, List, [], ◌∷◌, ◌++◌, Option, Some, None, true, false, length, drop, get_or, refl, sym, ◌∙◌, ap, arith}
 use Rattle.std.specs.List.{slice_get, slice_range}
 use Rattle.std.specs.Option.{option_map_or, option_or}
 use Rattle.std.proofs.lemmas.List.{drop_all, drop_more, get_or_default, length-drop, length-take-le}
@@ -7,6 +7,7 @@ use Rattle.std.proofs.lemmas.List.Folds.{drop_split}
 use Rattle.mt_base.specs.declared.options.Opts.{Opts}
 use Rattle.mt_base.specs.declared.new_calls.NewCall.{NewCall}
 use Rattle.delay_model.specs.declared.messages.Message.TheVariants.{Extra}
+use Rattle.delay_model.specs.declared.messages.Refusal.{Refusal}
 use Rattle.delay_model.specs.declared.messages.Refusal.TheVariants.{Known, Unknown}
 use Rattle.delay_model.specs.declared.network.Network.{Network}
 use Rattle.delay_model.specs.declared.state.Train.{Train}
@@ -29,17 +30,24 @@ unfolding effect
 run-of-train st n day route calls e =
     ap (λ x. option_map_or (events_of n) x []) (get-last st.trains (new_train day route calls) n e)
 
+-- nothing comes after too little that is spare
+none-after : (o : Option Refusal) → option_or o None ≡ o
+none-after None = refl
+none-after (Some r) = refl
+
 -- the answer to an extra train with the next number, whose calls are at stops
 pub refusal_of_extra : (nw : Network) (st : State) (n day route : ℕ) (calls : List NewCall) → n ≡ length st.trains → are_at_stops nw calls ≡ true → refusal nw st (Extra n day route calls) ≡ option_or (first_against_rank (edges_along nw.opts (events_at n route (begin_run (end_run (new_calls 0 calls)))))) (shortage st (Extra n day route calls))
 unfolding refusal
 refusal_of_extra nw st n day route calls e stops =
     let m = Extra n day route calls in
-    let rest = option_or (against_rank nw st m) (shortage st m) in
+    let enough = option_or (shortage st m) None in
+    let rest = option_or (against_rank nw st m) enough in
     let may : nat_le n (length st.trains) ≡ true = search rules in
     let new : nat_lt n (length st.trains) ≡ false = search rules in
     ap (λ b. option_or (refused_if (not b) Unknown) (option_or (refused_if (is_known st m) Known) rest)) (ap (λ b. b && are_at_stops nw calls) may ∙ stops)
     ∙ ap (λ b. option_or (refused_if b Known) rest) new
-    ∙ ap (λ es. option_or (first_against_rank (edges_along nw.opts es)) (shortage st m)) (run-of-train st n day route calls e)
+    ∙ ap (λ es. option_or (first_against_rank (edges_along nw.opts es)) enough) (run-of-train st n day route calls e)
+    ∙ ap (option_or (first_against_rank (edges_along nw.opts (events_at n route (begin_run (end_run (new_calls 0 calls))))))) (none-after (shortage st m))
 
 -- the last of new calls
 end-last : (label place : ℕ) (between : List NewCall) (last : NewCall) → place ≡ label + length between → end_run (new_calls label (between ++ last ∷ [])) ≡ new_calls label between ++ change_event true (killed true) (new_call place last) ∷ []

@@ -1,5 +1,5 @@
 -- What a message does to the state. All that is not named here stays.
-use Rattle.std.specs.Prelude.{ℕ, zero, suc, ◌+◌, ◌-◌, List, [], ◌∷◌, ◌++◌, Bool, true, false, ◌||◌, not, nat_eq, if◌then◌else◌, Some, None, map, length, is_some}
+use Rattle.std.specs.Prelude.{ℕ, zero, suc, ◌+◌, ◌-◌, List, [], ◌∷◌, ◌++◌, Bool, true, false, ◌||◌, not, nat_eq, if◌then◌else◌, Option, Some, None, map, length, is_some}
 use Rattle.std.specs.List.{list_any}
 use Rattle.std.specs.FinMap.{get, insert, remove, retain_keys, len}
 use Rattle.mt_base.specs.declared.keys.Node.{Node}
@@ -8,7 +8,7 @@ use Rattle.delay_model.specs.declared.overrides.Connection.{Connection}
 use Rattle.delay_model.specs.declared.overrides.Override.{Override}
 use Rattle.delay_model.specs.declared.overrides.Override.TheVariants.{Keep as Kept, Drop as Dropped}
 use Rattle.delay_model.specs.declared.messages.Message.{Message}
-use Rattle.delay_model.specs.declared.messages.Message.TheVariants.{Report, Forecast, Cancel, Reroute, Extra, Keep, Drop, Rule}
+use Rattle.delay_model.specs.declared.messages.Message.TheVariants.{Report, Forecast, Correct, Withdraw, Cancel, Reroute, Extra, Keep, Drop, Rule}
 use Rattle.delay_model.specs.declared.state.EventValues.{EventValues}
 use Rattle.delay_model.specs.declared.state.Call.{Call}
 use Rattle.delay_model.specs.declared.state.Train.{Train}
@@ -51,11 +51,13 @@ with_event n f st =
           (change_calls (map (change_labelled n.label (change_event n.dep f)))) st.trains;
     }
 
-abbrev pub reported : ℕ → EventValues → EventValues
-reported t e = record e { report = Some t }
+-- an event with this report, or none
+abbrev pub with_report : Option ℕ → EventValues → EventValues
+with_report r e = record e { report = r }
 
-abbrev pub forecasted : ℕ → EventValues → EventValues
-forecasted t e = record e { forecast = Some t }
+-- an event with this forecast, or none
+abbrev pub with_forecast : Option ℕ → EventValues → EventValues
+with_forecast f e = record e { forecast = f }
 
 -- the events of a train from the departure of one call to the arrival of a later one
 abbrev pub stretch : State → ℕ → ℕ → ℕ → List Event
@@ -173,8 +175,10 @@ events_between st train from to =
 
 -- the state after a message
 unfoldable pub effect : State → Message → State
-effect st (Report n t) = with_event n (reported t) st
-effect st (Forecast n t) = with_event n (forecasted t) st
+effect st (Report n t) = with_event n (with_report (Some t)) st
+effect st (Forecast n t) = with_event n (with_forecast (Some t)) st
+effect st (Correct n o) = with_event n (with_report o) st
+effect st (Withdraw n) = with_event n (with_forecast None) st
 effect st (Cancel train from to) =
     let es = stretch st train from to in
     without_overrides_of es (record st {

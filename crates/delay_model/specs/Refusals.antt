@@ -8,9 +8,9 @@ use Rattle.mt_base.specs.Order.{node_of, is_before}
 use Rattle.delay_model.specs.declared.network.Network.{Network}
 use Rattle.delay_model.specs.declared.overrides.Override.TheVariants.{Keep as Kept}
 use Rattle.delay_model.specs.declared.messages.Message.{Message}
-use Rattle.delay_model.specs.declared.messages.Message.TheVariants.{Report, Forecast, Cancel, Reroute, Extra, Keep, Drop, Rule}
+use Rattle.delay_model.specs.declared.messages.Message.TheVariants.{Report, Forecast, Correct, Withdraw, Cancel, Reroute, Extra, Keep, Drop, Rule}
 use Rattle.delay_model.specs.declared.messages.Refusal.{Refusal}
-use Rattle.delay_model.specs.declared.messages.Refusal.TheVariants.{Unknown, Known, NoConnection, Contradiction, AgainstRank, Full}
+use Rattle.delay_model.specs.declared.messages.Refusal.TheVariants.{Unknown, Known, NoConnection, Contradiction, AgainstRank, Full, Nothing}
 use Rattle.delay_model.specs.declared.messages.Short.TheVariants.{Trains, Calls, Overrides}
 use Rattle.delay_model.specs.declared.state.Call.{Call}
 use Rattle.delay_model.specs.declared.state.State.{State}
@@ -44,6 +44,8 @@ are_at_stops nw calls = list_all (λ (c : NewCall). is_stop nw.stops c.stop) cal
 abbrev pub is_unknown : Network → State → Message → Bool
 is_unknown nw st (Report n t) = not (is_live st n)
 is_unknown nw st (Forecast n t) = not (is_live st n)
+is_unknown nw st (Correct n o) = not (is_live st n)
+is_unknown nw st (Withdraw n) = not (is_live st n)
 is_unknown nw st (Cancel train from to) = not (stands_before from to (calls_of st train))
 is_unknown nw st (Reroute train from to via) =
     not (stands_before from to (calls_of st train)
@@ -84,13 +86,13 @@ first_reported p (v ∷ vs) =
     option_or (option_and_then (λ r. refused_if (p r) (Contradiction (node_of v.key) r))
     (live_report v)) (first_reported p vs)
 
--- the report of another event that a report or forecast of event n at time t contradicts, or
--- another report of n: an earlier event reported after t, n at another time, a later event reported
--- before t
-abbrev pub contradicted_at : ℕ → Node → List Event → Option Refusal
-contradicted_at t n es =
+-- the report of another event that event n at time t contradicts, or another report of n where the
+-- message does not replace it: an earlier event reported after t, n at another time, a later event
+-- reported before t
+abbrev pub contradicted_at : Bool → ℕ → Node → List Event → Option Refusal
+contradicted_at replaces t n es =
     option_or (first_reported (λ r. nat_lt t r) (before (is_event n) es))
-    (option_or (option_and_then (λ v. first_reported (λ r. not (nat_eq r t)) (v ∷ []))
+    (option_or (option_and_then (λ v. first_reported (λ r. not (replaces || nat_eq r t)) (v ∷ []))
     (find (is_event n) es))
     (first_reported (λ r. nat_lt r t) (after (is_event n) es)))
 
@@ -104,8 +106,11 @@ itself_reported st n = option_and_then (λ v. any_reported (v ∷ [])) (event_na
 
 -- the first event in the train's order whose report the message contradicts
 abbrev pub contradiction : State → Message → Option Refusal
-contradiction st (Report n t) = contradicted_at t n (train_events st n.train)
-contradiction st (Forecast n t) = contradicted_at t n (train_events st n.train)
+contradiction st (Report n t) = contradicted_at false t n (train_events st n.train)
+contradiction st (Forecast n t) = contradicted_at false t n (train_events st n.train)
+contradiction st (Correct n o) =
+    option_and_then (λ t. contradicted_at true t n (train_events st n.train)) o
+contradiction st (Withdraw n) = None
 contradiction st (Cancel train from to) = any_reported (stretch st train from to)
 contradiction st (Reroute train from to via) =
     any_reported (after (is_event (node_at train from true)) (train_events st train))
@@ -159,6 +164,16 @@ shortage st (Keep feeder train) = overrides_short st feeder train
 shortage st (Drop feeder train) = overrides_short st feeder train
 shortage st _ = None
 
+-- the event of this name has no such value
+abbrev pub lacks : (Event → Option ℕ) → State → Node → Bool
+lacks value st n = is_none (option_and_then value (event_named st n))
+
+-- there is no report to correct, or no forecast to withdraw
+abbrev pub has_nothing : State → Message → Bool
+has_nothing st (Correct n o) = lacks (λ v. v.report) st n
+has_nothing st (Withdraw n) = lacks (λ v. v.forecast) st n
+has_nothing st _ = false
+
 -- none of the causes holds that come before the order of keys
 pub record ComesToRank (nw : Network) (st : State) (m : Message) : Type 0 where
   pub known : is_unknown nw st m ≡ false
@@ -174,4 +189,5 @@ refusal nw st m =
     (option_or (refused_if (has_no_connection nw st m) NoConnection)
     (option_or (contradiction st m)
     (option_or (against_rank nw st m)
-    (shortage st m)))))
+    (option_or (shortage st m)
+    (refused_if (has_nothing st m) Nothing))))))

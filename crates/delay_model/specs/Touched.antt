@@ -7,7 +7,7 @@ use Rattle.mt_base.specs.declared.new_calls.NewCall.{NewCall}
 use Rattle.mt_base.specs.Order.{is_same, node_of, is_same_node}
 use Rattle.delay_model.specs.declared.network.Network.{Network}
 use Rattle.delay_model.specs.declared.messages.Message.{Message}
-use Rattle.delay_model.specs.declared.messages.Message.TheVariants.{Report, Forecast, Cancel, Reroute, Extra, Keep, Drop, Rule}
+use Rattle.delay_model.specs.declared.messages.Message.TheVariants.{Report, Forecast, Correct, Withdraw, Cancel, Reroute, Extra, Keep, Drop, Rule}
 use Rattle.delay_model.specs.declared.state.State.{State}
 use Rattle.delay_model.specs.declared.state.Event.{Event}
 use Rattle.delay_model.specs.declared.state.Edge.{Edge}
@@ -60,15 +60,21 @@ abbrev pub new_events : State → ℕ → List NewCall → List Event
 new_events st train via =
     of_train st train (λ t. events_at train t.route (new_calls t.next_label via))
 
--- the events that a message bears on by itself. Of a report: the event, and the live events of the
--- train before it back to the last reported one, that one excluded, since the report caps them. Of
--- a rerouting: the new events and the arrival that they lead to. Of a kept, dropped or freed
--- connection: the departure
-abbrev pub named : State → Message → List Node
-named st (Report n t) =
+-- an event, and the live events of its train before it back to the last reported one, that one
+-- excluded: those that a report of the event caps
+abbrev pub capped_by : State → Node → List Node
+capped_by st n =
     names_of (live_events (since_report (before (is_event n) (train_events st n.train))))
     ++ (n ∷ [])
+
+-- the events that a message bears on by itself. Of a report and its correction: the event, and
+-- those that the report caps. Of a forecast and its withdrawal: the event. Of a rerouting: the new
+-- events and the arrival that they lead to. Of a kept, dropped or freed connection: the departure
+abbrev pub named : State → Message → List Node
+named st (Report n t) = capped_by st n
 named st (Forecast n t) = n ∷ []
+named st (Correct n o) = capped_by st n
+named st (Withdraw n) = n ∷ []
 named st (Cancel train from to) = []
 named st (Reroute train from to via) = names_of (new_events st train via)
     ++ (node_at train to false ∷ [])

@@ -22,6 +22,18 @@ pub enum Message {
         /// When it is expected.
         time: Time,
     },
+    /// The event took place at this time, and not when its report says. None takes the report back.
+    Correct {
+        /// The event.
+        node: Node,
+        /// When it took place.
+        time: Option<Time>,
+    },
+    /// The forecast of the event is taken back.
+    Withdraw {
+        /// The event.
+        node: Node,
+    },
     /// The train does not run from the departure of one call to the arrival of a later one.
     Cancel {
         /// The train.
@@ -105,4 +117,6 @@ pub enum Refusal {
     AgainstRank { from: Node, to: Node },
     /// Too little is spare.
     Full { what: Short },
+    /// The event has no report to correct, or no forecast to withdraw.
+    Nothing,
 }

@@ -88,6 +88,7 @@ refusal_object names line (refusals.Contradiction event reported) =
 refusal_object names line (refusals.AgainstRank from to) =
     rank_object line (event_object names from) (event_object names to)
 refusal_object names line (refusals.Full what) = full_object line what
+refusal_object names line refusals.Nothing = plain_refusal line (codes "Nothing")
 
 -- an extra train that is refused since an edge of it runs against the order of keys. It has no
 -- number, so its trip and its service day are told

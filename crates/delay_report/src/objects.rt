@@ -177,6 +177,7 @@ pub(crate) fn refusal_value(
             rank_value(alloc, line, from, to)
         }
         Refusal::Full { what } => full_value(alloc, line, *what),
+        Refusal::Nothing => plain_value(alloc, line, "Nothing"),
     }
 }
 

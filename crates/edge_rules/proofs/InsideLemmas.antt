@@ -1,11 +1,11 @@
 -- What holds of a graph after its trains and their index were changed.
-use Rattle.edge_rules.proofs.Words.{map-id, seen, put_in, taken_out, forecasted, reported, All-push, append-nil, are_at_stops, change_event, change_labelled, elements, stands_before, same_entry-is, Contains-permutation, IsPermutation-append_comm, IsPermutation-append_left, IsPermutation-middle, IsAtStop, events_from, drop, ◌≡◌, ℕ, ◌+◌, ◌-◌, ◌*◌, ◌≤◌, true, List, [], ◌∷◌, ◌++◌, map, length, refl, ap, append_assoc, arith, All, IsPermutation, IsPermutation-sym, IsPermutation-trans, IsPermutation-append_right, NewCall, Node, EventValues, Event, State, Cancel, Reroute, Extra, effect, events, events_at, events_between, train_events, calls_of, stretch, begin_run, end_run, new_calls, new_train, with_event, Indexed, AreNew, AreThere, AreAtStops, HasOwnLabels, IsConsistent, Inside, entries_of, entry_of, new_entries, with_entries, without_entries, GraphState, Entry, events_of, Bool, not, filter, sym, ◌≢◌, All-contains, All-map, AllPairs, AllPairs-after, AllPairs-tail, Contains-append_right, same_entry-itself, is_same_entry, live_events, length-append, is_call, rerouted}
+use Rattle.edge_rules.proofs.Words.{Option, map-id, seen, put_in, taken_out, with_forecast, with_report, All-push, append-nil, are_at_stops, change_event, change_labelled, elements, stands_before, same_entry-is, Contains-permutation, IsPermutation-append_comm, IsPermutation-append_left, IsPermutation-middle, IsAtStop, events_from, drop, ◌≡◌, ℕ, ◌+◌, ◌-◌, ◌*◌, ◌≤◌, true, List, [], ◌∷◌, ◌++◌, map, length, refl, ap, append_assoc, arith, All, IsPermutation, IsPermutation-sym, IsPermutation-trans, IsPermutation-append_right, NewCall, Node, EventValues, Event, State, Cancel, Reroute, Extra, effect, events, events_at, events_between, train_events, calls_of, stretch, begin_run, end_run, new_calls, new_train, with_event, Indexed, AreNew, AreThere, AreAtStops, HasOwnLabels, IsConsistent, Inside, entries_of, entry_of, new_entries, with_entries, without_entries, GraphState, Entry, events_of, Bool, not, filter, sym, ◌≢◌, All-contains, All-map, AllPairs, AllPairs-after, AllPairs-tail, Contains-append_right, same_entry-itself, is_same_entry, live_events, length-append, is_call, rerouted}
 use Rattle.station_index.proofs.OrderLemmas.{with-moves}
 use Rattle.state_laws.proofs.Extras.{events-push, get-push}
 use Rattle.state_laws.proofs.Mappings.{mapping-events}
 use Rattle.state_laws.proofs.Settings.{set-mapping}
 use Rattle.state_laws.proofs.Stretches.{All-from, All-up_to}
-use Rattle.state_laws.proofs.Values.{IsSetting, put_forecast, put_report, set-shape, set_at, with_values}
+use Rattle.state_laws.proofs.Values.{IsSetting, put_forecast, put_report, sets-forecast, sets-report, set-shape, set_at, with_values}
 use Rattle.edge_rules.proofs.PieceLemmas.{pieces-permuted}
 use Rattle.edge_rules.proofs.Reordered.{pairs-permuted}
 use Rattle.edge_rules.proofs.TransferLemmas.{filter-pieces, filter-whole}
@@ -72,11 +72,11 @@ module _ {a : Inside} (h : IsConsistent a) where
       let stops = map-stops a.changes.stops n.train (change_labelled n.label (change_event n.dep f)) (λ c. grind arith) a.trains.trains h.at_stops in
       grind (arith, stops, mapping-events a.trains (with_event n f a.trains) n.train _ (set_at n k) (set-mapping a.trains n f k s), same-entries (set_at n k) (set-shape n f k s) (events a.trains))
 
-  pub forecast_keeps : (n : Node) (t : ℕ) (st : State) → st ≡ with_event n (forecasted t) a.trains → All HasOwnLabels st.trains → IsConsistent (record a { trains = st })
-  forecast_keeps n t st is labels = rw is (set-keeps n (forecasted t) (put_forecast t) (record { by = λ train route label stop dep e. refl; shape = λ v. refl }) (rw is at labels))
+  pub forecast_keeps : (n : Node) (o : Option ℕ) (st : State) → st ≡ with_event n (with_forecast o) a.trains → All HasOwnLabels st.trains → IsConsistent (record a { trains = st })
+  forecast_keeps n o st is labels = rw is (set-keeps n (with_forecast o) (put_forecast o) (sets-forecast o) (rw is at labels))
 
-  pub report_keeps : (n : Node) (t : ℕ) (st : State) → st ≡ with_event n (reported t) a.trains → All HasOwnLabels st.trains → IsConsistent (record a { trains = st })
-  report_keeps n t st is labels = rw is (set-keeps n (reported t) (put_report t) (record { by = λ train route label stop dep e. refl; shape = λ v. refl }) (rw is at labels))
+  pub report_keeps : (n : Node) (o : Option ℕ) (st : State) → st ≡ with_event n (with_report o) a.trains → All HasOwnLabels st.trains → IsConsistent (record a { trains = st })
+  report_keeps n o st is labels = rw is (set-keeps n (with_report o) (put_report o) (sets-report o) (rw is at labels))
 
   -- the events that others stand in place of have entries, and the others are left
   left : {new out put : List Event} (x : IsExchange (events a.trains) new out put) → AreThere (entries_of out) a.index × IsPermutation (entries_of (x.front ++ x.back)) (without_entries (entries_of out) a.index).entries × ((without_entries (entries_of out) a.index).spare ≡ a.index.spare)

@@ -30,7 +30,7 @@ pub use Rattle.mt_base.specs.declared.tables.StopRow.{StopRow}
 pub use Rattle.state_laws.proofs.Choices.{found-there}
 pub use Rattle.state_laws.proofs.Parts.{All-left, All-right, events-from_each, trains-each, transfers-each}
 pub use Rattle.state_laws.proofs.Splits.{events_at-append as events-append}
-pub use Rattle.state_laws.proofs.Words.{All-contains_itself, All-flat_map, All-map, All-push, AllPairs-after, AllPairs-nil, AllPairs-tail, Call, Cancel, Edge, Event, EventValues, Extra, Key, Less, Network, NewCall, Node, Opts, Override, Reroute, State, Train, after, append-nil, are_at_stops, before, begin_run, calls_of, capped, change_calls, change_event, change_labelled, change_train, common_steps, connection, elements, end_run, event_named, events_at, events_between, events_from, events_of, false_from_ne_true, forecasted, is_call, is_event, kill_in, later, length-append, live_events, new_calls, new_train, node_at, option_map, option_map_or, reported, rerouted, same-is, same-itself, same_node-is, same_node-itself, slice_get_within, stands_before, stretch, train_events, up_to, with_event, ◌≢◌}
+pub use Rattle.state_laws.proofs.Words.{All-contains_itself, All-flat_map, All-map, All-push, AllPairs-after, AllPairs-nil, AllPairs-tail, Call, Cancel, Edge, Event, EventValues, Extra, Key, Less, Network, NewCall, Node, Opts, Override, Reroute, State, Train, after, append-nil, are_at_stops, before, begin_run, calls_of, capped, change_calls, change_event, change_labelled, change_train, common_steps, connection, elements, end_run, event_named, events_at, events_between, events_from, events_of, false_from_ne_true, with_forecast, is_call, is_event, kill_in, later, length-append, live_events, new_calls, new_train, node_at, option_map, option_map_or, with_report, rerouted, same-is, same-itself, same_node-is, same_node-itself, slice_get_within, stands_before, stretch, train_events, up_to, with_event, ◌≢◌}
 unfoldable pub use Rattle.state_laws.proofs.Words.{edges, effect, events, incoming, is_same_node, transfer}
 pub use Rattle.station_index.proofs.EntryLemmas.{same_entry-is, same_entry-itself}
 pub use Rattle.station_index.specs.Indexed.{Indexed, is_in_range, is_same_entry}

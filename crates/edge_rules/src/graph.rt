@@ -13,8 +13,7 @@ ghost use Rattle.delay_model.specs.declared.state.Event.{Event as AnEvent};
 ghost use Rattle.delay_model.specs.Edges.{DifferInEnds, edge_on, override_of, transfer};
 ghost use Rattle.delay_model.specs.Edges.{wait_between};
 ghost use Rattle.delay_model.specs.declared.overrides.Override.TheVariants as overrides;
-ghost use Rattle.delay_model.specs.Effect.{effect, with_event, forecasted, reported, has_override};
-ghost use Rattle.delay_model.specs.Effect.{with_override, without_override};
+ghost use Rattle.delay_model.specs.Effect.{effect};
 ghost use Rattle.delay_model.specs.Events.{calls_of, event_named, is_live};
 ghost use Rattle.delay_model.specs.Overrides.{connection};
 ghost use Rattle.delay_model.specs.Refusals.{are_at_stops, stands_before};
@@ -58,7 +57,7 @@ use waiting_rules::{WaitClass, Waits};
 /// options, from which the edges at an event are found.
 #[derive(Drop)]
 pub struct Graph {
-    trains: Trains,
+    pub(crate) trains: Trains,
     index: StationIndex,
     changes: Changes,
     waits: Waits,
@@ -223,42 +222,6 @@ impl Graph {
         let along = self.later_along(&at, floor(&at), times, steps);
         let time = self.later_by_transfers(&at, along, times, steps);
         by_reports(trains, &at, time)
-    }
-
-    /// Sets the forecast of an event, in seconds from the base of day 0.
-    pub fn set_forecast(&mut self, n: Node, t: Time)
-        requires { IsTrue (is_live self.old.state n) }
-        ensures { self.new ≡ with_state (with_event n (forecasted t) self.old.state) self.old }
-    {
-        self.trains.set_forecast(n, t);
-        self.trains.labels_are_distinct();
-    }
-
-    /// Sets the report of an event, in seconds from the base of day 0.
-    pub fn set_report(&mut self, n: Node, t: Time)
-        requires { IsTrue (is_live self.old.state n) }
-        ensures { self.new ≡ with_state (with_event n (reported t) self.old.state) self.old }
-    {
-        self.trains.set_report(n, t);
-        self.trains.labels_are_distinct();
-    }
-
-    /// Keeps or drops a connection, in place of what was chosen before. It takes no memory.
-    pub fn set_override(&mut self, feeder: Node, train: Node, choice: Override)
-        requires spare { has_override self.old.state (connection feeder train) ≡ false
-            → 0 < self.old.state.spare_overrides }
-        ensures { self.new ≡ with_state
-            (with_override (connection feeder train) choice self.old.state) self.old }
-    {
-        self.trains.set_override(feeder, train, choice);
-    }
-
-    /// Takes back what was chosen for a connection.
-    pub fn clear_override(&mut self, feeder: Node, train: Node)
-        ensures { self.new ≡ with_state
-            (without_override (connection feeder train) self.old.state) self.old }
-    {
-        self.trains.clear_override(feeder, train);
     }
 
     /// A train does not run from the departure of one call to the arrival of a later one, and what

@@ -8,6 +8,7 @@ mod along;
 mod connections;
 mod copies;
 pub mod edges;
+mod edits;
 pub mod graph;
 mod indexing;
 mod rule;

@@ -1,11 +1,12 @@
-//! Reports and forecasts.
+//! Reports and forecasts: those that are given, and those that are mended or taken back.
 
-ghost use Rattle.std.specs.Prelude.{◌≡◌, [], ◌∷◌, None, not};
-ghost use Rattle.std.specs.Option.{option_or};
-ghost use Rattle.delay_model.specs.declared.messages.Refusal.TheVariants.{Unknown};
+ghost use Rattle.std.specs.Prelude.{◌≡◌, [], ◌∷◌, None, IsTrue, OnOk, is_none, not, true};
+ghost use Rattle.std.specs.Option.{option_and_then, option_or};
+ghost use Rattle.delay_model.specs.declared.messages.Message.{Message as AMessage};
+ghost use Rattle.delay_model.specs.declared.messages.Refusal.TheVariants.{Nothing, Unknown};
 ghost use Rattle.delay_model.specs.Effect.{effect};
 ghost use Rattle.delay_model.specs.Events.{is_live, train_events};
-ghost use Rattle.delay_model.specs.Refusals.{refusal, refused_if, first_reported, contradicted_at};
+ghost use Rattle.delay_model.specs.Refusals.{refusal, refused_if, first_reported, contradicted_at, has_nothing};
 ghost use Rattle.train_nodes.specs.Kinds.{message_of_value};
 ghost use Rattle.graph_edit.specs.Values.{Gives, contradicts};
 
@@ -17,38 +18,92 @@ use mt_base::numbers::Time;
 use std::cmp::Ordering;
 use train_nodes::kinds::{Value, ValueKind};
 
-/// Whether a report or a forecast is accepted, or why it is refused.
-#[tactic(auto, using(crate::proofs::ValueLemmas::refusal_of_value))]
+/// Whether a message about the report or the forecast of an event is accepted, or why it is
+/// refused.
+#[tactic(auto, using(crate::proofs::ValueLemmas::refused_event, crate::proofs::ValueLemmas::refused_correction, crate::proofs::ValueLemmas::refused_withdrawal))]
 pub fn check_value(g: &Graph, v: &Value) -> Result<(), Refusal>
     ensures { Gives result (refusal g.now.network g.now.state (message_of_value v.now)) }
 {
-    check_time(g, &v.node, v.time)
+    check_live(g, &v.node())?;
+    match v {
+        Value::Event { node, time, .. } => check_time(g, node, *time, false),
+        Value::Correct { node, time } => check_correction(g, node, *time),
+        Value::Withdraw { node } => check_withdrawal(g, node),
+    }
 }
 
-/// Changes the graph as an accepted report or forecast says.
-#[tactic(auto, unfolding(delay_model::specs::Effect::effect, delay_model::specs::Refusals::refusal), using(crate::proofs::ValueLemmas::known))]
+/// Changes the graph as an accepted message about the report or the forecast of an event says.
+#[tactic(auto, unfolding(delay_model::specs::Effect::effect), using(crate::proofs::ValueLemmas::known))]
 pub fn apply_value(g: &mut Graph, v: &Value)
     requires accepted { refusal g.old.network g.old.state (message_of_value v.now) ≡ None }
     ensures effect { g.new ≡ record g.old { state = effect g.old.state (message_of_value v.now) } }
 {
-    match v.kind {
-        ValueKind::Report => g.set_report(v.node, v.time),
-        ValueKind::Forecast => g.set_forecast(v.node, v.time),
+    match *v {
+        Value::Event { kind, node, time } => match kind {
+            ValueKind::Report => g.set_report(node, time),
+            ValueKind::Forecast => g.set_forecast(node, time),
+        },
+        Value::Correct { node, time } => match time {
+            Some(time) => g.set_report(node, time),
+            None => g.clear_report(node),
+        },
+        Value::Withdraw { node } => g.clear_forecast(node),
     }
 }
 
-/// Whether an event may be given this time: it is live, and no report of its train contradicts it.
-/// The first that does, in the train's order, is shown.
-fn check_time(g: &Graph, n: &Node, t: Time) -> Result<(), Refusal>
-    ensures { Gives result (option_or (refused_if (not (is_live g.now.state n.now)) Unknown)
-        (contradicted_at t n.now (train_events g.now.state n.now.train))) }
+/// Whether an event is live.
+fn check_live(g: &Graph, n: &Node) -> Result<(), Refusal>
+    ensures refused { Gives result (refused_if (not (is_live g.now.state n.now)) Unknown) }
+    ensures live { OnOk result (IsTrue (is_live g.now.state n.now)) }
 {
-    let trains = g.trains();
-    if !trains.live(*n) {
-        return Err(Refusal::Unknown);
+    if g.trains().live(*n) {
+        Ok(())
+    } else {
+        Err(Refusal::Unknown)
     }
+}
+
+/// Whether the report of a live event may be corrected so: no other report of its train contradicts
+/// the new time, and there is a report.
+fn check_correction(g: &Graph, n: &Node, time: Option<Time>) -> Result<(), Refusal>
+    requires live { IsTrue (is_live g.now.state n.now) }
+    ensures { Gives result (option_or (option_and_then
+        (λ t. contradicted_at true t n.now (train_events g.now.state n.now.train)) time)
+        (refused_if (has_nothing g.now.state (AMessage.Correct n.now time)) Nothing)) }
+{
+    if let Some(t) = time {
+        check_time(g, n, t, true)?;
+    }
+    check_value_there(g.trains().report(*n))
+}
+
+/// Whether the forecast of a live event may be taken back: there is one.
+fn check_withdrawal(g: &Graph, n: &Node) -> Result<(), Refusal>
+    requires live { IsTrue (is_live g.now.state n.now) }
+    ensures { Gives result
+        (refused_if (has_nothing g.now.state (AMessage.Withdraw n.now)) Nothing) }
+{
+    check_value_there(g.trains().forecast(*n))
+}
+
+/// Whether there is a report to correct or a forecast to withdraw.
+fn check_value_there(value: Option<Time>) -> Result<(), Refusal>
+    ensures { Gives result (refused_if (is_none value) Nothing) }
+{
+    match value {
+        Some(_) => Ok(()),
+        None => Err(Refusal::Nothing),
+    }
+}
+
+/// Whether a live event may have this time: no report of its train contradicts it, where its own
+/// report counts unless it is replaced. The first that does, in the train's order, is shown.
+fn check_time(g: &Graph, n: &Node, t: Time, replaces: bool) -> Result<(), Refusal>
+    ensures { Gives result
+        (contradicted_at replaces t n.now (train_events g.now.state n.now.train)) }
+{
     let mut passed = false;
-    for event in trains.events(n.train) {
+    for event in g.trains().events(n.train) {
         let place = if passed {
             Ordering::Greater
         } else if event.key.node().is_same(n) {
@@ -56,7 +111,7 @@ fn check_time(g: &Graph, n: &Node, t: Time) -> Result<(), Refusal>
         } else {
             Ordering::Less
         };
-        check_report(&event, place, t)?;
+        check_report(&event, place, t, replaces)?;
         passed = place.is_ge();
     }
     Ok(())
@@ -64,16 +119,16 @@ fn check_time(g: &Graph, n: &Node, t: Time) -> Result<(), Refusal>
 
 /// Whether the report of an event, if it is live and has one, leaves room for this time of an event
 /// of the same train. `place` says where the reported event stands: before that one, at it, or
-/// behind it.
-fn check_report(event: &Event, place: Ordering, t: Time) -> Result<(), Refusal>
-    ensures { Gives result (first_reported (contradicts place t) (event.now ∷ [])) }
+/// behind it. At it the report counts unless it is replaced.
+fn check_report(event: &Event, place: Ordering, t: Time, replaces: bool) -> Result<(), Refusal>
+    ensures { Gives result (first_reported (contradicts replaces place t) (event.now ∷ [])) }
 {
     let Some(reported) = event.report else {
         return Ok(());
     };
     let contradicted = match place {
         Ordering::Less => t < reported,
-        Ordering::Equal => reported != t,
+        Ordering::Equal => !replaces && reported != t,
         Ordering::Greater => reported < t,
     };
     if !event.live || !contradicted {

@@ -8,13 +8,13 @@ use Rattle.delay_model.specs.declared.messages.Refusal.TheVariants.{Known, Unkno
 use Rattle.delay_model.specs.After.{after_messages}
 use Rattle.delay_model.specs.Effect.{effect}
 use Rattle.message_reader.specs.Chain.{◌>>=◌, need, unless}
-use Rattle.message_reader.specs.Resolved.{event_resolved, cancel_resolved, reroute_resolved, extra_resolved, connect_resolved, connect_message, new_calls, node_named, train_on}
+use Rattle.message_reader.specs.Resolved.{event_resolved, correct_resolved, withdraw_resolved, cancel_resolved, reroute_resolved, extra_resolved, connect_resolved, connect_message, new_calls, node_named, train_on}
 use Rattle.train_nodes.specs.Kinds.{message_by_kind}
 use Rattle.train_nodes.specs.declared.kinds.ValueKind.{ValueKind}
 use Rattle.train_nodes.specs.declared.kinds.ValueKind.TheVariants as values
 use Rattle.message_reader.specs.declared.wire.Connect.{Connect as AConnect}
 use Rattle.message_reader.specs.declared.wire.Connect.TheVariants as connects
-use Rattle.message_reader.specs.declared.wire.Wire.TheVariants.{Event, Cancel, Reroute, Extra, Connect}
+use Rattle.message_reader.specs.declared.wire.Wire.TheVariants.{Event, Correct, Withdraw, Cancel, Reroute, Extra, Connect}
 use Rattle.message_reader.specs.declared.wire.WireCall.{WireCall}
 use Rattle.schedule_build.proofs.InStepLemmas.{message-in_step, extra-next}
 use Rattle.schedule_build.specs.Directory.{day_named, train_named, route_named}
@@ -71,6 +71,12 @@ of-event : (names : Names) (st : State) (kind : ValueKind) (n : Node) (t : ℕ) 
 of-event names st values.Report n t m h is = rw is (message-in_step names st [] (messages.Report n t) h tt)
 of-event names st values.Forecast n t m h is = rw is (message-in_step names st [] (messages.Forecast n t) h tt)
 
+of-correct : (names : Names) (st : State) (n : Node) (o : Option ℕ) (m : Message) → AreInStep names st → m ≡ messages.Correct n o → AreInStep names (effect st m)
+of-correct names st n o m h is = rw is (message-in_step names st [] (messages.Correct n o) h tt)
+
+of-withdraw : (names : Names) (st : State) (n : Node) (m : Message) → AreInStep names st → m ≡ messages.Withdraw n → AreInStep names (effect st m)
+of-withdraw names st n m h is = rw is (message-in_step names st [] (messages.Withdraw n) h tt)
+
 of-connect : (names : Names) (st : State) (kind : AConnect) (feeder train : Node) (m : Message) → AreInStep names st → m ≡ connect_message kind feeder train → AreInStep names (effect st m)
 of-connect names st connects.Keep feeder train m h is = rw is (message-in_step names st [] (messages.Keep feeder train) h tt)
 of-connect names st connects.Drop feeder train m h is = rw is (message-in_step names st [] (messages.Drop feeder train) h tt)
@@ -78,10 +84,16 @@ of-connect names st connects.Rule feeder train m h is = rw is (message-in_step n
 
 -- each message keeps names and trains in step
 pub stays-in_step : (names : Names) (st : State) (w : Wire) (m : Message) → AreInStep names st → resolved names w ≡ Ok m → AreInStep (names_with names w) (effect st m)
-unfolding resolved event_resolved cancel_resolved reroute_resolved connect_resolved
+unfolding resolved event_resolved correct_resolved withdraw_resolved cancel_resolved reroute_resolved connect_resolved
 stays-in_step names st (Event kind trip date call dep secs) m h is =
     let a = ends-well (train_on names trip date) _ m is in
     of-event names st kind _ _ m h (value-is _ m a.rest_is)
+stays-in_step names st (Correct trip date call dep secs) m h is =
+    let a = ends-well (train_on names trip date) _ m is in
+    of-correct names st _ _ m h (value-is _ m a.rest_is)
+stays-in_step names st (Withdraw trip date call dep) m h is =
+    let a = ends-well (train_on names trip date) _ m is in
+    of-withdraw names st _ m h (value-is _ m a.rest_is)
 stays-in_step names st (Cancel trip date from to) m h is =
     let a = ends-well (train_on names trip date) _ m is in
     let cancel : m ≡ messages.Cancel a.value.train from to = grind (arith, a.rest_is) in
@@ -104,6 +116,8 @@ stays-in_step names st (Connect kind feeder train) m h is =
 pub can-be-added : (nw : Network) (names : Names) (st : State) (w : Wire) (m : Message) → AreInStep names st → resolved names w ≡ Ok m → refusal nw st m ≡ None → IfSome (added_name names w) (CanBeAdded names)
 unfolding resolved
 can-be-added nw names st (Event kind trip date call dep secs) m h is accepted = tt
+can-be-added nw names st (Correct trip date call dep secs) m h is accepted = tt
+can-be-added nw names st (Withdraw trip date call dep) m h is accepted = tt
 can-be-added nw names st (Cancel trip date from to) m h is accepted = tt
 can-be-added nw names st (Reroute trip date from to via) m h is accepted = tt
 can-be-added nw names st (Extra trip date route calls) m h is accepted =

@@ -291,6 +291,53 @@ fn a_rerouted_train(rt: HostRuntime) -> Result<(), Fail> {
     Ok(())
 }
 
+/// Removes the report of an event, if it is live.
+fn take_back(trains: &mut Trains, n: &Node) {
+    if trains.live(*n) {
+        trains.clear_report(*n);
+    }
+}
+
+/// The same of the forecast.
+fn withdraw(trains: &mut Trains, n: &Node) {
+    if trains.live(*n) {
+        trains.clear_forecast(*n);
+    }
+}
+
+/// The rerouted train, expected and reported at a new call, and reported at its last one.
+fn reported_twice(alloc: Global) -> Result<Trains, OutOfMemory> {
+    let mut trains = rerouted(alloc)?;
+    forecast(&mut trains, &node(0, 4, false), 620);
+    report(&mut trains, &node(0, 4, false), 630);
+    report(&mut trains, &node(0, 1, false), 960);
+    Ok(trains)
+}
+
+/// The same train, of whose new call both are removed.
+fn reported_once(alloc: Global) -> Result<Trains, OutOfMemory> {
+    let mut trains = reported_twice(alloc)?;
+    take_back(&mut trains, &node(0, 4, false));
+    withdraw(&mut trains, &node(0, 4, false));
+    Ok(trains)
+}
+
+/// What is known of its events.
+const REPORTED_ONCE: [(u32, bool, Known); 2] = [
+    (4, false, Some((true, 600, None, None))),
+    (1, false, Some((true, 900, None, Some(960)))),
+];
+
+#[test]
+fn a_report_that_is_taken_back(rt: HostRuntime) -> Result<(), Fail> {
+    let twice = reported_twice(rt.alloc())?;
+    assert!(rt; next_report(&twice, &node(0, 2, true)) == Some(630));
+    let once = reported_once(rt.alloc())?;
+    assert!(rt; next_report(&once, &node(0, 2, true)) == Some(960));
+    assert!(rt; are_known(&once, &REPORTED_ONCE));
+    Ok(())
+}
+
 /// A copy of the rerouted train that was cancelled from its first new call on.
 fn cancelled_copy(alloc: Global) -> Result<Trains, OutOfMemory> {
     let mut trains = rerouted(alloc)?;

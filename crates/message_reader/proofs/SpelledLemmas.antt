@@ -1,5 +1,5 @@
 -- What is spelled is read back.
-use Rattle.std.proofs.Common.{◌≡◌, ℕ, suc, ◌+◌, ◌*◌, ◌/◌, ◌%◌, ◌^◌, ◌<◌, ◌≤◌, Bool, true, false, Some, Ok, List, [], ◌∷◌, length, All, refl, ap, arith}
+use Rattle.std.proofs.Common.{◌≡◌, ◌==◌, ◌||◌, ℕ, suc, ◌+◌, ◌*◌, ◌/◌, ◌%◌, ◌^◌, ◌<◌, ◌≤◌, Bool, true, false, Option, Some, None, IfSome, Ok, List, [], ◌∷◌, length, All, inl, inr, refl, ap, arith}
 use Rattle.std.specs.List.{AllByRecursion}
 use Rattle.std.proofs.lemmas.Bool.{le-leb}
 use Rattle.std.proofs.lemmas.Bool.Decides.{nat_tests}
@@ -13,18 +13,18 @@ use Rattle.message_reader.specs.declared.wire.WireRef.{WireRef}
 use Rattle.message_reader.specs.declared.wire.Connect.{Connect as AConnect}
 use Rattle.message_reader.specs.declared.wire.Connect.TheVariants as connects
 use Rattle.message_reader.specs.declared.wire.Wire.{Wire}
-use Rattle.message_reader.specs.declared.wire.Wire.TheVariants.{Event, Cancel, Reroute, Extra, Connect}
+use Rattle.message_reader.specs.declared.wire.Wire.TheVariants.{Event, Correct, Withdraw, Cancel, Reroute, Extra, Connect}
 use Rattle.message_reader.specs.declared.wire.Line.TheVariants.{Message, Query}
 use Rattle.message_reader.specs.declared.wire.WireQuery.{WireQuery}
 use Rattle.message_reader.specs.declared.wire.WireTime.{WireTime}
 use Rattle.schedule_build.specs.Directory.{Names, day_named, base_of}
 use Rattle.mt_base.specs.Texts.{digit, two, below, clock, seconds_of, eight_digits, date_of}
-use Rattle.message_reader.specs.Kinds.{kind_of}
+use Rattle.message_reader.specs.Kinds.{kind_of, has_version}
 use Rattle.message_reader.specs.Lines.{head_of, message_of, said_by_value}
-use Rattle.message_reader.specs.Messages.{event_of, cancel_of, ref_texts, ref_of, connect_of, call_texts, call_of, calls_shape, calls_of, count, reroute_of, extra_of}
+use Rattle.message_reader.specs.Messages.{event_texts, event_of, correct_of, withdraw_of, cancel_of, ref_texts, ref_of, connect_of, call_texts, call_of, calls_shape, calls_of, count, reroute_of, extra_of}
 use Rattle.message_reader.specs.Queries.{wire_time_of, query_of}
 use Rattle.message_reader.specs.ResolvedQueries.{stop_or_station_named, query_resolved}
-use Rattle.message_reader.specs.Spelled.{time_text, date_text, ref_object, call_object, call_objects, object_of, query_object, HasLabels}
+use Rattle.message_reader.specs.Spelled.{time_text, date_text, ref_object, call_object, call_objects, object_of, query_object, IsVersion, CanBeSaidIn, HasLabels}
 use Rattle.message_reader.specs.Wires.{IsWireCall, IsProper}
 
 digit_back : (k : ℕ) → k < 10 → digit (48 + k) ≡ Some k
@@ -64,18 +64,36 @@ label_back n lt = grind (arith, nat_tests)
 
 -- ---- messages
 
-event_back : (kind : ValueKind) (trip : List ℕ) (date call : ℕ) (dep : Bool) (secs : ℕ) → IsCivil date → secs ≤ 359999 → call < 2 ^ 32
-    → said_by_value (object_of (Event kind trip date call dep secs)) ≡ Ok (Message (Event kind trip date call dep secs))
-unfolding said_by_value head_of kind_of message_of event_of
-event_back values.Report trip date call true secs civil le lt = rw (label_back call lt, dates_back date civil, times_back secs le) refl
-event_back values.Report trip date call false secs civil le lt = rw (label_back call lt, dates_back date civil, times_back secs le) refl
-event_back values.Forecast trip date call true secs civil le lt = rw (label_back call lt, dates_back date civil, times_back secs le) refl
-event_back values.Forecast trip date call false secs civil le lt = rw (label_back call lt, dates_back date civil, times_back secs le) refl
+version_tested : (v : ℕ) → IsVersion v → ((v == 1) || (v == 2)) ≡ true
+version_tested v (inl one) = rw one refl
+version_tested v (inr two) = rw two refl
 
-cancel_back : (trip : List ℕ) (date from to : ℕ) → IsCivil date → from < 2 ^ 32 → to < 2 ^ 32
-    → said_by_value (object_of (Cancel trip date from to)) ≡ Ok (Message (Cancel trip date from to))
-unfolding said_by_value head_of kind_of message_of cancel_of
-cancel_back trip date from to civil lt lt' = rw (label_back from lt, label_back to lt', dates_back date civil) refl
+event_back : (v : ℕ) (kind : ValueKind) (trip : List ℕ) (date call : ℕ) (dep : Bool) (secs : ℕ) → IsVersion v → IsCivil date → secs ≤ 359999 → call < 2 ^ 32
+    → said_by_value (object_of v (Event kind trip date call dep secs)) ≡ Ok (Message (Event kind trip date call dep secs))
+unfolding said_by_value head_of kind_of has_version message_of event_of event_texts
+event_back v values.Report trip date call true secs is civil le lt = rw (version_tested v is, label_back call lt, dates_back date civil, times_back secs le) refl
+event_back v values.Report trip date call false secs is civil le lt = rw (version_tested v is, label_back call lt, dates_back date civil, times_back secs le) refl
+event_back v values.Forecast trip date call true secs is civil le lt = rw (version_tested v is, label_back call lt, dates_back date civil, times_back secs le) refl
+event_back v values.Forecast trip date call false secs is civil le lt = rw (version_tested v is, label_back call lt, dates_back date civil, times_back secs le) refl
+
+correct_back : (trip : List ℕ) (date call : ℕ) (dep : Bool) (secs : Option ℕ) → IsCivil date → IfSome secs (λ s. s ≤ 359999) → call < 2 ^ 32
+    → said_by_value (object_of 2 (Correct trip date call dep secs)) ≡ Ok (Message (Correct trip date call dep secs))
+unfolding said_by_value head_of kind_of has_version message_of correct_of event_texts
+correct_back trip date call true (Some secs) civil le lt = rw (label_back call lt, dates_back date civil, times_back secs le) refl
+correct_back trip date call false (Some secs) civil le lt = rw (label_back call lt, dates_back date civil, times_back secs le) refl
+correct_back trip date call true None civil le lt = rw (label_back call lt, dates_back date civil) refl
+correct_back trip date call false None civil le lt = rw (label_back call lt, dates_back date civil) refl
+
+withdraw_back : (trip : List ℕ) (date call : ℕ) (dep : Bool) → IsCivil date → call < 2 ^ 32
+    → said_by_value (object_of 2 (Withdraw trip date call dep)) ≡ Ok (Message (Withdraw trip date call dep))
+unfolding said_by_value head_of kind_of has_version message_of withdraw_of event_texts
+withdraw_back trip date call true civil lt = rw (label_back call lt, dates_back date civil) refl
+withdraw_back trip date call false civil lt = rw (label_back call lt, dates_back date civil) refl
+
+cancel_back : (v : ℕ) (trip : List ℕ) (date from to : ℕ) → IsVersion v → IsCivil date → from < 2 ^ 32 → to < 2 ^ 32
+    → said_by_value (object_of v (Cancel trip date from to)) ≡ Ok (Message (Cancel trip date from to))
+unfolding said_by_value head_of kind_of has_version message_of cancel_of
+cancel_back v trip date from to is civil lt lt' = rw (version_tested v is, label_back from lt, label_back to lt', dates_back date civil) refl
 
 ref_texts_back : (r : WireRef) → r.call < 2 ^ 32 → ref_texts (ref_object r) ≡ Ok (record { trip = r.trip; date = date_text r.date; call = r.call })
 unfolding ref_texts
@@ -85,12 +103,12 @@ ref_back : (r : WireRef) → IsCivil r.date → ref_of (record { trip = r.trip; 
 unfolding ref_of
 ref_back r civil = rw (dates_back r.date civil) refl
 
-connect_back : (kind : AConnect) (feeder train : WireRef) → IsCivil feeder.date → IsCivil train.date → feeder.call < 2 ^ 32 → train.call < 2 ^ 32
-    → said_by_value (object_of (Connect kind feeder train)) ≡ Ok (Message (Connect kind feeder train))
-unfolding said_by_value head_of kind_of message_of connect_of
-connect_back connects.Keep feeder train c c' lt lt' = rw (ref_texts_back feeder lt, ref_texts_back train lt', ref_back feeder c, ref_back train c') refl
-connect_back connects.Drop feeder train c c' lt lt' = rw (ref_texts_back feeder lt, ref_texts_back train lt', ref_back feeder c, ref_back train c') refl
-connect_back connects.Rule feeder train c c' lt lt' = rw (ref_texts_back feeder lt, ref_texts_back train lt', ref_back feeder c, ref_back train c') refl
+connect_back : (v : ℕ) (kind : AConnect) (feeder train : WireRef) → IsVersion v → IsCivil feeder.date → IsCivil train.date → feeder.call < 2 ^ 32 → train.call < 2 ^ 32
+    → said_by_value (object_of v (Connect kind feeder train)) ≡ Ok (Message (Connect kind feeder train))
+unfolding said_by_value head_of kind_of has_version message_of connect_of
+connect_back v connects.Keep feeder train is c c' lt lt' = rw (version_tested v is, ref_texts_back feeder lt, ref_texts_back train lt', ref_back feeder c, ref_back train c') refl
+connect_back v connects.Drop feeder train is c c' lt lt' = rw (version_tested v is, ref_texts_back feeder lt, ref_texts_back train lt', ref_back feeder c, ref_back train c') refl
+connect_back v connects.Rule feeder train is c c' lt lt' = rw (version_tested v is, ref_texts_back feeder lt, ref_texts_back train lt', ref_back feeder c, ref_back train c') refl
 
 -- ---- lists of calls
 
@@ -113,31 +131,33 @@ unfolding count call_objects
 counts_back [] = refl
 counts_back (c ∷ cs) = ap suc (counts_back cs)
 
-reroute_back : (trip : List ℕ) (date from to : ℕ) (via : List WireCall) → IsCivil date → All IsWireCall via → from < 2 ^ 32 → to < 2 ^ 32
-    → said_by_value (object_of (Reroute trip date from to via)) ≡ Ok (Message (Reroute trip date from to via))
-unfolding said_by_value head_of kind_of message_of reroute_of
-reroute_back trip date from to via civil each lt lt' =
-    rw (label_back from lt, label_back to lt', shapes_back via, dates_back date civil, calls_back via (recursion_from_All IsWireCall via each)) refl
+reroute_back : (v : ℕ) (trip : List ℕ) (date from to : ℕ) (via : List WireCall) → IsVersion v → IsCivil date → All IsWireCall via → from < 2 ^ 32 → to < 2 ^ 32
+    → said_by_value (object_of v (Reroute trip date from to via)) ≡ Ok (Message (Reroute trip date from to via))
+unfolding said_by_value head_of kind_of has_version message_of reroute_of
+reroute_back v trip date from to via is civil each lt lt' =
+    rw (version_tested v is, label_back from lt, label_back to lt', shapes_back via, dates_back date civil, calls_back via (recursion_from_All IsWireCall via each)) refl
 
-extra_back : (trip : List ℕ) (date : ℕ) (route : List ℕ) (calls : List WireCall) → IsCivil date → All IsWireCall calls → 2 ≤ length calls
-    → said_by_value (object_of (Extra trip date route calls)) ≡ Ok (Message (Extra trip date route calls))
-unfolding said_by_value head_of kind_of message_of extra_of
-extra_back trip date route calls civil each le =
-    rw (shapes_back calls, counts_back calls, le-leb 2 (length calls) le, dates_back date civil, calls_back calls (recursion_from_All IsWireCall calls each)) refl
+extra_back : (v : ℕ) (trip : List ℕ) (date : ℕ) (route : List ℕ) (calls : List WireCall) → IsVersion v → IsCivil date → All IsWireCall calls → 2 ≤ length calls
+    → said_by_value (object_of v (Extra trip date route calls)) ≡ Ok (Message (Extra trip date route calls))
+unfolding said_by_value head_of kind_of has_version message_of extra_of
+extra_back v trip date route calls is civil each le =
+    rw (version_tested v is, shapes_back calls, counts_back calls, le-leb 2 (length calls) le, dates_back date civil, calls_back calls (recursion_from_All IsWireCall calls each)) refl
 
-pub messages_back : (w : Wire) → IsProper w → HasLabels w → said_by_value (object_of w) ≡ Ok (Message w)
-messages_back (Event kind trip date call dep secs) is labels = event_back kind trip date call dep secs is.0 is.1 labels
-messages_back (Cancel trip date from to) is labels = cancel_back trip date from to is labels.0 labels.1
-messages_back (Reroute trip date from to via) is labels = reroute_back trip date from to via is.0 is.1 labels.0 labels.1
-messages_back (Extra trip date route calls) is labels = extra_back trip date route calls is.0 is.1 is.2
-messages_back (Connect kind feeder train) is labels = connect_back kind feeder train is.0 is.1 labels.0 labels.1
+pub messages_back : (v : ℕ) (w : Wire) → CanBeSaidIn v w → IsProper w → HasLabels w → said_by_value (object_of v w) ≡ Ok (Message w)
+messages_back v (Event kind trip date call dep secs) can is labels = event_back v kind trip date call dep secs can is.0 is.1 labels
+messages_back v (Correct trip date call dep secs) can is labels = rw can (correct_back trip date call dep secs is.0 is.1 labels)
+messages_back v (Withdraw trip date call dep) can is labels = rw can (withdraw_back trip date call dep is labels)
+messages_back v (Cancel trip date from to) can is labels = cancel_back v trip date from to can is labels.0 labels.1
+messages_back v (Reroute trip date from to via) can is labels = reroute_back v trip date from to via can is.0 is.1 labels.0 labels.1
+messages_back v (Extra trip date route calls) can is labels = extra_back v trip date route calls can is.0 is.1 is.2
+messages_back v (Connect kind feeder train) can is labels = connect_back v kind feeder train can is.0 is.1 labels.0 labels.1
 
 -- ---- queries
 
-pub queries_back : (client from to : List ℕ) (date secs : ℕ) → IsCivil date → secs ≤ 359999
-    → said_by_value (query_object client from to date secs) ≡ Ok (Query (record { client = client; from = from; to = to; time = Some (record { date = date; secs = secs }) }))
-unfolding said_by_value head_of kind_of message_of query_of wire_time_of
-queries_back client from to date secs civil le = rw (dates_back date civil, times_back secs le) refl
+pub queries_back : (v : ℕ) (client from to : List ℕ) (date secs : ℕ) → IsVersion v → IsCivil date → secs ≤ 359999
+    → said_by_value (query_object v client from to date secs) ≡ Ok (Query (record { client = client; from = from; to = to; time = Some (record { date = date; secs = secs }) }))
+unfolding said_by_value head_of kind_of has_version message_of query_of wire_time_of
+queries_back v client from to date secs is civil le = rw (version_tested v is, dates_back date civil, times_back secs le) refl
 
 pub queries_by_number : (names : Names) (q : WireQuery) (time : WireTime) (from_stop to_stop day : ℕ) → q.time ≡ Some time
     → stop_or_station_named names q.from ≡ Some from_stop → stop_or_station_named names q.to ≡ Some to_stop → day_named names time.date ≡ Some day

@@ -1,16 +1,18 @@
--- What a line says, or its first fault. A line is one object of JSON, as these three, of which the
+-- What a line says, or its first fault. A line is one object of JSON, as these four, of which the
 -- last is broken here:
 -- {"v":1,"type":"forecast","trip":"T1","date":"20260105","call":1,"event":"arr","time":"08:36:00"}
+-- {"v":2,"type":"withdraw","trip":"T1","date":"20260105","call":1,"event":"arr"}
 -- {"v":1,"type":"query","client":"c1","from":"A","to":"D","date":"20260105","time":"08:00:00"}
 -- {"v":1,"type":"keep","feeder":{"trip":"T1","date":"20260105","call":1},
 --   "train":{"trip":"T2","date":"20260105","call":0}}
 -- Members that are not named here are passed over, and of two members of one name the last counts.
 -- The faults, in order: `Utf8`, the bytes are no text; `Json`, the text is no JSON, or nests deeper
--- than `serde_json` reads; `Shape`, the value is no object with `v` and `type`, or a member that
--- its type needs is absent or of another kind; `Time`, a date of a message is not eight digits that
--- name a civil date, or a time of it is not H:MM:SS or HH:MM:SS. The places, the date and the time
--- of a query are asked for when it is resolved. A `Long` line does not come here.
-use Rattle.std.specs.Prelude.{ℕ, ◌==◌, List, if◌then◌else◌, Some, None, Result, Ok, Err, codes}
+-- than `serde_json` reads; `Shape`, the value is no object with a version `v` and a `type` of that
+-- version, or a member that its type needs is absent or of another kind; `Time`, a date of a
+-- message is not eight digits that name a civil date, or a time of it is neither H:MM:SS nor
+-- HH:MM:SS; a null time of a correction is no fault. The places, the date and the time of a query
+-- are asked for when it is resolved. A `Long` line does not come here.
+use Rattle.std.specs.Prelude.{ℕ, List, if◌then◌else◌, Some, None, Result, Ok, Err, codes}
 use Rattle.std.specs.declared.option.Option.{Option}
 use Rattle.std.specs.Str.{is_utf8}
 use Rattle.serde_json.specs.Data.{Data}
@@ -26,8 +28,8 @@ use Rattle.message_reader.specs.declared.wire.Wire.{Wire}
 use Rattle.message_reader.specs.Chain.{◌>>=◌, need, unless}
 use Rattle.message_reader.specs.Fields.{text_at, number_at}
 use Rattle.train_nodes.specs.declared.kinds.ValueKind.TheVariants as values
-use Rattle.message_reader.specs.Kinds.{kind_of}
-use Rattle.message_reader.specs.Messages.{event_of, cancel_of, reroute_of, extra_of, connect_of}
+use Rattle.message_reader.specs.Kinds.{kind_of, has_version}
+use Rattle.message_reader.specs.Messages.{event_of, correct_of, withdraw_of, cancel_of, reroute_of, extra_of, connect_of}
 use Rattle.message_reader.specs.Queries.{query_of}
 
 -- the bytes are a text in UTF-8
@@ -38,18 +40,22 @@ utf8_of bytes = if is_utf8 bytes then Ok bytes else Err Utf8
 abbrev pub json_of : List ℕ → Result Data BadLine
 json_of text = need Json (read text)
 
--- the object has `v`, the whole number 1, and `type`, the name of a type of line
+-- the object has `v`, the whole number 1 or 2, and `type`, the name of a type of line that this
+-- version has
 unfoldable pub head_of : Data → Result Kind BadLine
 head_of d = do
   v ← need Shape (number_at (codes "v") d)
-  _ ← unless (v == 1) Shape
   name ← need Shape (text_at (codes "type") d)
-  need Shape (kind_of name)
+  kind ← need Shape (kind_of name)
+  _ ← unless (has_version kind v) Shape
+  Ok kind
 
 -- what an object says, by the type of its line
 unfoldable pub message_of : Kind → Data → Result Line BadLine
 message_of kinds.Forecast d = event_of values.Forecast d >>= λ w. Ok (Message w)
 message_of kinds.Report d = event_of values.Report d >>= λ w. Ok (Message w)
+message_of kinds.Correct d = correct_of d >>= λ w. Ok (Message w)
+message_of kinds.Withdraw d = withdraw_of d >>= λ w. Ok (Message w)
 message_of kinds.Cancel d = cancel_of d >>= λ w. Ok (Message w)
 message_of kinds.Reroute d = reroute_of d >>= λ w. Ok (Message w)
 message_of kinds.Extra d = extra_of d >>= λ w. Ok (Message w)

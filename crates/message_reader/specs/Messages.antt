@@ -1,6 +1,7 @@
 -- What an object says, by the type of its line. Every needed member has its kind (Shape) before any
 -- date or time is read (Time).
-use Rattle.std.specs.Prelude.{ℕ, suc, ◌<◌, ◌^◌, nat_le, List, [], ◌∷◌, IfSome, Result, Ok, codes}
+use Rattle.std.specs.Prelude.{ℕ, suc, ◌<◌, ◌^◌, nat_le, List, [], ◌∷◌, Bool, Some, None, IfSome, option_map, Result, Ok, codes}
+use Rattle.std.specs.declared.option.Option.{Option}
 use Rattle.serde_json.specs.Data.{Data, Items, no_items, item}
 use Rattle.serde_json.specs.Find.{get}
 use Rattle.message_reader.specs.declared.bad_line.BadLine.{BadLine}
@@ -10,24 +11,57 @@ use Rattle.message_reader.specs.declared.wire.WireRef.{WireRef}
 use Rattle.message_reader.specs.declared.wire.Connect.{Connect as AConnect}
 use Rattle.train_nodes.specs.declared.kinds.ValueKind.{ValueKind}
 use Rattle.message_reader.specs.declared.wire.Wire.{Wire}
-use Rattle.message_reader.specs.declared.wire.Wire.TheVariants.{Event, Cancel, Reroute, Extra, Connect}
+use Rattle.message_reader.specs.declared.wire.Wire.TheVariants.{Event, Correct, Withdraw, Cancel, Reroute, Extra, Connect}
 use Rattle.message_reader.specs.Chain.{◌>>=◌, need, unless}
 use Rattle.mt_base.specs.Texts.{date_of, seconds_of}
-use Rattle.message_reader.specs.Fields.{text_at, label_at, items_at, departure_of}
+use Rattle.message_reader.specs.Fields.{text_at, text_or_null_at, label_at, items_at, departure_of}
 
--- `forecast` and `report`: a train by `trip` and `date`, a call by its label `call`, `event` and
--- `time`
-unfoldable pub event_of : ValueKind → Data → Result Wire BadLine
-event_of kind d = do
+-- what an object that names an event has: a train by `trip` and `date`, a call by its label `call`,
+-- and `event`
+pub record EventTexts : Type 0 where
+  pub trip : List ℕ
+  pub date : List ℕ
+  pub call : ℕ
+  pub dep : Bool
+
+unfoldable pub event_texts : Data → Result EventTexts BadLine
+event_texts d = do
   trip ← need Shape (text_at (codes "trip") d)
   date ← need Shape (text_at (codes "date") d)
   call ← need Shape (label_at (codes "call") d)
   event ← need Shape (text_at (codes "event") d)
   dep ← need Shape (departure_of event)
+  Ok (record { trip = trip; date = date; call = call; dep = dep })
+
+-- `forecast` and `report`: an event, and `time`
+unfoldable pub event_of : ValueKind → Data → Result Wire BadLine
+event_of kind d = do
+  texts ← event_texts d
   time ← need Shape (text_at (codes "time") d)
-  day ← need Time (date_of date)
+  day ← need Time (date_of texts.date)
   secs ← need Time (seconds_of time)
-  Ok (Event kind trip day call dep secs)
+  Ok (Event kind texts.trip day texts.call texts.dep secs)
+
+-- the time of a text, or no time where there is no text
+abbrev pub seconds_if_any : Option (List ℕ) → Option (Option ℕ)
+seconds_if_any None = Some None
+seconds_if_any (Some text) = option_map (λ secs. Some secs) (seconds_of text)
+
+-- `correct`: an event, and `time`, which may be null
+unfoldable pub correct_of : Data → Result Wire BadLine
+correct_of d = do
+  texts ← event_texts d
+  time ← need Shape (text_or_null_at (codes "time") d)
+  day ← need Time (date_of texts.date)
+  secs ← need Time (seconds_if_any time)
+  Ok (Correct texts.trip day texts.call texts.dep secs)
+
+-- `withdraw`: an event
+unfoldable pub withdraw_of : Data → Result Wire BadLine
+withdraw_of d = do
+  texts ← event_texts d
+  day ← need Time (date_of texts.date)
+  Ok (Withdraw texts.trip day texts.call texts.dep)
 
 -- `cancel`: a train, and the labels `from` and `to` of two of its calls
 unfoldable pub cancel_of : Data → Result Wire BadLine

@@ -4,7 +4,7 @@
 -- already.
 use Rattle.std.specs.Prelude.{ℕ, ◌+◌, List, [], ◌∷◌, Bool, true, false, if◌then◌else◌, length, Some, None, is_none, option_and_then, Result, Ok}
 use Rattle.std.specs.declared.option.Option.{Option}
-use Rattle.std.specs.Option.{option_map_or}
+use Rattle.std.specs.Option.{option_map, option_map_or}
 use Rattle.mt_base.specs.declared.keys.Node.{Node}
 use Rattle.mt_base.specs.declared.new_calls.NewCall.{NewCall}
 use Rattle.mt_base.specs.Places.{is_platform}
@@ -21,7 +21,7 @@ use Rattle.train_nodes.specs.Kinds.{message_by_kind}
 use Rattle.message_reader.specs.declared.wire.WireCall.{WireCall}
 use Rattle.message_reader.specs.declared.wire.WireRef.{WireRef}
 use Rattle.message_reader.specs.declared.wire.Wire.{Wire}
-use Rattle.message_reader.specs.declared.wire.Wire.TheVariants.{Event, Cancel, Reroute, Extra, Connect}
+use Rattle.message_reader.specs.declared.wire.Wire.TheVariants.{Event, Correct, Withdraw, Cancel, Reroute, Extra, Connect}
 use Rattle.message_reader.specs.Chain.{◌>>=◌, need, unless}
 
 -- ---- single names
@@ -32,6 +32,10 @@ train_on names trip date = do
   day ← need refusals.Unknown (day_named names date)
   train ← need refusals.Unknown (train_named names trip day)
   Ok (record { train = train; day = day })
+
+-- the arrival or the departure of a call of the train
+abbrev pub event_on : TrainOnDay → ℕ → Bool → Node
+event_on found call dep = record { train = found.train; label = call; dep = dep }
 
 -- the place with an id, if it is a stop, where trains call
 unfoldable pub stop_named : Names → List ℕ → Option ℕ
@@ -44,7 +48,7 @@ stop_named names id =
 unfoldable pub node_named : Names → Bool → WireRef → Result Node Refusal
 node_named names dep r = do
   found ← train_on names r.trip r.date
-  Ok (record { train = found.train; label = r.call; dep = dep })
+  Ok (event_on found r.call dep)
 
 -- a new call of a train on a service day
 unfoldable pub new_call : Names → ℕ → WireCall → Result NewCall Refusal
@@ -73,8 +77,20 @@ unfoldable pub event_resolved : Names → ValueKind → List ℕ → ℕ → ℕ
     → Result Message Refusal
 event_resolved names kind trip date call dep secs = do
   found ← train_on names trip date
-  Ok (message_by_kind kind (record { train = found.train; label = call; dep = dep })
-      (base_of found.day + secs))
+  Ok (message_by_kind kind (event_on found call dep) (base_of found.day + secs))
+
+-- a corrected report: at so many seconds on the train's service day, or none
+unfoldable pub correct_resolved : Names → List ℕ → ℕ → ℕ → Bool → Option ℕ
+    → Result Message Refusal
+correct_resolved names trip date call dep secs = do
+  found ← train_on names trip date
+  Ok (messages.Correct (event_on found call dep) (option_map (λ s. base_of found.day + s) secs))
+
+-- a withdrawn forecast
+unfoldable pub withdraw_resolved : Names → List ℕ → ℕ → ℕ → Bool → Result Message Refusal
+withdraw_resolved names trip date call dep = do
+  found ← train_on names trip date
+  Ok (messages.Withdraw (event_on found call dep))
 
 -- a cancelled stretch
 unfoldable pub cancel_resolved : Names → List ℕ → ℕ → ℕ → ℕ → Result Message Refusal
@@ -110,6 +126,9 @@ connect_resolved names kind feeder train = do
 unfoldable pub resolved : Names → Wire → Result Message Refusal
 resolved names (Event kind trip date call dep secs) =
     event_resolved names kind trip date call dep secs
+resolved names (Correct trip date call dep secs) =
+    correct_resolved names trip date call dep secs
+resolved names (Withdraw trip date call dep) = withdraw_resolved names trip date call dep
 resolved names (Cancel trip date from to) = cancel_resolved names trip date from to
 resolved names (Reroute trip date from to via) = reroute_resolved names trip date from to via
 resolved names (Extra trip date route calls) = extra_resolved names trip date route calls

@@ -1,6 +1,7 @@
--- How a message or a query is spelled: the object that says it.
-use Rattle.std.specs.Prelude.{ℕ, ◌+◌, ◌/◌, ◌%◌, ◌^◌, ◌<◌, List, [], ◌∷◌, ◌++◌, if◌then◌else◌, codes}
-use Rattle.serde_json.specs.Data.{unsigned, Data, number, string, array, object, Items, no_items, item, no_members, member}
+-- How a message or a query is spelled: the object that says it, and in which versions.
+use Rattle.std.specs.Prelude.{◌≡◌, ◌⊎◌, ℕ, ◌+◌, ◌/◌, ◌%◌, ◌^◌, ◌<◌, List, [], ◌∷◌, ◌++◌, Bool, if◌then◌else◌, Some, None, codes}
+use Rattle.std.specs.declared.option.Option.{Option}
+use Rattle.serde_json.specs.Data.{unsigned, Data, null, number, string, array, object, Items, no_items, item, no_members, member}
 use Rattle.train_nodes.specs.declared.kinds.ValueKind.{ValueKind}
 use Rattle.train_nodes.specs.declared.kinds.ValueKind.TheVariants as values
 use Rattle.message_reader.specs.declared.wire.WireCall.{WireCall}
@@ -8,7 +9,7 @@ use Rattle.message_reader.specs.declared.wire.WireRef.{WireRef}
 use Rattle.message_reader.specs.declared.wire.Connect.{Connect as AConnect}
 use Rattle.message_reader.specs.declared.wire.Connect.TheVariants as connects
 use Rattle.message_reader.specs.declared.wire.Wire.{Wire}
-use Rattle.message_reader.specs.declared.wire.Wire.TheVariants.{Event, Cancel, Reroute, Extra, Connect}
+use Rattle.message_reader.specs.declared.wire.Wire.TheVariants.{Event, Correct, Withdraw, Cancel, Reroute, Extra, Connect}
 
 -- the two digits of a number below 100; 48 is `0`
 abbrev pub two_digits : ℕ → List ℕ
@@ -51,58 +52,93 @@ connect_name connects.Keep = codes "keep"
 connect_name connects.Drop = codes "drop"
 connect_name connects.Rule = codes "rule"
 
--- the object that says a message, with its members in the order of their names
-abbrev pub object_of : Wire → Data
-object_of (Event kind trip date call dep secs) =
+abbrev pub event_name : Bool → List ℕ
+event_name dep = if dep then codes "dep" else codes "arr"
+
+-- the text of a time, or null where there is none
+abbrev pub time_or_null : Option ℕ → Data
+time_or_null None = null
+time_or_null (Some secs) = string (time_text secs)
+
+-- the object that says a message in version `v`, with its members in the order of their names
+abbrev pub object_of : ℕ → Wire → Data
+object_of v (Event kind trip date call dep secs) =
     object (member (codes "call") (number (unsigned call))
     (member (codes "date") (string (date_text date))
-    (member (codes "event") (string (if dep then codes "dep" else codes "arr"))
+    (member (codes "event") (string (event_name dep))
     (member (codes "time") (string (time_text secs))
     (member (codes "trip") (string trip)
     (member (codes "type") (string (value_name kind))
-    (member (codes "v") (number (unsigned 1)) no_members)))))))
-object_of (Cancel trip date from to) =
+    (member (codes "v") (number (unsigned v)) no_members)))))))
+object_of v (Correct trip date call dep secs) =
+    object (member (codes "call") (number (unsigned call))
+    (member (codes "date") (string (date_text date))
+    (member (codes "event") (string (event_name dep))
+    (member (codes "time") (time_or_null secs)
+    (member (codes "trip") (string trip)
+    (member (codes "type") (string (codes "correct"))
+    (member (codes "v") (number (unsigned v)) no_members)))))))
+object_of v (Withdraw trip date call dep) =
+    object (member (codes "call") (number (unsigned call))
+    (member (codes "date") (string (date_text date))
+    (member (codes "event") (string (event_name dep))
+    (member (codes "trip") (string trip)
+    (member (codes "type") (string (codes "withdraw"))
+    (member (codes "v") (number (unsigned v)) no_members))))))
+object_of v (Cancel trip date from to) =
     object (member (codes "date") (string (date_text date))
     (member (codes "from") (number (unsigned from))
     (member (codes "to") (number (unsigned to))
     (member (codes "trip") (string trip)
     (member (codes "type") (string (codes "cancel"))
-    (member (codes "v") (number (unsigned 1)) no_members))))))
-object_of (Reroute trip date from to via) =
+    (member (codes "v") (number (unsigned v)) no_members))))))
+object_of v (Reroute trip date from to via) =
     object (member (codes "date") (string (date_text date))
     (member (codes "from") (number (unsigned from))
     (member (codes "to") (number (unsigned to))
     (member (codes "trip") (string trip)
     (member (codes "type") (string (codes "reroute"))
-    (member (codes "v") (number (unsigned 1))
+    (member (codes "v") (number (unsigned v))
     (member (codes "via") (array (call_objects via)) no_members)))))))
-object_of (Extra trip date route calls) =
+object_of v (Extra trip date route calls) =
     object (member (codes "calls") (array (call_objects calls))
     (member (codes "date") (string (date_text date))
     (member (codes "route") (string route)
     (member (codes "trip") (string trip)
     (member (codes "type") (string (codes "extra"))
-    (member (codes "v") (number (unsigned 1)) no_members))))))
-object_of (Connect kind feeder train) =
+    (member (codes "v") (number (unsigned v)) no_members))))))
+object_of v (Connect kind feeder train) =
     object (member (codes "feeder") (ref_object feeder)
     (member (codes "train") (ref_object train)
     (member (codes "type") (string (connect_name kind))
-    (member (codes "v") (number (unsigned 1)) no_members))))
+    (member (codes "v") (number (unsigned v)) no_members))))
 
--- the object that asks a query
-abbrev pub query_object : List ℕ → List ℕ → List ℕ → ℕ → ℕ → Data
-query_object client from to date secs =
+-- the object that asks a query in version `v`
+abbrev pub query_object : ℕ → List ℕ → List ℕ → List ℕ → ℕ → ℕ → Data
+query_object v client from to date secs =
     object (member (codes "client") (string client)
     (member (codes "date") (string (date_text date))
     (member (codes "from") (string from)
     (member (codes "time") (string (time_text secs))
     (member (codes "to") (string to)
     (member (codes "type") (string (codes "query"))
-    (member (codes "v") (number (unsigned 1)) no_members)))))))
+    (member (codes "v") (number (unsigned v)) no_members)))))))
+
+-- a version of lines
+abbrev pub IsVersion : ℕ → Type 0
+IsVersion v = (v ≡ 1) ⊎ (v ≡ 2)
+
+-- the message can be said in version `v`
+abbrev pub CanBeSaidIn : ℕ → Wire → Type 0
+CanBeSaidIn v (Correct trip date call dep secs) = v ≡ 2
+CanBeSaidIn v (Withdraw trip date call dep) = v ≡ 2
+CanBeSaidIn v _ = IsVersion v
 
 -- every label of the message is a number of 32 bits, as labels are
 abbrev pub HasLabels : Wire → Type 0
 HasLabels (Event kind trip date call dep secs) = call < 2 ^ 32
+HasLabels (Correct trip date call dep secs) = call < 2 ^ 32
+HasLabels (Withdraw trip date call dep) = call < 2 ^ 32
 HasLabels (Cancel trip date from to) = (from < 2 ^ 32) × (to < 2 ^ 32)
 HasLabels (Reroute trip date from to via) = (from < 2 ^ 32) × (to < 2 ^ 32)
 HasLabels (Extra trip date route calls) = Unit {0}

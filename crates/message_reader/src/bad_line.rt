@@ -15,7 +15,8 @@ pub enum BadLine {
     Utf8,
     /// Its text is not JSON.
     Json,
-    /// Its value does not have the members that a line of its type needs.
+    /// Its value does not have a version, a type of this version, and the members that a line of
+    /// this type needs.
     Shape,
     /// A query names a place that is no stop, platform or station of the feed.
     Stop,

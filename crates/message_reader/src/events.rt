@@ -1,19 +1,50 @@
 //! Messages about one train's events.
 
-ghost use Rattle.std.specs.Prelude.{IfOk};
+ghost use Rattle.std.specs.Prelude.{◌≡◌, ◌≤◌, IfOk, IfSome, option_map};
+ghost use Rattle.std.specs.Result.{result_map_both};
 ghost use Rattle.serde_json.specs.View.{view};
 ghost use Rattle.message_reader.specs.Errors.{Gives, bad_in};
-ghost use Rattle.message_reader.specs.Messages.{event_of, cancel_of};
+ghost use Rattle.message_reader.specs.Messages.{event_texts, event_of, seconds_if_any, correct_of, withdraw_of, cancel_of};
 ghost use Rattle.message_reader.specs.Wires.{IsWire};
 
 use crate::bad_line::{BadLine, LineError};
-use crate::fields::{departure, label_at, text_at};
+use crate::fields::{departure, label_at, text_at, text_or_null_at};
 use crate::wire::Wire;
 use mt_base::names::Name;
+use mt_base::numbers::Label;
 use mt_base::texts::{date, seconds};
 use serde_json::Value;
 use std::alloc::Global;
 use train_nodes::kinds::ValueKind;
+
+/// An event as an object names it.
+#[derive(Clone, Copy)]
+struct EventTexts<'v> {
+    trip: &'v str,
+    date: &'v str,
+    call: u32,
+    dep: bool,
+}
+
+#[tactic(auto, unfolding(crate::specs::Messages::event_texts))]
+fn texts_at<'v>(value: &'v Value) -> Result<EventTexts<'v>, BadLine>
+    ensures { result_map_both
+        (λ r. record { trip = r.trip.now; date = r.date.now; call = r.call; dep = r.dep })
+        (λ bad. bad) result
+        ≡ event_texts (view value.now) }
+{
+    let trip = text_at(value, "trip").ok_or(BadLine::Shape)?;
+    let date = text_at(value, "date").ok_or(BadLine::Shape)?;
+    let call = label_at(value, "call").ok_or(BadLine::Shape)?;
+    let event = text_at(value, "event").ok_or(BadLine::Shape)?;
+    let dep = departure(event).ok_or(BadLine::Shape)?;
+    Ok(EventTexts {
+        trip,
+        date,
+        call: call.get(),
+        dep,
+    })
+}
 
 /// A report or a forecast. `Bad` has the first fault: `Shape` or else `Time`. `OutOfMemory` where
 /// there is no memory.
@@ -22,21 +53,66 @@ pub fn event(alloc: Global, kind: ValueKind, value: &Value) -> Result<Wire, Line
     ensures exact { Gives bad_in result (event_of kind (view value.now)) }
     ensures kept { IfOk result IsWire }
 {
-    let trip = text_at(value, "trip").ok_or(BadLine::Shape)?;
-    let day = text_at(value, "date").ok_or(BadLine::Shape)?;
-    let call = label_at(value, "call").ok_or(BadLine::Shape)?;
-    let event = text_at(value, "event").ok_or(BadLine::Shape)?;
-    let dep = departure(event).ok_or(BadLine::Shape)?;
+    let texts = texts_at(value)?;
     let time = text_at(value, "time").ok_or(BadLine::Shape)?;
-    let date = date(day.as_bytes()).ok_or(BadLine::Time)?;
+    let date = date(texts.date.as_bytes()).ok_or(BadLine::Time)?;
     let secs = seconds(time.as_bytes()).ok_or(BadLine::Time)?;
     Ok(Wire::Event {
         kind,
-        trip: Name::build(alloc, trip)?,
+        trip: Name::build(alloc, texts.trip)?,
         date,
-        call,
-        dep,
+        call: Label::new(texts.call),
+        dep: texts.dep,
         secs,
+    })
+}
+
+/// The time of a text: `Some(None)` where there is no text. None where it is not H:MM:SS or
+/// HH:MM:SS.
+fn seconds_if_any(text: Option<&str>) -> Option<Option<u32>>
+    ensures exact { result ≡ seconds_if_any (option_map (λ s. s.now) text.entry) }
+    ensures kept { IfSome result (λ secs. IfSome secs (λ s. s ≤ 359999)) }
+{
+    match text {
+        Some(text) => Some(Some(seconds(text.as_bytes())?)),
+        None => Some(None),
+    }
+}
+
+/// A corrected report. `Bad` has the first fault: `Shape` or else `Time`. `OutOfMemory` where there
+/// is no memory.
+#[tactic(auto, unfolding(crate::specs::Messages::correct_of))]
+pub fn correct(alloc: Global, value: &Value) -> Result<Wire, LineError>
+    ensures exact { Gives bad_in result (correct_of (view value.now)) }
+    ensures kept { IfOk result IsWire }
+{
+    let texts = texts_at(value)?;
+    let time = text_or_null_at(value, "time").ok_or(BadLine::Shape)?;
+    let date = date(texts.date.as_bytes()).ok_or(BadLine::Time)?;
+    let secs = seconds_if_any(time).ok_or(BadLine::Time)?;
+    Ok(Wire::Correct {
+        trip: Name::build(alloc, texts.trip)?,
+        date,
+        call: Label::new(texts.call),
+        dep: texts.dep,
+        secs,
+    })
+}
+
+/// A withdrawn forecast. `Bad` has the first fault: `Shape` or else `Time`. `OutOfMemory` where
+/// there is no memory.
+#[tactic(auto, unfolding(crate::specs::Messages::withdraw_of))]
+pub fn withdraw(alloc: Global, value: &Value) -> Result<Wire, LineError>
+    ensures exact { Gives bad_in result (withdraw_of (view value.now)) }
+    ensures kept { IfOk result IsWire }
+{
+    let texts = texts_at(value)?;
+    let date = date(texts.date.as_bytes()).ok_or(BadLine::Time)?;
+    Ok(Wire::Withdraw {
+        trip: Name::build(alloc, texts.trip)?,
+        date,
+        call: Label::new(texts.call),
+        dep: texts.dep,
     })
 }
 

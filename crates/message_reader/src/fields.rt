@@ -2,7 +2,7 @@
 
 ghost use Rattle.std.specs.Prelude.{◌≡◌, ◌<◌, ◌^◌, IfSome, length, option_map};
 ghost use Rattle.serde_json.specs.View.{view, items_view};
-ghost use Rattle.message_reader.specs.Fields.{text_at, number_at, label_at, items_at, departure_of};
+ghost use Rattle.message_reader.specs.Fields.{text_at, text_or_null_at, number_at, label_at, items_at, departure_of};
 ghost use Rattle.message_reader.specs.Messages.{HasFewItems};
 
 use mt_base::numbers::Label;
@@ -13,6 +13,22 @@ pub fn text_at<'v>(value: &'v Value, key: &str) -> Option<&'v str>
     ensures { option_map (λ s. s.now) result ≡ text_at key.now (view value.now) }
 {
     value.get(key).and_then(Value::as_str)
+}
+
+/// The text of a member that may be null: `Some(None)` where it is. None where it is absent or
+/// neither of the two.
+pub fn text_or_null_at<'v>(value: &'v Value, key: &str) -> Option<Option<&'v str>>
+    ensures { option_map (λ text. option_map (λ s. s.now) text) result
+        ≡ text_or_null_at key.now (view value.now) }
+{
+    let member = value.get(key)?;
+    if member.is_null() {
+        return Some(None);
+    }
+    match member.as_str() {
+        Some(text) => Some(Some(text)),
+        None => None,
+    }
 }
 
 /// The whole number of a member, below 2^64. None where it is absent or no such number.

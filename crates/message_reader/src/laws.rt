@@ -9,7 +9,7 @@ ghost use Rattle.message_reader.specs.declared.wire.Line.TheVariants.{Message, Q
 ghost use Rattle.mt_base.specs.Texts.{seconds_of, date_of};
 ghost use Rattle.message_reader.specs.Lines.{said_by_value};
 ghost use Rattle.message_reader.specs.ResolvedQueries.{stop_or_station_named, query_resolved};
-ghost use Rattle.message_reader.specs.Spelled.{time_text, date_text, object_of, query_object, HasLabels};
+ghost use Rattle.message_reader.specs.Spelled.{time_text, date_text, object_of, query_object, IsVersion, CanBeSaidIn, HasLabels};
 ghost use Rattle.message_reader.specs.Wires.{IsProper};
 ghost use Rattle.schedule_build.specs.Directory.{Names, day_named, base_of};
 
@@ -24,16 +24,18 @@ pub fn dates_are_read_back()
 {}
 
 /// Every message with civil dates, times up to 99:59:59 and, for an extra train, two calls, is read
-/// from the object that says it.
+/// from the object that says it, in version 1 and 2; corrections and withdrawals in version 2.
 pub fn messages_are_read_back()
-    ensures { (w : AWire) → IsProper w → HasLabels w
-        → said_by_value (object_of w) ≡ Ok (Message w) }
+    ensures { (v : ℕ) (w : AWire) → CanBeSaidIn v w → IsProper w → HasLabels w
+        → said_by_value (object_of v w) ≡ Ok (Message w) }
 {}
 
-/// Every query at a time up to 99:59:59 of a civil date is read from the object that asks it.
+/// Every query at a time up to 99:59:59 of a civil date is read from the object that asks it, in
+/// version 1 and 2.
 pub fn queries_are_read_back()
-    ensures { (client from to : List ℕ) (date secs : ℕ) → IsCivil date → secs ≤ 359999
-        → said_by_value (query_object client from to date secs) ≡ Ok (Query (record {
+    ensures { (v : ℕ) (client from to : List ℕ) (date secs : ℕ) → IsVersion v → IsCivil date
+        → secs ≤ 359999
+        → said_by_value (query_object v client from to date secs) ≡ Ok (Query (record {
           client = client;
           from = from;
           to = to;

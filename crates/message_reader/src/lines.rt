@@ -10,9 +10,9 @@ ghost use Rattle.message_reader.specs.Wires.{IsLine};
 
 use crate::bad_line::{BadLine, LineError};
 use crate::connections::connect;
-use crate::events::{cancel, event};
+use crate::events::{cancel, correct, event, withdraw};
 use crate::fields::{number_at, text_at};
-use crate::kinds::{Kind, kind_named};
+use crate::kinds::{Kind, has_version, kind_named};
 use crate::queries::query;
 use crate::routes::{extra, reroute};
 use crate::wire::{Connect, Line};
@@ -47,11 +47,12 @@ fn head(value: &Value) -> Result<Kind, BadLine>
     ensures { result ≡ head_of (view value.now) }
 {
     let version = number_at(value, "v").ok_or(BadLine::Shape)?;
-    if version != 1 {
+    let name = text_at(value, "type").ok_or(BadLine::Shape)?;
+    let kind = kind_named(name).ok_or(BadLine::Shape)?;
+    if !has_version(kind, version) {
         return Err(BadLine::Shape);
     }
-    let name = text_at(value, "type").ok_or(BadLine::Shape)?;
-    kind_named(name).ok_or(BadLine::Shape)
+    Ok(kind)
 }
 
 #[tactic(auto, unfolding(crate::specs::Lines::message_of))]
@@ -63,6 +64,8 @@ fn message(alloc: Global, kind: Kind, value: &Value) -> Result<Line, LineError>
     let wire = match kind {
         Kind::Forecast => event(alloc, ValueKind::Forecast, value)?,
         Kind::Report => event(alloc, ValueKind::Report, value)?,
+        Kind::Correct => correct(alloc, value)?,
+        Kind::Withdraw => withdraw(alloc, value)?,
         Kind::Cancel => cancel(alloc, value)?,
         Kind::Reroute => reroute(alloc, value)?,
         Kind::Extra => extra(alloc, value)?,

@@ -1,9 +1,9 @@
 //! The numbers for which single names stand.
 
-ghost use Rattle.std.specs.Prelude.{◌≡◌, ◌<◌, ◌≤◌, ◌+◌, ◌^◌, All, IfOk, length};
+ghost use Rattle.std.specs.Prelude.{◌≡◌, ◌<◌, ◌≤◌, ◌+◌, ◌^◌, All, IfOk, IfSome, length, option_map};
 ghost use Rattle.delay_model.specs.Messages.{IsSmallCall};
 ghost use Rattle.schedule_build.specs.Directory.{base_of};
-ghost use Rattle.message_reader.specs.Resolved.{train_on, stop_named, node_named, new_call, new_calls};
+ghost use Rattle.message_reader.specs.Resolved.{train_on, event_on, stop_named, node_named, new_call, new_calls};
 ghost use Rattle.message_reader.specs.Errors.{Gives, refusal_in};
 ghost use Rattle.message_reader.specs.Wires.{IsWireCall};
 
@@ -13,7 +13,7 @@ use delay_model::messages::Refusal;
 use mt_base::keys::Node;
 use mt_base::names::Name;
 use mt_base::new_calls::NewCall;
-use mt_base::numbers::{Day, StopNo, Time, TrainNo};
+use mt_base::numbers::{Day, Label, StopNo, Time, TrainNo};
 use mt_base::rows::Rows;
 use schedule_build::Directory;
 use std::alloc::Global;
@@ -23,6 +23,19 @@ use std::alloc::Global;
 pub(crate) struct TrainOnDay {
     pub train: TrainNo,
     pub day: Day,
+}
+
+impl TrainOnDay {
+    /// The arrival or the departure of a call of the train.
+    pub fn event(&self, call: Label, dep: bool) -> Node
+        ensures { result ≡ event_on self.now call dep }
+    {
+        Node {
+            train: self.train,
+            label: call,
+            dep,
+        }
+    }
 }
 
 /// The train of a trip on a date.
@@ -45,6 +58,19 @@ pub(crate) fn time_on(dir: &Directory, day: Day, secs: u32) -> Time
     Time::new(dir.base(day).seconds() + secs)
 }
 
+/// The time so many seconds after the base of a service day, where so many are given.
+pub(crate) fn time_if_any_on(dir: &Directory, day: Day, secs: Option<u32>) -> Option<Time>
+    requires loaded { day < 31 }
+    requires within { IfSome secs (λ s. s ≤ 359999) }
+    ensures exact { result ≡ option_map (λ s. base_of day + s) secs }
+    ensures small { IfSome result (λ t. t < 2 ^ 24) }
+{
+    match secs {
+        Some(secs) => Some(time_on(dir, day, secs)),
+        None => None,
+    }
+}
+
 /// The arrival or the departure of a call.
 #[tactic(auto, unfolding(crate::specs::Resolved::node_named))]
 pub(crate) fn node(dir: &Directory, dep: bool, call: &WireRef) -> Result<Node, Refusal>
@@ -52,11 +78,7 @@ pub(crate) fn node(dir: &Directory, dep: bool, call: &WireRef) -> Result<Node, R
     ensures kind { IfOk result (λ n. n.dep ≡ dep) }
 {
     let found = train_on(dir, &call.trip, call.date)?;
-    Ok(Node {
-        train: found.train,
-        label: call.call,
-        dep,
-    })
+    Ok(found.event(call.call, dep))
 }
 
 /// The stop with this id. None where no place has it, and where the place is no stop.

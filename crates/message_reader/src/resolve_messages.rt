@@ -1,17 +1,16 @@
 //! Messages by name as messages by number.
 
-ghost use Rattle.std.specs.Prelude.{◌≡◌, ◌<◌, ◌≤◌, ◌^◌, All, IfOk, length};
+ghost use Rattle.std.specs.Prelude.{◌≡◌, ◌<◌, ◌≤◌, ◌^◌, All, IfOk, IfSome, length};
 ghost use Rattle.delay_model.specs.Messages.{IsWellFormed};
-ghost use Rattle.message_reader.specs.Resolved.{event_resolved, cancel_resolved, reroute_resolved, extra_resolved, connect_resolved, resolved};
+ghost use Rattle.message_reader.specs.Resolved.{event_resolved, correct_resolved, withdraw_resolved, cancel_resolved, reroute_resolved, extra_resolved, connect_resolved, resolved};
 ghost use Rattle.message_reader.specs.Errors.{Gives, refusal_in};
 ghost use Rattle.message_reader.specs.Wires.{IsWire, IsWireCall};
 ghost use Rattle.train_nodes.specs.Kinds.{HasFewCalls};
 
-use crate::numbers::{new_calls, node, time_on, train_on};
+use crate::numbers::{new_calls, node, time_if_any_on, time_on, train_on};
 use crate::resolve_error::ResolveError;
 use crate::wire::{Connect, Wire, WireCall, WireRef};
 use delay_model::messages::{Message, Refusal};
-use mt_base::keys::Node;
 use mt_base::names::Name;
 use mt_base::numbers::{Label, TrainNo};
 use schedule_build::Directory;
@@ -36,15 +35,52 @@ fn event(
     ensures few { IfOk result HasFewCalls }
 {
     let found = train_on(dir, trip, date)?;
-    let node = Node {
-        train: found.train,
-        label: call,
-        dep,
-    };
+    let node = found.event(call, dep);
     let time = time_on(dir, found.day, secs);
     Ok(match kind {
         ValueKind::Report => Message::Report { node, time },
         ValueKind::Forecast => Message::Forecast { node, time },
+    })
+}
+
+/// A corrected report.
+#[tactic(auto, unfolding(crate::specs::Resolved::correct_resolved))]
+fn correct(
+    dir: &Directory,
+    trip: &Name,
+    date: u32,
+    call: Label,
+    dep: bool,
+    secs: Option<u32>,
+) -> Result<Message, Refusal>
+    requires { IfSome secs (λ s. s ≤ 359999) }
+    ensures exact { result ≡ correct_resolved dir.now trip.now date call dep secs }
+    ensures kept { IfOk result IsWellFormed }
+    ensures few { IfOk result HasFewCalls }
+{
+    let found = train_on(dir, trip, date)?;
+    Ok(Message::Correct {
+        node: found.event(call, dep),
+        time: time_if_any_on(dir, found.day, secs),
+    })
+}
+
+/// A withdrawn forecast.
+#[tactic(auto, unfolding(crate::specs::Resolved::withdraw_resolved))]
+fn withdraw(
+    dir: &Directory,
+    trip: &Name,
+    date: u32,
+    call: Label,
+    dep: bool,
+) -> Result<Message, Refusal>
+    ensures exact { result ≡ withdraw_resolved dir.now trip.now date call dep }
+    ensures kept { IfOk result IsWellFormed }
+    ensures few { IfOk result HasFewCalls }
+{
+    let found = train_on(dir, trip, date)?;
+    Ok(Message::Withdraw {
+        node: found.event(call, dep),
     })
 }
 
@@ -167,6 +203,19 @@ fn message(alloc: Global, wire: &Wire, dir: &Directory) -> Result<Message, Resol
             dep,
             secs,
         } => Ok(event(dir, *kind, trip, *date, *call, *dep, *secs)?),
+        Wire::Correct {
+            trip,
+            date,
+            call,
+            dep,
+            secs,
+        } => Ok(correct(dir, trip, *date, *call, *dep, *secs)?),
+        Wire::Withdraw {
+            trip,
+            date,
+            call,
+            dep,
+        } => Ok(withdraw(dir, trip, *date, *call, *dep)?),
         Wire::Cancel {
             trip,
             date,

@@ -60,6 +60,30 @@ pub enum Wire {
         /// The time, in seconds on the service day.
         secs: u32,
     },
+    /// An event took place at this time, and not when its report says.
+    Correct {
+        /// The id of the trip.
+        trip: Name,
+        /// The service day as the number YYYYMMDD.
+        date: u32,
+        /// The label of the call.
+        call: Label,
+        /// Whether it is the departure, and not the arrival.
+        dep: bool,
+        /// The time, in seconds on the service day. None takes the report back.
+        secs: Option<u32>,
+    },
+    /// The forecast of an event is taken back.
+    Withdraw {
+        /// The id of the trip.
+        trip: Name,
+        /// The service day as the number YYYYMMDD.
+        date: u32,
+        /// The label of the call.
+        call: Label,
+        /// Whether it is the departure, and not the arrival.
+        dep: bool,
+    },
     /// A train does not run from the departure of one call to the arrival of a later one.
     Cancel {
         /// The id of the trip.

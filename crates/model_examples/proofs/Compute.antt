@@ -13,14 +13,14 @@ use Rattle.delay_model.specs.declared.state.Edge.{Edge}
 use Rattle.delay_model.specs.declared.messages.Message.{Message}
 use Rattle.delay_model.specs.declared.messages.Message.TheVariants.{Keep, Drop}
 use Rattle.delay_model.specs.declared.messages.Refusal.{Refusal}
-use Rattle.delay_model.specs.declared.messages.Refusal.TheVariants.{Unknown, Known, NoConnection}
+use Rattle.delay_model.specs.declared.messages.Refusal.TheVariants.{Unknown, Known, NoConnection, Nothing}
 use Rattle.delay_model.specs.declared.overrides.Connection.{Connection}
 use Rattle.delay_model.specs.Overrides.{connection}
 use Rattle.delay_model.specs.Events.{live_events}
 use Rattle.delay_model.specs.Edges.{edges, override_of, train_edges, transfer_edges}
 use Rattle.std.specs.List.{list_any}
 use Rattle.delay_model.specs.Touched.{changed, differing, touched, named, is_fed_by}
-use Rattle.delay_model.specs.Refusals.{refused_if, is_unknown, is_known, has_no_connection, contradiction, against_rank}
+use Rattle.delay_model.specs.Refusals.{refused_if, is_unknown, is_known, has_no_connection, contradiction, against_rank, has_nothing}
 use Rattle.delay_model.proofs.ConnectionLemmas.{connections_total, exact_connections}
 use Rattle.model_examples.specs.TwoTrains.{times}
 
@@ -97,7 +97,8 @@ answer_by nw st m short =
     (option_or (refused_if (is_known st m) Known)
     (option_or (refused_if (has_no_connection nw st m) NoConnection)
     (option_or (contradiction st m)
-    (option_or (against_rank nw st m) short))))
+    (option_or (against_rank nw st m)
+    (option_or short (refused_if (has_nothing st m) Nothing))))))
 
 abbrev pub short_by : ℕ → Option Override → Option Refusal
 short_by spare o = refused_if (not (is_some o) && nat_eq spare 0) (Full Overrides)

@@ -20,7 +20,7 @@ use Rattle.delay_model.specs.declared.state.Train.{Train}
 use Rattle.delay_model.specs.declared.state.State.{State}
 use Rattle.delay_model.specs.declared.state.Event.{Event}
 use Rattle.delay_model.specs.declared.messages.Message.{Message}
-use Rattle.delay_model.specs.declared.messages.Message.TheVariants.{Forecast, Reroute, Cancel, Extra, Keep, Drop, Rule}
+use Rattle.delay_model.specs.declared.messages.Message.TheVariants.{Report, Forecast, Correct, Reroute, Cancel, Extra, Keep, Drop, Rule}
 use Rattle.delay_model.specs.Overrides.{connection_cmp}
 use Rattle.delay_model.specs.declared.state.Edge.{Edge}
 use Rattle.delay_model.specs.declared.state.EdgeKind.{EdgeKind}
@@ -218,6 +218,23 @@ departure train label = record { train = train; label = label; dep = true }
 -- the train 0 is expected at B1 at this time
 abbrev pub at_b1 : ℕ → Message
 at_b1 time = Forecast (arrival 0 1) time
+
+-- the train 0 left A at this time
+abbrev pub left_a : ℕ → Message
+left_a time = Report (departure 0 0) time
+
+-- that report is corrected to this time
+abbrev pub left_a_at : ℕ → Message
+left_a_at time = Correct (departure 0 0) (Some time)
+
+-- the report of an event is taken back
+abbrev pub take_back : Node → Message
+take_back n = Correct n None
+
+-- the train 0 left A at 08:05, came to B at 08:36 and left it at 08:40
+abbrev pub reported_at_b : List Message
+reported_at_b = left_a (clock 8 5 0) ∷ Report (arrival 0 1) (clock 8 36 0)
+    ∷ Report (departure 0 1) (clock 8 40 0) ∷ []
 
 -- the connection at B is kept, dropped, or left to the rules
 abbrev pub keep_at_b : Message

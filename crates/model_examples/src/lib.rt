@@ -5,6 +5,7 @@
 #![tactic(auto)]
 
 pub mod changes;
+pub mod corrections;
 pub mod feed;
 pub mod holds;
 pub mod journeys;

@@ -7,7 +7,7 @@ use Rattle.delay_model.specs.Names.{TrainName}
 use Rattle.delay_model.specs.Effect.{effect, change_train, new_train}
 use Rattle.delay_model.specs.Refusals.{refusal}
 use Rattle.delay_model.specs.declared.messages.Message.{Message}
-use Rattle.delay_model.specs.declared.messages.Message.TheVariants.{Report, Forecast, Cancel, Reroute, Extra, Keep, Drop, Rule}
+use Rattle.delay_model.specs.declared.messages.Message.TheVariants.{Report, Forecast, Correct, Withdraw, Cancel, Reroute, Extra, Keep, Drop, Rule}
 use Rattle.delay_model.specs.declared.state.Train.{Train}
 use Rattle.mt_base.specs.declared.new_calls.NewCall.{NewCall}
 use Rattle.feed_tables.specs.Lawful.{AreDistinct}
@@ -130,6 +130,8 @@ pub message-in_step : (names : Names) (st : State) (trip : List ℕ) (m : Messag
 unfolding effect
 message-in_step names st trip (Report n t) h new = same-days names st _ h (length-changed n.train _ st.trains) (days-changed n.train _ st.trains (λ t. refl)) refl
 message-in_step names st trip (Forecast n t) h new = same-days names st _ h (length-changed n.train _ st.trains) (days-changed n.train _ st.trains (λ t. refl)) refl
+message-in_step names st trip (Correct n o) h new = same-days names st _ h (length-changed n.train _ st.trains) (days-changed n.train _ st.trains (λ t. refl)) refl
+message-in_step names st trip (Withdraw n) h new = same-days names st _ h (length-changed n.train _ st.trains) (days-changed n.train _ st.trains (λ t. refl)) refl
 message-in_step names st trip (Cancel train from to) h new = same-days names st _ h (length-changed train _ st.trains) (days-changed train _ st.trains (λ t. refl)) refl
 message-in_step names st trip (Reroute train from to via) h new = same-days names st _ h (length-changed train _ st.trains) (days-changed train _ st.trains (λ t. refl)) refl
 message-in_step names st trip (Extra train day route calls) h new = extra-in_step names st trip train day route calls h new

@@ -1,6 +1,6 @@
 -- What is known of a message that meets no refusal.
 use Rattle.state_laws.proofs.Words.{◌≡◌, ℕ, Bool, false, List, [], ◌∷◌, Option, None, All-cons, All-nil, All, IfSome, option_or, arith, live_report, refusal, refused_if, is_unknown}
-use Rattle.state_laws.proofs.Words.{is_known, has_no_connection, contradiction, against_rank, shortage, first_reported, Message, Network, Event, State}
+use Rattle.state_laws.proofs.Words.{is_known, has_no_connection, has_nothing, contradiction, against_rank, shortage, first_reported, Message, Network, Event, State}
 use Rattle.delay_model.specs.declared.messages.Refusal.{Refusal}
 
 -- no cause of a refusal holds
@@ -11,6 +11,7 @@ pub record IsAccepted (nw : Network) (st : State) (m : Message) : Type 0 where
   pub agrees : contradiction st m ≡ None
   pub in_rank : against_rank nw st m ≡ None
   pub room : shortage st m ≡ None
+  pub something : has_nothing st m ≡ false
 
 pub or-none : {X : Type 0} (a b : Option X) → option_or a b ≡ None → (a ≡ None) × (b ≡ None)
 or-none a b h = grind arith

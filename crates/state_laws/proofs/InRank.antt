@@ -2,7 +2,7 @@
 use Rattle.state_laws.proofs.Words.{◌≡◌, ℕ, true, false, List, [], ◌∷◌, Option, Some, None, length, refl, sym, ◌∙◌, arith, inl, inr, is_some, cases_Bool, list_any_at, list_any_none, list_any}
 use Rattle.state_laws.proofs.Words.{All-nil, All-weaker, All-contains, All-contains_itself, Contains-append_left, Contains-append_right, All, Contains, slice_get, get-insert, option_map_or, eq_by_cmp}
 use Rattle.state_laws.proofs.Words.{node_of, Node, edges, edges_along, train_edges, transfer, transfer_edges, override_of, effect, with_override, events, event_named, train_events, events_of, is_event, IsWellFormed, connection, connection_cmp}
-use Rattle.state_laws.proofs.Words.{refusal, against_rank, against_rank_by, first_against_rank, is_against_rank, kept_edge, shortage, IsForward, IsValid, Message, Report, Forecast, Cancel, Reroute}
+use Rattle.state_laws.proofs.Words.{refusal, against_rank, against_rank_by, first_against_rank, is_against_rank, has_nothing, kept_edge, shortage, IsForward, IsValid, Message, Report, Forecast, Correct, Withdraw, Cancel, Reroute}
 use Rattle.state_laws.proofs.Words.{Extra, Keep, Drop, Rule, Network, Kept, Edge, Event, State, Train, connections_total, same_node-is, suc}
 use Rattle.std.proofs.lemmas.Cmp.{eq_by_cmp_equiv}
 use Rattle.delay_model.specs.declared.messages.Refusal.{Refusal}
@@ -11,6 +11,7 @@ use Rattle.state_laws.proofs.Parts.{edges-each, each-transfer}
 use Rattle.state_laws.proofs.Changed.{train_events-there}
 use Rattle.state_laws.proofs.Choices.{found-there}
 use Rattle.state_laws.proofs.Stays.{stays-valid}
+use Rattle.state_laws.proofs.Values.{corrected-valid, forecast-valid}
 
 pub not-against : (e : Edge) → IsForward e → is_against_rank e ≡ false
 not-against e h = grind (arith, h.later, h.room)
@@ -39,27 +40,47 @@ record IsAlike (nw : Network) (st : State) (m : Message) : Type 0 where
   rank : against_rank nw (roomy st m) m ≡ against_rank nw st m
   enough : shortage (roomy st m) m ≡ None
   same : edges nw (effect (roomy st m) m) ≡ edges nw (effect st m)
+  lacking : has_nothing (roomy st m) m ≡ has_nothing st m
 
 roomy-alike : (nw : Network) (st : State) (m : Message) → IsAlike nw st m
 unfolding edges effect events calls_in
-roomy-alike nw st (Report n t) = record { comes = λ c. record { known = c.known; new = c.new; connection = c.connection; agrees = c.agrees }; rank = refl; enough = refl; same = refl }
-roomy-alike nw st (Forecast n t) = record { comes = λ c. record { known = c.known; new = c.new; connection = c.connection; agrees = c.agrees }; rank = refl; enough = refl; same = refl }
-roomy-alike nw st (Cancel n from to) = record { comes = λ c. record { known = c.known; new = c.new; connection = c.connection; agrees = c.agrees }; rank = refl; enough = refl; same = refl }
-roomy-alike nw st (Reroute n from to via) = record { comes = λ c. record { known = c.known; new = c.new; connection = c.connection; agrees = c.agrees }; rank = refl; enough = grind arith; same = refl }
-roomy-alike nw st (Extra n day route cs) = record { comes = λ c. record { known = c.known; new = c.new; connection = c.connection; agrees = c.agrees }; rank = refl; enough = grind arith; same = refl }
-roomy-alike nw st (Keep feeder train) = record { comes = λ c. record { known = c.known; new = c.new; connection = c.connection; agrees = c.agrees }; rank = refl; enough = grind arith; same = refl }
-roomy-alike nw st (Drop feeder train) = record { comes = λ c. record { known = c.known; new = c.new; connection = c.connection; agrees = c.agrees }; rank = refl; enough = grind arith; same = refl }
-roomy-alike nw st (Rule feeder train) = record { comes = λ c. record { known = c.known; new = c.new; connection = c.connection; agrees = c.agrees }; rank = refl; enough = refl; same = refl }
+roomy-alike nw st (Report n t) = record { comes = λ c. record { known = c.known; new = c.new; connection = c.connection; agrees = c.agrees }; rank = refl; enough = refl; same = refl; lacking = refl }
+roomy-alike nw st (Forecast n t) = record { comes = λ c. record { known = c.known; new = c.new; connection = c.connection; agrees = c.agrees }; rank = refl; enough = refl; same = refl; lacking = refl }
+roomy-alike nw st (Correct n o) = record { comes = λ c. record { known = c.known; new = c.new; connection = c.connection; agrees = c.agrees }; rank = refl; enough = refl; same = refl; lacking = refl }
+roomy-alike nw st (Withdraw n) = record { comes = λ c. record { known = c.known; new = c.new; connection = c.connection; agrees = c.agrees }; rank = refl; enough = refl; same = refl; lacking = refl }
+roomy-alike nw st (Cancel n from to) = record { comes = λ c. record { known = c.known; new = c.new; connection = c.connection; agrees = c.agrees }; rank = refl; enough = refl; same = refl; lacking = refl }
+roomy-alike nw st (Reroute n from to via) = record { comes = λ c. record { known = c.known; new = c.new; connection = c.connection; agrees = c.agrees }; rank = refl; enough = grind arith; same = refl; lacking = refl }
+roomy-alike nw st (Extra n day route cs) = record { comes = λ c. record { known = c.known; new = c.new; connection = c.connection; agrees = c.agrees }; rank = refl; enough = grind arith; same = refl; lacking = refl }
+roomy-alike nw st (Keep feeder train) = record { comes = λ c. record { known = c.known; new = c.new; connection = c.connection; agrees = c.agrees }; rank = refl; enough = grind arith; same = refl; lacking = refl }
+roomy-alike nw st (Drop feeder train) = record { comes = λ c. record { known = c.known; new = c.new; connection = c.connection; agrees = c.agrees }; rank = refl; enough = grind arith; same = refl; lacking = refl }
+roomy-alike nw st (Rule feeder train) = record { comes = λ c. record { known = c.known; new = c.new; connection = c.connection; agrees = c.agrees }; rank = refl; enough = refl; same = refl; lacking = refl }
 
-accepts : (nw : Network) (st : State) (m : Message) → ComesToRank nw st m → against_rank nw st m ≡ None → shortage st m ≡ None → refusal nw st m ≡ None
+accepts : (nw : Network) (st : State) (m : Message) → ComesToRank nw st m → against_rank nw st m ≡ None → shortage st m ≡ None → has_nothing st m ≡ false → refusal nw st m ≡ None
 unfolding refusal
-accepts nw st m c in_rank enough = rw (c.known, c.new, c.connection, c.agrees, in_rank, enough) refl
+accepts nw st m c in_rank enough some = rw (c.known, c.new, c.connection, c.agrees, in_rank, enough, some) refl
+
+abbrev MakesNone : Network → State → Message → Type 0
+MakesNone nw st m = IsValid nw st → IsWellFormed m → ComesToRank nw st m → against_rank nw st m ≡ None → All IsForward (edges nw (effect st m))
+
+-- a message that only too little of what is spare can refuse
+others-make : (nw : Network) (st : State) (m : Message) → has_nothing st m ≡ false → MakesNone nw st m
+others-make nw st m some valid well comes in_rank =
+    let a = roomy-alike nw st m in
+    rw a.same at (stays-valid nw (roomy st m) m (roomy-valid nw st m valid) well (accepts nw (roomy st m) m (a.comes comes) (a.rank ∙ in_rank) a.enough (a.lacking ∙ some))).forward
 
 -- what is not against rank makes no edge against rank
-none-made : (nw : Network) (st : State) (m : Message) → IsValid nw st → IsWellFormed m → ComesToRank nw st m → against_rank nw st m ≡ None → All IsForward (edges nw (effect st m))
-none-made nw st m valid well comes in_rank =
-    let a = roomy-alike nw st m in
-    rw a.same at (stays-valid nw (roomy st m) m (roomy-valid nw st m valid) well (accepts nw (roomy st m) m (a.comes comes) (a.rank ∙ in_rank) a.enough)).forward
+none-made : (nw : Network) (st : State) (m : Message) → MakesNone nw st m
+unfolding effect
+none-made nw st (Report n t) = others-make nw st (Report n t) refl
+none-made nw st (Forecast n t) = others-make nw st (Forecast n t) refl
+none-made nw st (Correct n o) = λ valid well comes in_rank. (corrected-valid nw st n o valid well comes.known comes.agrees).forward
+none-made nw st (Withdraw n) = λ valid well comes in_rank. (forecast-valid nw st n None valid tt).forward
+none-made nw st (Cancel n from to) = others-make nw st (Cancel n from to) refl
+none-made nw st (Reroute n from to via) = others-make nw st (Reroute n from to via) refl
+none-made nw st (Extra n day route cs) = others-make nw st (Extra n day route cs) refl
+none-made nw st (Keep feeder train) = others-make nw st (Keep feeder train) refl
+none-made nw st (Drop feeder train) = others-make nw st (Drop feeder train) refl
+none-made nw st (Rule feeder train) = others-make nw st (Rule feeder train) refl
 
 -- an edge against rank that a refusal shows
 abbrev IsShown : List Edge → Refusal → Type 0
@@ -110,6 +131,8 @@ pub edge-shown : (nw : Network) (st : State) (m : Message) (r : Refusal) → aga
 unfolding effect
 edge-shown nw st (Report n t) r e = absurd (cc)
 edge-shown nw st (Forecast n t) r e = absurd (cc)
+edge-shown nw st (Correct n o) r e = absurd (cc)
+edge-shown nw st (Withdraw n) r e = absurd (cc)
 edge-shown nw st (Cancel n from to) r e = absurd (cc)
 edge-shown nw st (Reroute n from to via) r e = first-shown _ _ r (along-there nw (effect st (Reroute n from to via)) n) e
 edge-shown nw st (Extra n day route cs) r e = first-shown _ _ r (along-there nw (effect st (Extra n day route cs)) n) e

@@ -1,14 +1,14 @@
 -- What a report leaves of an event that it does not name: its cap too, unless it is reported itself.
-use Rattle.state_laws.proofs.Words.{get_or, map_fixed, ◌≡◌, ℕ, ◌^◌, ◌<◌, true, false, ◌&&◌, List, [], ◌∷◌, ◌++◌, None, map, refl, sym, ◌∙◌, ap, arith, inl, inr, ◌≢◌, cond_both, common_steps}
+use Rattle.state_laws.proofs.Words.{get_or, map_fixed, ◌≡◌, ℕ, ◌^◌, ◌<◌, true, false, ◌&&◌, List, [], ◌∷◌, ◌++◌, Option, Some, None, IfSome, map, refl, sym, ◌∙◌, ap, arith, inl, inr, ◌≢◌, cond_both, common_steps}
 use Rattle.state_laws.proofs.Words.{true_from_ne_false, cases_Bool, cases_eq, false_from_ne_true, not-false, All-head, All-tail, All-contains, Contains-append_cases, All, AllPairs, Contains}
-use Rattle.state_laws.proofs.Words.{list_any, node_of, is_same, Node, before, effect, with_event, reported, change_labelled, change_event, change_calls, events, events_of, train_events}
-use Rattle.state_laws.proofs.Words.{is_event, live_events, refusal, first_report, after_key, named, since_report, is_reported, names_of, IsValid, Report, Network, Event, State, AreApart}
+use Rattle.state_laws.proofs.Words.{list_any, node_of, is_same, Node, before, with_event, with_report, change_labelled, change_event, change_calls, events, events_of, train_events}
+use Rattle.state_laws.proofs.Words.{is_event, is_live, live_events, refusal, first_report, after_key, capped_by, since_report, is_reported, names_of, IsValid, Report, Correct, Network, Event, State, AreApart}
 use Rattle.state_laws.proofs.Words.{events_at-train, AllPairs-tail, AllPairs-after, Contains-cases, Contains-there, Contains-filter, same-is, same-itself}
 use Rattle.state_laws.proofs.Parts.{All-left, All-right}
 use Rattle.state_laws.proofs.Changed.{Contains-map, events_at-mapped}
 use Rattle.state_laws.proofs.Accepted.{accepted-by}
 use Rattle.state_laws.proofs.Extras.{none-live}
-use Rattle.state_laws.proofs.Values.{any-there, other-event, IsSetting, set_at, put_report, report-valid, train-apart}
+use Rattle.state_laws.proofs.Values.{any-there, other-event, set_at, put_report, sets-report, report-valid, correct-valid, train-apart}
 use Rattle.state_laws.proofs.Untouched.{IsLeft}
 use Rattle.state_laws.proofs.Caps.{cap-mapped, after_key-mapped, All-after_key}
 use Rattle.state_laws.proofs.Mappings.{mapping-events}
@@ -20,9 +20,9 @@ since-among [] w h = h
 since-among (v ∷ vs) w h =
     cond_both (list_any is_reported (v ∷ vs)) (since_report vs) (v ∷ vs) (λ zs. Contains zs w → Contains (v ∷ vs) w) (λ _ c. Contains-there v vs w (since-among vs w c)) (λ _ c. c) h
 
-module _ (n : Node) (t : ℕ) (train : ℕ) where
+module _ (n : Node) (o : Option ℕ) (train : ℕ) where
   abbrev set : Event → Event
-  set = set_at n (put_report t)
+  set = set_at n (put_report o)
 
   set-keys : (v : Event) → (set v).key ≡ v.key
   set-keys v = grind arith
@@ -62,32 +62,33 @@ module _ (n : Node) (t : ℕ) (train : ℕ) where
             ]
       ]
 
-pub report-left : (nw : Network) (st : State) (n : Node) (t : ℕ) → IsValid nw st → t < 2 ^ 24 → refusal nw st (Report n t) ≡ None → (w : Event) → Contains (events (effect st (Report n t))) w → w.live ≡ true → All (λ k. k ≢ node_of w.key) (named st (Report n t)) → IsLeft nw st (effect st (Report n t)) w
-unfolding effect events
-report-left nw st n t valid small accepts w hw live free =
-    let k = put_report t in
+-- a report that is given or taken back
+given-left : (nw : Network) (st : State) (n : Node) (o : Option ℕ) → IsValid nw st → IsValid nw (with_event n (with_report o) st) → is_live st n ≡ true → (w : Event) → Contains (events (with_event n (with_report o) st)) w → w.live ≡ true → All (λ k. k ≢ node_of w.key) (capped_by st n) → IsLeft nw st (with_event n (with_report o) st) w
+unfolding events
+given-left nw st n o valid stays named w hw live free =
+    let k = put_report o in
     let h = set_at n k in
-    let new = with_event n (reported t) st in
-    let s : IsSetting (reported t) k = record { by = λ train route label stop dep e. refl; shape = λ v. refl } in
-    let m = set-mapping st n (reported t) k s in
+    let new = with_event n (with_report o) st in
+    let s = sets-report o in
+    let m = set-mapping st n (with_report o) k s in
     let i = n.train in
     let es = events st in
     let since = since_report (before (is_event n) (train_events st i)) in
     let Free : Node → Type 0 = λ k. k ≢ node_of w.key in
     let ne : n ≢ node_of w.key = All-head Free n [] (All-right Free (names_of (live_events since)) (n ∷ []) free) in
     let other = not-event n w ne in
-    let kw = set-there st n (reported t) k s w hw ne in
+    let kw = set-there st n (with_report o) k s w hw ne in
     let not_since : Contains since w → ⊥ =
     λ c. All-contains Free (names_of (live_events since)) (node_of w.key) (All-left Free _ (n ∷ []) free)
     (Contains-map (λ (v : Event). node_of v.key) (live_events since) w (Contains-filter (λ (v : Event). v.live) since w c live)) refl
     in
-    let found = any-there (λ v. is_event n v && v.live) (train_events st i) (not-false _ (accepted-by nw st (Report n t) accepts).known) in
+    let found = any-there (λ v. is_event n v && v.live) (train_events st i) named in
     let run = train-there st i found.0 found.1 in
     let u = run.0 in
     let line = events_of i u in
     let own_line : train_events st i ≡ line = cc run.1 in
-    let p = placed (change_calls (map (change_labelled n.label (change_event n.dep (reported t))))) 0 i i st.trains u (omega arith) run.1 in
-    set-left nw st n (reported t) k s valid (report-valid nw st n t valid small accepts) w hw live ne (λ silent.
+    let p = placed (change_calls (map (change_labelled n.label (change_event n.dep (with_report o))))) 0 i i st.trains u (omega arith) run.1 in
+    set-left nw st n (with_report o) k s valid stays w hw live ne (λ silent.
     elim (cases_eq w.key.train i) [
       | inr differs ↦
           rw (mapping-events st new i _ h m) (sym (cap-mapped h m.mapped.keys es w (λ j d l same. rw (m.others (get_or es j d) (λ at. differs (sym same ∙ at))))))
@@ -103,5 +104,13 @@ report-left nw st n t valid small accepts w hw live free =
           let still : Contains (map h line) w = rw other at (Contains-map h line w there) in
           let apart = train-apart st valid.trains i i u (omega arith) run.1 in
           rw (p.old, p.new, events_at-mapped i _ h u.route u.calls m.mapped, report-within i p.before line p.after w own there p.others_before p.others_after, report-within i p.before (map h line) p.after w own still p.others_before p.others_after, after_key-mapped h m.mapped.keys w.key line)
-          (sym (since-cap n t i w silent other line apart (events_at-train i u.route u.calls) there (rw own_line at not_since)))
+          (sym (since-cap n o i w silent other line apart (events_at-train i u.route u.calls) there (rw own_line at not_since)))
     ])
+
+pub report-left : (nw : Network) (st : State) (n : Node) (t : ℕ) → IsValid nw st → t < 2 ^ 24 → refusal nw st (Report n t) ≡ None → (w : Event) → Contains (events (with_event n (with_report (Some t)) st)) w → w.live ≡ true → All (λ k. k ≢ node_of w.key) (capped_by st n) → IsLeft nw st (with_event n (with_report (Some t)) st) w
+report-left nw st n t valid small accepts w hw live free =
+    given-left nw st n (Some t) valid (report-valid nw st n t valid small accepts) (not-false _ (accepted-by nw st (Report n t) accepts).known) w hw live free
+
+pub correct-left : (nw : Network) (st : State) (n : Node) (o : Option ℕ) → IsValid nw st → IfSome o (λ t. t < 2 ^ 24) → refusal nw st (Correct n o) ≡ None → (w : Event) → Contains (events (with_event n (with_report o) st)) w → w.live ≡ true → All (λ k. k ≢ node_of w.key) (capped_by st n) → IsLeft nw st (with_event n (with_report o) st) w
+correct-left nw st n o valid small accepts w hw live free =
+    given-left nw st n o valid (correct-valid nw st n o valid small accepts) (not-false _ (accepted-by nw st (Correct n o) accepts).known) w hw live free

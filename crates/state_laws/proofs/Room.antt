@@ -3,7 +3,7 @@ use Rattle.state_laws.proofs.Words.{◌≡◌, ℕ, zero, suc, ◌+◌, ◌-◌,
 use Rattle.state_laws.proofs.Words.{All-push, All-weaker, All-cons, All-nil, All-head, All-tail, FinMap, get, retain_keys, len, entries, entries_sorted, from_sorted, get-empty}
 use Rattle.state_laws.proofs.Words.{get-retain_keys, get-entries, get-from_sorted, entries-from_sorted, len-insert, len-remove, len-entries, empty_of_len, same_map, All, Equal, Node, effect}
 use Rattle.state_laws.proofs.Words.{change_train, with_override, without_override, without_overrides_of, names_one_of, stretch, events_between, new_train, connection, connection_cmp}
-use Rattle.state_laws.proofs.Words.{refusal, overrides_short, HasRoom, Message, Report, Forecast, Cancel, Reroute, Extra, Keep, Drop, Rule, Network, Connection, Override, Kept, Dropped}
+use Rattle.state_laws.proofs.Words.{refusal, overrides_short, HasRoom, Message, Report, Forecast, Correct, Withdraw, Cancel, Reroute, Extra, Keep, Drop, Rule, Network, Connection, Override, Kept, Dropped}
 use Rattle.state_laws.proofs.Words.{Event, State, Train, connections_total, exact_connections}
 use Rattle.std.specs.FinMap.Entries.{where_key, is_sorted-where_key, find-where_key}
 use Rattle.state_laws.proofs.Accepted.{accepted-by}
@@ -67,6 +67,8 @@ pub room-kept : (nw : Network) (st : State) (m : Message) → HasRoom st → ref
 unfolding effect
 room-kept nw st (Report n t) room h = room-changed st n.train st.spare_calls _ room (omega arith) (λ t fits. fits)
 room-kept nw st (Forecast n t) room h = room-changed st n.train st.spare_calls _ room (omega arith) (λ t fits. fits)
+room-kept nw st (Correct n o) room h = room-changed st n.train st.spare_calls _ room (omega arith) (λ t fits. fits)
+room-kept nw st (Withdraw n) room h = room-changed st n.train st.spare_calls _ room (omega arith) (λ t fits. fits)
 room-kept nw st (Cancel n from to) room h = room-without (stretch st n from to) _ (room-changed st n st.spare_calls _ room (omega arith) (λ t fits. fits))
 room-kept nw st (Reroute n from to via) room h =
     let a = accepted-by nw st (Reroute n from to via) h in

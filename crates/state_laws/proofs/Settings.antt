@@ -1,7 +1,7 @@
 -- A forecast or a report changes one event, and of the others only the caps.
-use Rattle.state_laws.proofs.Words.{◌≡◌, ℕ, ◌^◌, ◌<◌, true, false, [], None, refl, sym, ◌∙◌, ap, ◌≢◌, false_from_ne_true, All-head, arith, All, Contains, node_of, Node, effect, with_event}
-use Rattle.state_laws.proofs.Words.{forecasted, change_labelled, change_event, events, is_event, cap, named, IsValid, Forecast, Network, Event, EventValues, State, same_node-is}
-use Rattle.state_laws.proofs.Values.{IsSetting, set_at, set-shape, set-mapped, other-train, put_forecast, forecast-valid}
+use Rattle.state_laws.proofs.Words.{◌≡◌, ℕ, ◌^◌, ◌<◌, true, false, [], ◌∷◌, None, refl, sym, ◌∙◌, ap, ◌≢◌, false_from_ne_true, All-head, arith, All, Contains, node_of, Node, with_event}
+use Rattle.state_laws.proofs.Words.{Option, IfSome, with_forecast, change_labelled, change_event, events, is_event, cap, IsValid, Network, Event, EventValues, State, same_node-is}
+use Rattle.state_laws.proofs.Values.{IsSetting, set_at, set-shape, set-mapped, other-train, put_forecast, sets-forecast, forecast-valid}
 use Rattle.state_laws.proofs.Untouched.{IsLeft}
 use Rattle.state_laws.proofs.Joined.{left-by}
 use Rattle.state_laws.proofs.Caps.{cap-mapped}
@@ -31,13 +31,13 @@ set-left nw st n f k s before after w h live ne caps =
     left-by nw st new w before after (set-there st n f k s w h ne) h caps
     (mapping-joined nw st new n.train _ (set_at n k) (set-mapping st n f k s) before w h live (λ _ _ _. refl))
 
-pub forecast-left : (nw : Network) (st : State) (n : Node) (t : ℕ) → IsValid nw st → t < 2 ^ 24 → (w : Event) → Contains (events (effect st (Forecast n t))) w → w.live ≡ true → All (λ k. k ≢ node_of w.key) (named st (Forecast n t)) → IsLeft nw st (effect st (Forecast n t)) w
-unfolding effect
-forecast-left nw st n t valid small w h live free =
-    let k = put_forecast t in
+-- a forecast that is given or taken back
+pub forecast-left : (nw : Network) (st : State) (n : Node) (o : Option ℕ) → IsValid nw st → IfSome o (λ t. t < 2 ^ 24) → (w : Event) → Contains (events (with_event n (with_forecast o) st)) w → w.live ≡ true → All (λ k. k ≢ node_of w.key) (n ∷ []) → IsLeft nw st (with_event n (with_forecast o) st) w
+forecast-left nw st n o valid small w h live free =
+    let k = put_forecast o in
     let g = set_at n k in
-    let f = forecasted t in
-    let s : IsSetting f k = record { by = λ train route label stop dep e. refl; shape = λ v. refl } in
+    let f = with_forecast o in
+    let s = sets-forecast o in
     let m = set-mapping st n f k s in
-    set-left nw st n f k s valid (forecast-valid nw st n t valid small) w h live (All-head (λ k. k ≢ node_of w.key) n [] free) (λ _.
+    set-left nw st n f k s valid (forecast-valid nw st n o valid small) w h live (All-head (λ k. k ≢ node_of w.key) n [] free) (λ _.
     rw (mapping-events st _ n.train _ g m) (sym (cap-mapped g m.mapped.keys (events st) w (λ i d l. grind arith))))

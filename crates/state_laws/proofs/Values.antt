@@ -2,9 +2,9 @@
 use Rattle.state_laws.proofs.Words.{get_or, map_fixed, common_steps, elements, ◌≡◌, ℕ, ◌+◌, ◌^◌, ◌<◌, ◌≤◌, Bool, true, false, ◌&&◌, cond, nat_eq, nat_lt, List, [], ◌∷◌, ◌++◌, Option, Some}
 use Rattle.state_laws.proofs.Words.{None, map, refl, sym, ◌∙◌, ap, subst, arith, first_reported, inl, inr, ◌≢◌, cond_both, cond-false, and_parts, cases_Bool, or_cases, false_from_ne_true}
 use Rattle.state_laws.proofs.Words.{not-false, All-tail, All-head, All-map, All-weaker, All-contains, All, AllPairs, Contains, slice_get, list_any, IfSome, is_same_node, Node, before, after}
-use Rattle.state_laws.proofs.Words.{transfer, effect, with_event, reported, forecasted, change_calls, change_labelled, change_event, events, events_of, events_from, event_by, train_events}
-use Rattle.state_laws.proofs.Words.{arrival_of, departure_of, live_report, is_event, is_live, refusal, contradicted_at, IsSmall, IsTrain, IsRun, HasReportsInOrder, AreReportedFrom, IsValid}
-use Rattle.state_laws.proofs.Words.{Report, Forecast, Network, Connection, Override, Call, Event, EventValues, State, Train, AreApart, events-apart, events-unique, AllPairs-tail}
+use Rattle.state_laws.proofs.Words.{transfer, with_event, with_report, with_forecast, change_calls, change_labelled, change_event, events, events_of, events_from, event_by, train_events}
+use Rattle.state_laws.proofs.Words.{arrival_of, departure_of, live_report, is_event, is_live, refusal, is_unknown, contradiction, contradicted_at, IsSmall, IsTrain, IsRun, HasReportsInOrder, AreReportedFrom, IsValid}
+use Rattle.state_laws.proofs.Words.{Report, Correct, Network, Connection, Override, Call, Event, EventValues, State, Train, AreApart, events-apart, events-unique, AllPairs-tail}
 use Rattle.state_laws.proofs.Words.{AllPairs-after, Contains-there, same_node-is}
 use mathlib.Core.Bool.{beq}
 use Rattle.state_laws.proofs.Parts.{AtEach, each-from, each-none, IsUnreported, IsCarried, valid-from, valid-good, valid-carried}
@@ -124,27 +124,34 @@ live-named st n trains h v hv named =
     let hu = All-contains (Contains (events st)) _ u (train_events-there st n.train) found.1 in
     rw (events-unique st trains u v hu hv (same_node-is _ _ both.0 ∙ sym (same_node-is _ _ named))) at both.1
 
-abbrev pub put_report : ℕ → Event → Event
-put_report t v = record v { report = Some t }
+abbrev pub put_report : Option ℕ → Event → Event
+put_report o v = record v { report = o }
 
-abbrev pub put_forecast : ℕ → Event → Event
-put_forecast t v = record v { forecast = Some t }
+abbrev pub put_forecast : Option ℕ → Event → Event
+put_forecast o v = record v { forecast = o }
+
+-- a report that is given or taken back is a setting, and so is a forecast
+pub sets-report : (o : Option ℕ) → IsSetting (with_report o) (put_report o)
+sets-report o = record { by = λ train route label stop dep e. refl; shape = λ v. refl }
+
+pub sets-forecast : (o : Option ℕ) → IsSetting (with_forecast o) (put_forecast o)
+sets-forecast o = record { by = λ train route label stop dep e. refl; shape = λ v. refl }
 
 -- reports stay in order where those before are no later, and those after no earlier
 set-same : (n : Node) (k : Event → Event) (v : Event) (vs : List Event) → is_event n v ≡ true → All (AreApart v) vs → map (set_at n k) vs ≡ vs
 set-same n k v vs hit apart = map_fixed _ vs (λ i d l. rw (other-event n v (get_or vs i d) hit (apart i d l)) refl)
 
-set-later : (n : Node) (t r : ℕ) (vs : List Event) → r ≤ t → AreReportedFrom r vs → AreReportedFrom r (map (set_at n (put_report t)) vs)
+set-later : (n : Node) (t r : ℕ) (vs : List Event) → r ≤ t → AreReportedFrom r vs → AreReportedFrom r (map (set_at n (put_report (Some t))) vs)
 set-later n t r vs le all =
     let P : Event → Type 0 = λ v. IfSome (live_report v) (λ s. r ≤ s) in
-    All-map P (set_at n (put_report t)) vs (All-weaker P (λ v. P (set_at n (put_report t) v)) (λ v p. grind arith) vs all)
+    All-map P (set_at n (put_report (Some t))) vs (All-weaker P (λ v. P (set_at n (put_report (Some t)) v)) (λ v p. grind arith) vs all)
 
-order-set : (n : Node) (t : ℕ) (es : List Event) → AllPairs AreApart es → HasReportsInOrder es → All (λ v. IfSome (live_report v) (λ r. r ≤ t)) (before (is_event n) es) → All (λ v. IfSome (live_report v) (λ r. t ≤ r)) (after (is_event n) es) → HasReportsInOrder (map (set_at n (put_report t)) es)
+order-set : (n : Node) (t : ℕ) (es : List Event) → AllPairs AreApart es → HasReportsInOrder es → All (λ v. IfSome (live_report v) (λ r. r ≤ t)) (before (is_event n) es) → All (λ v. IfSome (live_report v) (λ r. t ≤ r)) (after (is_event n) es) → HasReportsInOrder (map (set_at n (put_report (Some t))) es)
 order-set n t [] apart h lo hi = tt
 order-set n t (v ∷ vs) apart h lo hi =
     let Low : Event → Type 0 = λ v. IfSome (live_report v) (λ r. r ≤ t) in
     elim (cases_Bool (is_event n v)) [
-      | inl hit ↦ rw (set-same n (put_report t) v vs hit (AllPairs-after AreApart [] v vs apart), hit) (let later = rw hit at hi in grind arith)
+      | inl hit ↦ rw (set-same n (put_report (Some t)) v vs hit (AllPairs-after AreApart [] v vs apart), hit) (let later = rw hit at hi in grind arith)
       | inr miss ↦
           let sooner = rw miss at lo in
           let rest = order-set n t vs (AllPairs-tail AreApart v vs apart) h.1 (All-tail Low v _ sooner) (rw miss at hi) in
@@ -152,38 +159,68 @@ order-set n t (v ∷ vs) apart h lo hi =
           rw miss (let here = h.0 in grind (arith, λ (r : ℕ). set-later n t r vs))
     ]
 
--- a report that no other contradicts keeps the order
-order-reported : (n : Node) (t : ℕ) (es : List Event) → AllPairs AreApart es → HasReportsInOrder es → contradicted_at t n es ≡ None → HasReportsInOrder (map (set_at n (put_report t)) es)
-order-reported n t es apart h agrees =
+-- a report that no other contradicts keeps the order, whether or not it replaces one
+order-reported : (n : Node) (replaces : Bool) (t : ℕ) (es : List Event) → AllPairs AreApart es → HasReportsInOrder es → contradicted_at replaces t n es ≡ None → HasReportsInOrder (map (set_at n (put_report (Some t))) es)
+order-reported n replaces t es apart h agrees =
     let b = or-none _ _ (or-none (first_reported (λ r. nat_lt t r) (before (is_event n) es)) _ agrees).1 in
     let Free : (ℕ → Bool) → Event → Type 0 = λ p v. IfSome (live_report v) (λ r. p r ≡ false) in
     order-set n t es apart h
     (All-weaker (Free (λ r. nat_lt t r)) (λ v. IfSome (live_report v) (λ r. r ≤ t)) (λ v f. grind arith) _ (none-reported (λ r. nat_lt t r) (before (is_event n) es) (or-none _ _ agrees).0))
     (All-weaker (Free (λ r. nat_lt r t)) (λ v. IfSome (live_report v) (λ r. t ≤ r)) (λ v f. grind arith) _ (none-reported (λ r. nat_lt r t) (after (is_event n) es) b.1))
 
-pub report-valid : (nw : Network) (st : State) (n : Node) (t : ℕ) → IsValid nw st → t < 2 ^ 24 → refusal nw st (Report n t) ≡ None → IsValid nw (effect st (Report n t))
-unfolding effect
-report-valid nw st n t valid small h =
-    let a = accepted-by nw st (Report n t) h in
-    let k = put_report t in
-    set-valid nw st n (reported t) k (record { by = λ train route label stop dep e. refl; shape = λ v. refl }) valid (λ u got.
+-- a report that is taken back keeps it too
+order-removed : (n : Node) (es : List Event) → HasReportsInOrder es → HasReportsInOrder (map (set_at n (put_report None)) es)
+order-removed n es h =
+    order-fewer (set_at n (put_report None)) (λ v P none p. cond_both (is_event n v) (put_report None v) v (λ w. P (live_report w)) (λ _. cond_both v.live None None P (λ _. none) (λ _. none)) (λ _. p)) es h
+
+-- no other report contradicts this one, if one is given
+abbrev Agrees : State → Node → Option ℕ → Type 0
+Agrees st n o = (replaces : Bool) × IfSome o (λ t. contradicted_at replaces t n (train_events st n.train) ≡ None)
+
+order-with : (n : Node) (o : Option ℕ) (st : State) (es : List Event) → train_events st n.train ≡ es → AllPairs AreApart es → HasReportsInOrder es → Agrees st n o → HasReportsInOrder (map (set_at n (put_report o)) es)
+order-with n None st es own apart h agrees = order-removed n es h
+order-with n (Some t) st es own apart h agrees = order-reported n agrees.0 t es apart h (rw own at agrees.1)
+
+-- a live event may be given such a report, or lose the one that it has
+given-valid : (nw : Network) (st : State) (n : Node) (o : Option ℕ) → IsValid nw st → IfSome o (λ t. t < 2 ^ 24) → is_live st n ≡ true → Agrees st n o → IsValid nw (with_event n (with_report o) st)
+given-valid nw st n o valid small live agrees =
+    let k = put_report o in
+    set-valid nw st n (with_report o) k (sets-report o) valid (λ u got.
     let i = n.train in
     let es = events_of i u in
     let good = valid-good nw st valid i i u (omega arith) got in
     let own : train_events st i ≡ es = rw got in
     record {
-      reports = order-reported n t es (train-apart st valid.trains i i u (omega arith) got) (good.train.reports i) (rw own at a.agrees);
+      reports = order-with n o st es own (train-apart st valid.trains i i u (omega arith) got) (good.train.reports i) agrees;
       unreported = All-weaker (Contains (events st)) (λ v. IsUnreported (set_at n k v)) (λ v hv.
-          let named = live-named st n valid.trains (not-false _ a.known) v hv in
+          let named = live-named st n valid.trains live v hv in
           let old = All-contains IsUnreported (events st) v valid.unreported hv in grind arith) es (rw own at (train_events-there st i));
       small = All-weaker IsSmall (λ v. IsSmall (set_at n k v)) (λ v s. grind arith) es good.small;
     })
 
-pub forecast-valid : (nw : Network) (st : State) (n : Node) (t : ℕ) → IsValid nw st → t < 2 ^ 24 → IsValid nw (effect st (Forecast n t))
-unfolding effect
-forecast-valid nw st n t valid small =
-    let k = put_forecast t in
-    set-valid nw st n (forecasted t) k (record { by = λ train route label stop dep e. refl; shape = λ v. refl }) valid (λ u got.
+pub report-valid : (nw : Network) (st : State) (n : Node) (t : ℕ) → IsValid nw st → t < 2 ^ 24 → refusal nw st (Report n t) ≡ None → IsValid nw (with_event n (with_report (Some t)) st)
+report-valid nw st n t valid small h =
+    let a = accepted-by nw st (Report n t) h in
+    given-valid nw st n (Some t) valid small (not-false _ a.known) (false, a.agrees)
+
+agrees-by : (st : State) (n : Node) (o : Option ℕ) → contradiction st (Correct n o) ≡ None → Agrees st n o
+agrees-by st n None h = (true, tt)
+agrees-by st n (Some t) h = (true, h)
+
+-- a correction of a live event that no report contradicts
+pub corrected-valid : (nw : Network) (st : State) (n : Node) (o : Option ℕ) → IsValid nw st → IfSome o (λ t. t < 2 ^ 24) → is_unknown nw st (Correct n o) ≡ false → contradiction st (Correct n o) ≡ None → IsValid nw (with_event n (with_report o) st)
+corrected-valid nw st n o valid small known agrees = given-valid nw st n o valid small (not-false _ known) (agrees-by st n o agrees)
+
+pub correct-valid : (nw : Network) (st : State) (n : Node) (o : Option ℕ) → IsValid nw st → IfSome o (λ t. t < 2 ^ 24) → refusal nw st (Correct n o) ≡ None → IsValid nw (with_event n (with_report o) st)
+correct-valid nw st n o valid small h =
+    let a = accepted-by nw st (Correct n o) h in
+    corrected-valid nw st n o valid small a.known a.agrees
+
+-- a forecast that is given or taken back
+pub forecast-valid : (nw : Network) (st : State) (n : Node) (o : Option ℕ) → IsValid nw st → IfSome o (λ t. t < 2 ^ 24) → IsValid nw (with_event n (with_forecast o) st)
+forecast-valid nw st n o valid small =
+    let k = put_forecast o in
+    set-valid nw st n (with_forecast o) k (sets-forecast o) valid (λ u got.
     let i = n.train in
     let es = events_of i u in
     let good = valid-good nw st valid i i u (omega arith) got in

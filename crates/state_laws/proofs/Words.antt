@@ -27,9 +27,9 @@ unfoldable pub use Rattle.delay_model.specs.Edges.{edges, transfer}
 pub use Rattle.delay_model.specs.Edges.{change_between, edge_by_change, edge_of_kind, edge_on, edges_along, is_planned, may_connect, minimum_dwell, minimum_running, override_of, train_edge}
 pub use Rattle.delay_model.specs.Edges.{train_edges, transfer_edges, transfer_kind, transfers_from, wait_between}
 unfoldable pub use Rattle.delay_model.specs.Effect.{effect}
-pub use Rattle.delay_model.specs.Effect.{begin_run, calls_between, change_calls, change_event, change_labelled, change_train, end_run, events_between, forecasted, has_override, is_among}
-pub use Rattle.delay_model.specs.Effect.{is_call, kill_in, killed, names_one_of, new_call, new_calls, new_train, node_at, reported, rerouted, stretch, with_event, with_override}
-pub use Rattle.delay_model.specs.Effect.{without_override, without_overrides_of}
+pub use Rattle.delay_model.specs.Effect.{begin_run, calls_between, change_calls, change_event, change_labelled, change_train, end_run, events_between, has_override, is_among}
+pub use Rattle.delay_model.specs.Effect.{is_call, kill_in, killed, names_one_of, new_call, new_calls, new_train, node_at, rerouted, stretch, with_event, with_forecast, with_override}
+pub use Rattle.delay_model.specs.Effect.{with_report, without_override, without_overrides_of}
 unfoldable pub use Rattle.delay_model.specs.Events.{events}
 pub use Rattle.delay_model.specs.Events.{arrival_of, calls_of, departure_of, event_by, event_named, events_at, events_from, events_of, is_event, is_live, live_events, live_report}
 pub use Rattle.delay_model.specs.Events.{train_events}
@@ -37,15 +37,15 @@ pub use Rattle.delay_model.specs.Messages.{IsSmallCall, IsWellFormed}
 pub use Rattle.delay_model.specs.Overrides.{connection, connection_cmp}
 unfoldable pub use Rattle.delay_model.specs.Refusals.{refusal}
 pub use Rattle.delay_model.specs.Refusals.{against_rank, against_rank_by, any_reported, are_at_stops, contradicted_at, contradiction, first_against_rank, first_reported, has_call}
-pub use Rattle.delay_model.specs.Refusals.{has_no_change, has_no_connection, is_against_rank, is_known, is_no_connection, is_unknown, kept_edge, overrides_short, refused_if, shortage}
+pub use Rattle.delay_model.specs.Refusals.{has_no_change, has_no_connection, has_nothing, is_against_rank, is_known, is_no_connection, is_unknown, kept_edge, overrides_short, refused_if, shortage}
 pub use Rattle.delay_model.specs.Refusals.{stands_before}
 unfoldable pub use Rattle.delay_model.specs.Timing.{cap, event_time, incoming, local, time}
 pub use Rattle.delay_model.specs.Timing.{after_key, capped, first_report, floor_of, later}
 unfoldable pub use Rattle.delay_model.specs.Touched.{changed, touched}
-pub use Rattle.delay_model.specs.Touched.{is_fed_by, is_live_key, is_reported, live_only, named, names_of, new_events, time_changes, since_report}
+pub use Rattle.delay_model.specs.Touched.{capped_by, is_fed_by, is_live_key, is_reported, live_only, named, names_of, new_events, time_changes, since_report}
 pub use Rattle.delay_model.specs.Valid.{AreReportedFrom, HasDistinctLabels, HasReportsInOrder, HasRoom, IsConnection, IsForward, IsRun, IsSmall, IsTrain, IsValid}
 pub use Rattle.delay_model.specs.declared.messages.Message.{Message}
-pub use Rattle.delay_model.specs.declared.messages.Message.TheVariants.{Cancel, Drop, Extra, Forecast, Keep, Report, Reroute, Rule}
+pub use Rattle.delay_model.specs.declared.messages.Message.TheVariants.{Cancel, Correct, Drop, Extra, Forecast, Keep, Report, Reroute, Rule, Withdraw}
 pub use Rattle.delay_model.specs.declared.network.Network.{Network}
 pub use Rattle.delay_model.specs.declared.overrides.Connection.{Connection}
 pub use Rattle.delay_model.specs.declared.overrides.Override.{Override}

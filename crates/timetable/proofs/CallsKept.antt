@@ -1,8 +1,8 @@
 -- A call that is there before and after a message is at the same stop, and may be boarded as before.
 use Rattle.state_laws.proofs.Words.{◌≡◌, ℕ, zero, suc, ◌+◌, ◌<◌, ◌≤◌, true, false, List, [], ◌∷◌, ◌++◌, Option, Some, None, map, is_some, get_or, refl, sym, ◌∙◌, ap, arith, elements, inl, inr}
 use Rattle.state_laws.proofs.Words.{cases_Bool, cases_eq, eqb-true, All, All-nil, All-cons, All-map, find, slice_get, option_map, option_map_or, NewCall, Node, EventValues, Call, Train, State}
-use Rattle.state_laws.proofs.Words.{Message, Report, Forecast, Cancel, Reroute, Extra, Keep, Drop, Rule, effect, with_event, change_train, change_calls, change_event, change_labelled, is_call, kill_in}
-use Rattle.state_laws.proofs.Words.{stretch, new_call, new_calls, rerouted, reported, forecasted, calls_of, HasDistinctLabels, IsTrain}
+use Rattle.state_laws.proofs.Words.{Message, Report, Forecast, Correct, Withdraw, Cancel, Reroute, Extra, Keep, Drop, Rule, effect, with_event, change_train, change_calls, change_event, change_labelled, is_call, kill_in}
+use Rattle.state_laws.proofs.Words.{stretch, new_call, new_calls, rerouted, with_report, with_forecast, calls_of, HasDistinctLabels, IsTrain}
 use Rattle.state_laws.proofs.Changed.{get-own, get-other}
 use Rattle.state_laws.proofs.Parts.{trains-each}
 use Rattle.state_laws.proofs.Stretches.{All-from, All-up_to}
@@ -94,8 +94,10 @@ event-kept st n f trains =
 
 pub calls-kept : (st : State) (m : Message) → All IsTrain st.trains → AreCallsKept st (effect st m)
 unfolding effect
-calls-kept st (Report n t) trains = event-kept st n (reported t) trains
-calls-kept st (Forecast n t) trains = event-kept st n (forecasted t) trains
+calls-kept st (Report n t) trains = event-kept st n (with_report (Some t)) trains
+calls-kept st (Forecast n t) trains = event-kept st n (with_forecast (Some t)) trains
+calls-kept st (Correct n o) trains = event-kept st n (with_report o) trains
+calls-kept st (Withdraw n) trains = event-kept st n (with_forecast None) trains
 calls-kept st (Cancel n from to) trains =
     let g = kill_in (stretch st n from to) n in
     kept-change st (effect st (Cancel n from to)) n (change_calls (map g)) trains refl (mapped-like g (λ c. refl) (λ c. refl) (λ c. refl))

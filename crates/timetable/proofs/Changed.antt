@@ -2,14 +2,15 @@
 use Rattle.timetable.proofs.Words.{◌≡◌, ◌+◌, Bool, true, not, ◌&&◌, ◌||◌, cond, nat_eq, List, [], ◌∷◌, ◌++◌, map, length, length-append, get_or, refl, ◌∙◌, ap, arith, inl, inr, All}
 use Rattle.timetable.proofs.Words.{Contains, filter, and_from, length-map, All-contains_itself, Contains-append_left, Contains-append_right, Contains-append_cases, sum_by-IsPermutation}
 use Rattle.timetable.proofs.Words.{Contains-permutation, length-filter, Key, Node, is_before, is_same, node_of, same-itself, Network, ℕ, Option, Some, None}
-use Rattle.timetable.proofs.Words.{EventValues, State, Event, effect, reported, forecasted, change_calls, change_labelled, change_event, with_event, events, live_events}
+use Rattle.timetable.proofs.Words.{EventValues, State, Event, effect, with_report, with_forecast, change_calls, change_labelled, change_event, with_event, events, live_events}
 use Rattle.timetable.proofs.Words.{event_time, is_live_key, live_only, time_changes, changed, names_of, IsLiveAt, Contains-filter, Contains-map, contains-unmap, mapping-events}
-use Rattle.timetable.proofs.Words.{IsSetting, set_at, set-shape, put_report, put_forecast, filter-none, message_by_choice, message_by_kind, is_changed, changed_nodes, in_order, live_keys}
+use Rattle.timetable.proofs.Words.{IsSetting, set_at, set-shape, put_report, put_forecast, sets-report, sets-forecast, filter-none, message_by_choice, message_of_value, is_changed, changed_nodes, in_order, live_keys}
 use Rattle.timetable.proofs.Words.{next_labels, suc}
 use Rattle.delay_model.specs.declared.overrides.Override.{Override}
 use Rattle.delay_model.specs.declared.overrides.Override.TheVariants.{Keep, Drop}
-use Rattle.train_nodes.specs.declared.kinds.ValueKind.{ValueKind}
-use Rattle.train_nodes.specs.declared.kinds.ValueKind.TheVariants as Values
+use Rattle.train_nodes.specs.declared.kinds.Value.{Value}
+use Rattle.train_nodes.specs.declared.kinds.Value.TheVariants as Values
+use Rattle.train_nodes.specs.declared.kinds.ValueKind.TheVariants as ValueKinds
 use Rattle.state_laws.proofs.Settings.{set-mapping}
 use Rattle.timetable.proofs.Words.{IsChangedEvent, AreInOrder, IsValid, AllPairs-filter, All-filter, All-permutation, filter_passes, cases_Bool, IsPermutation-sym, keys_total, exact_keys}
 use Rattle.propagate.proofs.{Named.any-from, Ordered.filtered, Sorted.in_order-moves, Sorted.in_order-ascends, Sorted.keys-differ}
@@ -38,11 +39,19 @@ value-alike st n f k s =
       spare_calls = refl;
     }
 
--- so they are after a report or a forecast
-pub valued-alike : (st : State) (k : ValueKind) (n : Node) (t : ℕ) → IsAlike st (effect st (message_by_kind k n t))
+reported-alike : (st : State) (n : Node) (o : Option ℕ) → IsAlike st (with_event n (with_report o) st)
+reported-alike st n o = value-alike st n (with_report o) (put_report o) (sets-report o)
+
+forecast-alike : (st : State) (n : Node) (o : Option ℕ) → IsAlike st (with_event n (with_forecast o) st)
+forecast-alike st n o = value-alike st n (with_forecast o) (put_forecast o) (sets-forecast o)
+
+-- so they are after a message about a report or a forecast
+pub valued-alike : (st : State) (v : Value) → IsAlike st (effect st (message_of_value v))
 unfolding effect
-valued-alike st Values.Forecast n t = value-alike st n (forecasted t) (put_forecast t) (record { by = λ train route label stop dep e. refl; shape = λ v. refl })
-valued-alike st Values.Report n t = value-alike st n (reported t) (put_report t) (record { by = λ train route label stop dep e. refl; shape = λ v. refl })
+valued-alike st (Values.Event ValueKinds.Report n t) = reported-alike st n (Some t)
+valued-alike st (Values.Event ValueKinds.Forecast n t) = forecast-alike st n (Some t)
+valued-alike st (Values.Correct n o) = reported-alike st n o
+valued-alike st (Values.Withdraw n) = forecast-alike st n None
 
 -- and after a choice for a connection
 pub chosen-alike : (st : State) (o : Option Override) (f t : Node) → IsAlike st (effect st (message_by_choice o f t))

@@ -1,19 +1,19 @@
 -- Before and after a message the events are marked that may have another value.
 use Rattle.timetable.proofs.Words.{◌≡◌, ◌&&◌, ◌||◌, ◌≤◌, ◌<◌, ◌-◌, ℕ, Bool, true, false, List, [], ◌∷◌, ◌++◌, Option, Some, None, length, get_or, filter, refl, sym, ◌∙◌, ap, subst, arith, inl, inr, cases_Bool, and_parts, not-false, false_from_ne_true}
-use Rattle.timetable.proofs.Words.{suc, nat_le, All, All-contains, All-filter, All-contains_itself, Contains, Contains-append_left, Contains-append_right, filter-append, append-nil, list_any}
+use Rattle.timetable.proofs.Words.{cond, suc, nat_le, All, All-contains, All-filter, All-contains_itself, Contains, Contains-append_left, Contains-append_right, filter-append, append-nil, list_any}
 use Rattle.timetable.proofs.Words.{Key, Node, node_of, is_same, is_same_node, same-is, Network, NewCall, Message, Cancel, Reroute, Extra, accepted-by, are_at_stops, calls_of, stands_before, stretch, State, Event, Edge, events, edges, live_events, train_events, is_live, is_live_key, live_only, names_of}
 use Rattle.timetable.proofs.Words.{effect, rerouted, node_at, live_keys, IsTrain, IsValid, IsSmallCall, IsWellFormed, refusal, stays-valid, events-unique, train_events-there, GraphState, message_of_shape, arith}
 use Rattle.train_nodes.specs.declared.kinds.Shape.{Shape}
 use Rattle.train_nodes.specs.declared.kinds.Shape.TheVariants as Shapes
 use Rattle.train_nodes.specs.declared.kinds.Choice.{Choice}
 use Rattle.train_nodes.specs.declared.kinds.Value.{Value}
-use Rattle.train_nodes.specs.declared.kinds.ValueKind.{ValueKind}
-use Rattle.train_nodes.specs.declared.kinds.ValueKind.TheVariants as Values
-use Rattle.train_nodes.specs.Kinds.{message_by_choice, message_by_kind, message_of_choice, message_of_value}
+use Rattle.train_nodes.specs.declared.kinds.Value.TheVariants as Values
+use Rattle.train_nodes.specs.declared.kinds.ValueKind.TheVariants as ValueKinds
+use Rattle.train_nodes.specs.Kinds.{event_of, is_of_report, message_by_choice, message_of_choice, message_of_value}
 use Rattle.delay_model.specs.declared.overrides.Override.{Override}
 use Rattle.delay_model.specs.declared.overrides.Override.TheVariants as Chosen
 use Rattle.delay_model.specs.Effect.{events_between}
-use Rattle.delay_model.specs.Touched.{is_fed_by, named}
+use Rattle.delay_model.specs.Touched.{capped_by, is_fed_by, named}
 use Rattle.delay_model.proofs.Ends.{JoinsLive, edges-join}
 use Rattle.std.proofs.lemmas.List.Folds.{list_any-append}
 use Rattle.std.proofs.lemmas.Map.Views.{any-filter_same}
@@ -236,19 +236,30 @@ extra-end nw st n day route cs valid well accepted kept final k live was is =
     let walk = made-marks nw st new [] put (extra-turn nw st n day route cs accepted) valid.trains (stays-valid nw st m valid well accepted).trains 0 n (part-all 0 put (λ i d l. omega arith)) k live in
     (let e = rw (was, walk) at is in e) ∙ turn-first _ (list_any (is_same_node (node_of k)) (names_of put)) _
 
--- an accepted report, forecast or choice names a live event
-pub value-live : (nw : Network) (st : State) (k : ValueKind) (n : Node) (t : ℕ) → refusal nw st (message_by_kind k n t) ≡ None → is_live st n ≡ true
-value-live nw st Values.Report n t h = not-false _ (accepted-by nw st (message_by_kind Values.Report n t) h).known
-value-live nw st Values.Forecast n t h = not-false _ (accepted-by nw st (message_by_kind Values.Forecast n t) h).known
+-- an accepted message about a report or a forecast, or a choice, names a live event
+pub value-live : (nw : Network) (st : State) (v : Value) → refusal nw st (message_of_value v) ≡ None → is_live st (event_of v) ≡ true
+value-live nw st (Values.Event ValueKinds.Report n t) h = not-false _ (accepted-by nw st (message_of_value (Values.Event ValueKinds.Report n t)) h).known
+value-live nw st (Values.Event ValueKinds.Forecast n t) h = not-false _ (accepted-by nw st (message_of_value (Values.Event ValueKinds.Forecast n t)) h).known
+value-live nw st (Values.Correct n o) h = not-false _ (accepted-by nw st (message_of_value (Values.Correct n o)) h).known
+value-live nw st (Values.Withdraw n) h = not-false _ (accepted-by nw st (message_of_value (Values.Withdraw n)) h).known
 
 pub choice-live : (nw : Network) (st : State) (o : Option Override) (f t : Node) → refusal nw st (message_by_choice o f t) ≡ None → is_live st t ≡ true
 choice-live nw st (Some Chosen.Keep) f t h = (and_parts (is_live st f) (is_live st t) (not-false _ (accepted-by nw st (message_by_choice (Some Chosen.Keep) f t) h).known)).1
 choice-live nw st (Some Chosen.Drop) f t h = (and_parts (is_live st f) (is_live st t) (not-false _ (accepted-by nw st (message_by_choice (Some Chosen.Drop) f t) h).known)).1
 choice-live nw st None f t h = (and_parts (is_live st f) (is_live st t) (not-false _ (accepted-by nw st (message_by_choice None f t) h).known)).1
 
-value-named : (st : State) (k : ValueKind) (n : Node) (t : ℕ) → named_before st (message_by_kind k n t) ≡ named st (message_by_kind k n t)
-value-named st Values.Report n t = refl
-value-named st Values.Forecast n t = refl
+value-named : (st : State) (v : Value) → named_before st (message_of_value v) ≡ named st (message_of_value v)
+value-named st (Values.Event ValueKinds.Report n t) = refl
+value-named st (Values.Event ValueKinds.Forecast n t) = refl
+value-named st (Values.Correct n o) = refl
+value-named st (Values.Withdraw n) = refl
+
+-- a message about a report names what the report caps too
+pub named_value : (st : State) (v : Value) → named st (message_of_value v) ≡ cond (is_of_report v) (capped_by st (event_of v)) (event_of v ∷ [])
+named_value st (Values.Event ValueKinds.Report n t) = refl
+named_value st (Values.Event ValueKinds.Forecast n t) = refl
+named_value st (Values.Correct n o) = refl
+named_value st (Values.Withdraw n) = refl
 
 choice-named : (st : State) (o : Option Override) (f t : Node) → (named_before st (message_by_choice o f t) ≡ t ∷ []) × (named st (message_by_choice o f t) ≡ t ∷ [])
 choice-named st (Some Chosen.Keep) f t = (refl, refl)
@@ -258,13 +269,13 @@ choice-named st None f t = (refl, refl)
 -- so what it names is marked before, that is all that is to be, and none is taken away
 module _ (nw : Network) (st : State) (v : Value) {m : Message} (says : message_of_value v ≡ m) where
   alike : IsAlike st (effect st m)
-  alike = subst (λ m. IsAlike st (effect st m)) says (valued-alike st v.kind v.node v.time)
+  alike = subst (λ m. IsAlike st (effect st m)) says (valued-alike st v)
 
   names : named_before st m ≡ named st m
-  names = subst (λ m. named_before st m ≡ named st m) says (value-named st v.kind v.node v.time)
+  names = subst (λ m. named_before st m ≡ named st m) says (value-named st v)
 
-  pub value-there : refusal nw st m ≡ None → is_live st v.node ≡ true
-  value-there h = value-live nw st v.kind v.node v.time (subst (λ m. refusal nw st m ≡ None) (sym says) h)
+  pub value-there : refusal nw st m ≡ None → is_live st (event_of v) ≡ true
+  value-there h = value-live nw st v (subst (λ m. refusal nw st m ≡ None) (sym says) h)
 
   pub value-before : (marks : Marked) → AreMarksOf (events st) marks → ((k : Key) → Contains (live_keys (events st)) k → is_marked marks k ≡ list_any (is_same_node (node_of k)) (named st (message_of_value v))) → IsMarkedBefore nw st m marks
   value-before marks fit marked =

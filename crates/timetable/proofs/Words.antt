@@ -6,11 +6,11 @@ pub use Rattle.state_laws.proofs.Words.{IsGraph, IsLiveAt, IsSmall, IsSmallCall,
 pub use Rattle.state_laws.proofs.Words.{Ordering, Report, Reroute, Rule, Some, State, Train, [], and_from, and_parts, ap, append-nil, append_assoc, are_at_stops, arith, begin_run, calls_of}
 pub use Rattle.state_laws.proofs.Words.{capped, cases_Bool, change_calls, change_event, change_labelled, change_train, cond, cond_both, end_run, eq-eqb, eqb-true}
 pub use Rattle.state_laws.proofs.Words.{event_named, events-apart, events-unique, events_at, events_at-train, events_from, events_of, false, false_from_ne_true, filter_passes, find}
-pub use Rattle.state_laws.proofs.Words.{floor_of, forecasted, get_or, incoming-leads, inl, inr, is_call, is_eq, is_event, is_live, is_live_key, is_some, kill_in}
+pub use Rattle.state_laws.proofs.Words.{floor_of, get_or, incoming-leads, inl, inr, is_call, is_eq, is_event, is_live, is_live_key, is_some, kill_in}
 pub use Rattle.state_laws.proofs.Words.{killed, leb-true, length, length-append, list_any, live_events, live_only, ltb-false, map, map-append, names_of, nat_cmp, nat_eq, nat_le, nat_lt}
-pub use Rattle.state_laws.proofs.Words.{new_calls, new_train, node_at, node_of, not, not-false, option_map, option_map_or, or_parts, refl, refused_if, reported, rerouted, time_changes}
+pub use Rattle.state_laws.proofs.Words.{new_calls, new_train, node_at, node_of, not, not-false, option_map, option_map_or, or_parts, refl, refused_if, rerouted, time_changes}
 pub use Rattle.state_laws.proofs.Words.{same-is, same-itself, same_node-is, same_node-itself, slice_get, slice_get_within, stands_before, stretch, subst, suc, sym, time-local, train_events}
-pub use Rattle.state_laws.proofs.Words.{true, unwrap_or, up_to, valid-graph, with_event, zero, ℕ, ◌&&◌, ◌++◌, ◌+◌, ◌-◌, ◌<◌, ◌^◌, ◌||◌, ◌∙◌, ◌∷◌, ◌≡◌, ◌≢◌, ◌≤◌, ◌⊎◌}
+pub use Rattle.state_laws.proofs.Words.{true, unwrap_or, up_to, valid-graph, with_event, with_forecast, with_report, zero, ℕ, ◌&&◌, ◌++◌, ◌+◌, ◌-◌, ◌<◌, ◌^◌, ◌||◌, ◌∙◌, ◌∷◌, ◌≡◌, ◌≢◌, ◌≤◌, ◌⊎◌}
 unfoldable pub use Rattle.state_laws.proofs.Words.{cap, changed, edges, effect, event_time, events, incoming, is_before, is_same, is_same_node, local, refusal, time}
 pub use Rattle.std.proofs.Common.{Global, Vec, drop, filter, rules, set, take, vec_capacity, vec_len, ◌*◌}
 pub use Rattle.std.proofs.Math.Dec.{ltb}
@@ -36,12 +36,12 @@ pub use Rattle.state_laws.proofs.Mappings.{contains-unmap, mapping-events}
 pub use Rattle.state_laws.proofs.Parts.{All-left, All-right, events-from_each, trains-each}
 pub use Rattle.state_laws.proofs.Stays.{stays-valid}
 pub use Rattle.state_laws.proofs.Stretches.{All-from, All-up_to, events_at-each}
-pub use Rattle.state_laws.proofs.Values.{IsSetting, any-there, put_forecast, put_report, set-shape, set_at}
+pub use Rattle.state_laws.proofs.Values.{IsSetting, any-there, put_forecast, put_report, set-shape, set_at, sets-forecast, sets-report}
 unfoldable pub use Rattle.train_nodes.specs.Times.{time_of}
 pub use Rattle.train_nodes.specs.Calls.{call_named, has_call}
 pub use Rattle.train_nodes.specs.Lists.{change_at}
 pub use Rattle.train_nodes.specs.Times.{AreSized, StoredTimes, blank_times, has_time, no_time, place_of, with_labels, with_time, with_train_times}
-pub use Rattle.train_nodes.specs.Kinds.{changed_train, message_by_choice, message_by_kind, message_of, message_of_shape}
+pub use Rattle.train_nodes.specs.Kinds.{changed_train, message_by_choice, message_of, message_of_shape, message_of_value}
 pub use Rattle.edge_rules.specs.AtStops.{AreAtStops, IsAtStop}
 unfoldable pub use Rattle.timetable.specs.Changed.{changed_nodes}
 pub use Rattle.timetable.specs.Changed.{AreInOrder, IsChangedEvent, is_changed}

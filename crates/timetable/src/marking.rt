@@ -13,7 +13,7 @@ ghost use Rattle.delay_model.specs.Events.{events, is_live, train_events};
 ghost use Rattle.delay_model.specs.Refusals.{refusal};
 ghost use Rattle.delay_model.specs.Touched.{live_only, named, names_of};
 ghost use Rattle.delay_model.specs.Valid.{IsTrain, IsValid};
-ghost use Rattle.train_nodes.specs.Kinds.{message_of_shape, message_of_value};
+ghost use Rattle.train_nodes.specs.Kinds.{event_of, message_of_shape, message_of_value};
 ghost use Rattle.rank_order.specs.Marked.{is_marked};
 ghost use Rattle.timetable.specs.LiveTimes.{live_keys};
 ghost use Rattle.timetable.specs.Marking.{AreMarksOf, AreUnsettled, CanBeMarked, IsMarkedBefore, IsStateAfter, IsMarkedAndApplied, is_fed_from_new, is_fed_from, is_marked_by};
@@ -25,7 +25,7 @@ use mt_base::keys::{Key, Node};
 use mt_base::numbers::{Time, TrainNo};
 use propagate::mark_successors;
 use rank_order::Marks;
-use train_nodes::kinds::{Kind, Shape, Value, ValueKind};
+use train_nodes::kinds::{Kind, Shape, Value};
 use train_nodes::{Msg, Trains};
 
 /// Marks a live event, where all live events can be marked.
@@ -145,12 +145,13 @@ fn keep_live(trains: &Trains, marks: &mut Marks)
     marks.retain(|k| trains.live(k.node()));
 }
 
-/// Marks the events that a report or forecast names. The list has room to work with, and is empty
-/// before and after.
+/// Marks the events that a message about a report or a forecast names. The list has room to work
+/// with, and is empty before and after.
+#[tactic(auto, using(crate::proofs::Renewed::named_value))]
 fn mark_value(trains: &Trains, v: &Value, list: &mut Vec<Node>, marks: &mut Marks)
     // the trains, and a live event of them
     requires trains { All IsTrain trains.now.trains }
-    requires live { IsTrue (is_live trains.now v.now.node) }
+    requires live { IsTrue (is_live trains.now (event_of v.now)) }
 
     // an empty list with room, and marks of these events
     requires empty { list.old.items ≡ [] }
@@ -168,12 +169,13 @@ fn mark_value(trains: &Trains, v: &Value, list: &mut Vec<Node>, marks: &mut Mark
     ensures empty { list.new.items ≡ [] }
     ensures capacity { vec_capacity list.new ≡ vec_capacity list.old }
 {
-    if v.kind == ValueKind::Report {
-        list_since_report(list, trains, &v.node);
+    let node = v.node();
+    if v.is_of_report() {
+        list_since_report(list, trains, &node);
         mark_events(trains, list, marks);
         list.clear();
     }
-    mark_event(trains, &v.node, marks);
+    mark_event(trains, &node, marks);
 }
 
 /// Before an accepted message is applied: lists the live events that it takes away, in the train's

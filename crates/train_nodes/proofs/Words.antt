@@ -22,8 +22,8 @@ pub use Rattle.call_lines.specs.declared.stored_call.StoredCall.{StoredCall}
 pub use Rattle.connection_choices.proofs.KeepLemmas.{from-each, from-rises, into-each, into-rises}
 pub use Rattle.connection_choices.specs.StoredOverrides.{Overrides}
 pub use Rattle.delay_model.specs.Cuts.{after, before, up_to}
-pub use Rattle.delay_model.specs.Effect.{calls_between, change_calls, change_event, change_labelled, change_train, events_between, forecasted}
-pub use Rattle.delay_model.specs.Effect.{is_among, is_call, kill_in, names_one_of, new_calls, node_at, reported, rerouted, stretch, with_event}
+pub use Rattle.delay_model.specs.Effect.{calls_between, change_calls, change_event, change_labelled, change_train, events_between}
+pub use Rattle.delay_model.specs.Effect.{is_among, is_call, kill_in, names_one_of, new_calls, node_at, rerouted, stretch, with_event, with_forecast, with_report}
 unfoldable pub use Rattle.delay_model.specs.Effect.{effect}
 pub use Rattle.delay_model.specs.Events.{calls_of, events_at, is_event}
 pub use Rattle.delay_model.specs.Refusals.{has_call, stands_before}

@@ -1,27 +1,47 @@
 -- Kinds of messages.
-use Rattle.std.specs.Prelude.{ℕ, ◌^◌, ◌<◌, Option, Some, None, length}
+use Rattle.std.specs.Prelude.{ℕ, ◌^◌, ◌<◌, Bool, true, false, Option, Some, None, length}
 use Rattle.mt_base.specs.declared.keys.Node.{Node}
 use Rattle.delay_model.specs.declared.messages.Message.{Message}
-use Rattle.delay_model.specs.declared.messages.Message.TheVariants.{Report, Forecast, Cancel, Reroute, Extra, Keep, Drop, Rule}
+use Rattle.delay_model.specs.declared.messages.Message.TheVariants.{Report, Forecast, Correct, Withdraw, Cancel, Reroute, Extra, Keep, Drop, Rule}
 use Rattle.delay_model.specs.declared.overrides.Override.{Override}
 use Rattle.delay_model.specs.declared.overrides.Override.TheVariants as Chosen
 use Rattle.train_nodes.specs.declared.kinds.Kind.{Kind}
 use Rattle.train_nodes.specs.declared.kinds.Kind.TheVariants as Kinds
 use Rattle.train_nodes.specs.declared.kinds.ValueKind.{ValueKind}
-use Rattle.train_nodes.specs.declared.kinds.ValueKind.TheVariants as Values
+use Rattle.train_nodes.specs.declared.kinds.ValueKind.TheVariants as ValueKinds
 use Rattle.train_nodes.specs.declared.kinds.Value.{Value}
+use Rattle.train_nodes.specs.declared.kinds.Value.TheVariants as Values
 use Rattle.train_nodes.specs.declared.kinds.Choice.{Choice}
 use Rattle.train_nodes.specs.declared.kinds.Shape.{Shape}
 use Rattle.train_nodes.specs.declared.kinds.Shape.TheVariants as Shapes
 
 -- the message that gives an event a time of this kind
 abbrev pub message_by_kind : ValueKind → Node → ℕ → Message
-message_by_kind Values.Report n t = Report n t
-message_by_kind Values.Forecast n t = Forecast n t
+message_by_kind ValueKinds.Report n t = Report n t
+message_by_kind ValueKinds.Forecast n t = Forecast n t
 
--- the message that reports or forecasts a time
+-- the message that says this of the report or the forecast of an event
 abbrev pub message_of_value : Value → Message
-message_of_value v = message_by_kind v.kind v.node v.time
+message_of_value (Values.Event kind n t) = message_by_kind kind n t
+message_of_value (Values.Correct n o) = Correct n o
+message_of_value (Values.Withdraw n) = Withdraw n
+
+-- the event of which it is said
+abbrev pub event_of : Value → Node
+event_of (Values.Event kind n t) = n
+event_of (Values.Correct n o) = n
+event_of (Values.Withdraw n) = n
+
+-- a time of this kind is a report
+abbrev pub is_report : ValueKind → Bool
+is_report ValueKinds.Report = true
+is_report ValueKinds.Forecast = false
+
+-- it is said of the report, and not of the forecast
+abbrev pub is_of_report : Value → Bool
+is_of_report (Values.Event kind n t) = is_report kind
+is_of_report (Values.Correct n o) = true
+is_of_report (Values.Withdraw n) = false
 
 -- the message that makes this choice for a connection
 abbrev pub message_by_choice : Option Override → Node → Node → Message

@@ -2,7 +2,7 @@
 
 ghost use Rattle.std.specs.Prelude.{◌≡◌};
 ghost use Rattle.delay_model.specs.Messages.{IsWellFormed};
-ghost use Rattle.train_nodes.specs.Kinds.{HasFewCalls, changed_train, message_of};
+ghost use Rattle.train_nodes.specs.Kinds.{HasFewCalls, changed_train, event_of, is_of_report, message_of};
 
 use crate::well_formed::Msg;
 use delay_model::messages::Message;
@@ -33,15 +33,56 @@ pub enum ValueKind {
     Forecast,
 }
 
-/// A report or a forecast of an event.
+/// What is said of the report or the forecast of an event.
 #[derive(Clone, Copy, Debug, PartialEq, Eq)]
-pub struct Value {
-    /// Which of the two it is.
-    pub kind: ValueKind,
+pub enum Value {
+    /// It took place or is expected at a time.
+    Event {
+        /// Which of the two.
+        kind: ValueKind,
+        /// The event.
+        node: Node,
+        /// When it took place or is expected.
+        time: Time,
+    },
+
+    /// It took place at another time than was reported, or the report is taken back.
+    Correct {
+        /// The event.
+        node: Node,
+        /// When it took place. None takes the report back.
+        time: Option<Time>,
+    },
+
+    /// The forecast is taken back.
+    Withdraw {
+        /// The event.
+        node: Node,
+    },
+}
+
+impl Value {
     /// The event.
-    pub node: Node,
-    /// When it took place or is expected.
-    pub time: Time,
+    pub fn node(&self) -> Node
+        ensures { result ≡ event_of self.now }
+    {
+        match self {
+            Value::Event { node, .. } => *node,
+            Value::Correct { node, .. } => *node,
+            Value::Withdraw { node } => *node,
+        }
+    }
+
+    /// Whether it is the report that is given, mended or taken back, and not the forecast.
+    pub fn is_of_report(&self) -> bool
+        ensures { result ≡ is_of_report self.now }
+    {
+        match self {
+            Value::Event { kind, .. } => *kind == ValueKind::Report,
+            Value::Correct { .. } => true,
+            Value::Withdraw { .. } => false,
+        }
+    }
 }
 
 /// What is chosen for the connection from an arrival to a departure of another train.
@@ -117,6 +158,11 @@ impl Msg {
         match self.message() {
             Message::Report { node, time } => of_value(ValueKind::Report, node, *time),
             Message::Forecast { node, time } => of_value(ValueKind::Forecast, node, *time),
+            Message::Correct { node, time } => Kind::Value(Value::Correct {
+                node: *node,
+                time: *time,
+            }),
+            Message::Withdraw { node } => Kind::Value(Value::Withdraw { node: *node }),
             Message::Keep { feeder, train } => of_choice(feeder, train, Some(Override::Keep)),
             Message::Drop { feeder, train } => of_choice(feeder, train, Some(Override::Drop)),
             Message::Rule { feeder, train } => of_choice(feeder, train, None),
@@ -152,9 +198,9 @@ impl Msg {
 }
 
 fn of_value<'a>(kind: ValueKind, node: &Node, time: Time) -> Kind<'a>
-    ensures { result ≡ Kind.Value (record { kind = kind; node = node.now; time = time }) }
+    ensures { result ≡ Kind.Value (Value.Event kind node.now time) }
 {
-    Kind::Value(Value {
+    Kind::Value(Value::Event {
         kind,
         node: *node,
         time,

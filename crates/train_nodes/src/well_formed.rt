@@ -73,6 +73,11 @@ fn copy_message(alloc: Global, message: &Message) -> Result<Message, OutOfMemory
             node: *node,
             time: *time,
         },
+        Message::Correct { node, time } => Message::Correct {
+            node: *node,
+            time: *time,
+        },
+        Message::Withdraw { node } => Message::Withdraw { node: *node },
         Message::Cancel { train, from, to } => Message::Cancel {
             train: *train,
             from: *from,

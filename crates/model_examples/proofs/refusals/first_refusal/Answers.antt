@@ -11,4 +11,6 @@ returns c =
       report_and_rank = refl;
       rank_and_calls = refl;
       rank_and_overrides = keep-answer (network (record opts { change = 361; overrides = 0 })) (after_messages (start (record opts { change = 361; overrides = 0 })) []) (arrival 0 1) (departure 1 0) no_overrides _ refl (Some (AgainstRank (arrival 0 1) (departure 1 0))) refl;
+      unknown_and_nothing = refl;
+      report_and_nothing = refl;
     }

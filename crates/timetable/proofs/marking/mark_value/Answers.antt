@@ -4,4 +4,4 @@ use Rattle.timetable.proofs.marking.mark_value.Goals as goal
 
 pub mark_events-requires-clause-live : goal.mark_events-requires-clause-live
 mark_events-requires-clause-live c =
-    rw (c.deref.ensures.value, c.list_since_report.ensures.list) (names-live c.args.trains.now _ (since-there c.args.trains.now c.args.v.now.node))
+    rw (c.deref.ensures.value, c.list_since_report.ensures.list) (names-live c.args.trains.now _ (since-there c.args.trains.now c.node-node.result))

@@ -12,7 +12,7 @@ pub returns-in-Value-clause-prepared : goal.returns-in-Value-clause-prepared
 returns-in-Value-clause-prepared c =
     let g = c.args.graph.now in
     let v = c.in-Value.value in
-    prepared-same g.network g.state (effect g.state c.args.m.now) c.args.times.now (subst (λ (m : Message). IsAlike g.state (effect g.state m)) c.in-Value.ensures.says (valued-alike g.state v.kind v.node v.time))
+    prepared-same g.network g.state (effect g.state c.args.m.now) c.args.times.now (subst (λ (m : Message). IsAlike g.state (effect g.state m)) c.in-Value.ensures.says (valued-alike g.state v))
     (stays-valid g.network g.state c.args.m.now c.requires.settled.valid c.kind.ensures.well_formed c.requires.accepted) (calls-kept g.state c.args.m.now c.requires.settled.valid.trains) c.requires.settled
 
 pub returns-in-Choice-clause-prepared : goal.returns-in-Choice-clause-prepared

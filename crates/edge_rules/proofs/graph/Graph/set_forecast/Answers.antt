@@ -1,5 +1,6 @@
+use Rattle.std.proofs.Common.{Some}
 use Rattle.edge_rules.proofs.InsideLemmas.{forecast_keeps}
 use Rattle.edge_rules.proofs.graph.Graph.set_forecast.Goals as goal
 
 pub invariant_of-self : goal.invariant_of-self
-invariant_of-self c = forecast_keeps c.self.invariant c.args.n c.args.t _ c.set_forecast.ensures c.labels_are_distinct.ensures.labels
+invariant_of-self c = forecast_keeps c.self.invariant c.args.n (Some c.args.t) _ c.set_forecast.ensures c.labels_are_distinct.ensures.labels
