@@ -19,6 +19,7 @@ use Rattle.delay_model.specs.Refusals.{against_rank, are_at_stops, first_against
 use Rattle.cancel_reroute.specs.Ranks.{rank_along, last_of}
 use Rattle.cancel_reroute.proofs.RankLemmas.{along-parts}
 use Rattle.edge_rules.proofs.Words.{events-append}
+use Rattle.graph_edit.proofs.ValueLemmas.{none-after}
 
 get-last : (ts : List Train) (t : Train) (n : ℕ) → n ≡ length ts → slice_get (ts ++ t ∷ []) n ≡ Some t
 get-last [] t n e = rw e refl
@@ -29,11 +30,6 @@ run-of-train : (st : State) (n day route : ℕ) (calls : List NewCall) → n ≡
 unfolding effect
 run-of-train st n day route calls e =
     ap (λ x. option_map_or (events_of n) x []) (get-last st.trains (new_train day route calls) n e)
-
--- nothing comes after too little that is spare
-none-after : (o : Option Refusal) → option_or o None ≡ o
-none-after None = refl
-none-after (Some r) = refl
 
 -- the answer to an extra train with the next number, whose calls are at stops
 pub refusal_of_extra : (nw : Network) (st : State) (n day route : ℕ) (calls : List NewCall) → n ≡ length st.trains → are_at_stops nw calls ≡ true → refusal nw st (Extra n day route calls) ≡ option_or (first_against_rank (edges_along nw.opts (events_at n route (begin_run (end_run (new_calls 0 calls)))))) (shortage st (Extra n day route calls))

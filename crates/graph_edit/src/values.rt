@@ -1,4 +1,4 @@
-//! Reports and forecasts: those that are given, and those that are mended or taken back.
+//! Reports and forecasts: those that are given, and those that are corrected or taken back.
 
 ghost use Rattle.std.specs.Prelude.{◌≡◌, [], ◌∷◌, None, IsTrue, OnOk, is_none, not, true};
 ghost use Rattle.std.specs.Option.{option_and_then, option_or};
@@ -33,7 +33,7 @@ pub fn check_value(g: &Graph, v: &Value) -> Result<(), Refusal>
 }
 
 /// Changes the graph as an accepted message about the report or the forecast of an event says.
-#[tactic(auto, unfolding(delay_model::specs::Effect::effect), using(crate::proofs::ValueLemmas::known))]
+#[tactic(auto, unfolding(delay_model::specs::Effect::effect), using(crate::proofs::ValueLemmas::value_live))]
 pub fn apply_value(g: &mut Graph, v: &Value)
     requires accepted { refusal g.old.network g.old.state (message_of_value v.now) ≡ None }
     ensures effect { g.new ≡ record g.old { state = effect g.old.state (message_of_value v.now) } }

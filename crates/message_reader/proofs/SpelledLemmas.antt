@@ -21,7 +21,7 @@ use Rattle.schedule_build.specs.Directory.{Names, day_named, base_of}
 use Rattle.mt_base.specs.Texts.{digit, two, below, clock, seconds_of, eight_digits, date_of}
 use Rattle.message_reader.specs.Kinds.{kind_of, has_version}
 use Rattle.message_reader.specs.Lines.{head_of, message_of, said_by_value}
-use Rattle.message_reader.specs.Messages.{event_texts, event_of, correct_of, withdraw_of, cancel_of, ref_texts, ref_of, connect_of, call_texts, call_of, calls_shape, calls_of, count, reroute_of, extra_of}
+use Rattle.message_reader.specs.Messages.{named_event, event_of, correct_of, withdraw_of, cancel_of, ref_texts, ref_of, connect_of, call_texts, call_of, calls_shape, calls_of, count, reroute_of, extra_of}
 use Rattle.message_reader.specs.Queries.{wire_time_of, query_of}
 use Rattle.message_reader.specs.ResolvedQueries.{stop_or_station_named, query_resolved}
 use Rattle.message_reader.specs.Spelled.{time_text, date_text, ref_object, call_object, call_objects, object_of, query_object, IsVersion, CanBeSaidIn, HasLabels}
@@ -70,7 +70,7 @@ version_tested v (inr two) = rw two refl
 
 event_back : (v : ℕ) (kind : ValueKind) (trip : List ℕ) (date call : ℕ) (dep : Bool) (secs : ℕ) → IsVersion v → IsCivil date → secs ≤ 359999 → call < 2 ^ 32
     → said_by_value (object_of v (Event kind trip date call dep secs)) ≡ Ok (Message (Event kind trip date call dep secs))
-unfolding said_by_value head_of kind_of has_version message_of event_of event_texts
+unfolding said_by_value head_of kind_of has_version message_of event_of named_event
 event_back v values.Report trip date call true secs is civil le lt = rw (version_tested v is, label_back call lt, dates_back date civil, times_back secs le) refl
 event_back v values.Report trip date call false secs is civil le lt = rw (version_tested v is, label_back call lt, dates_back date civil, times_back secs le) refl
 event_back v values.Forecast trip date call true secs is civil le lt = rw (version_tested v is, label_back call lt, dates_back date civil, times_back secs le) refl
@@ -78,7 +78,7 @@ event_back v values.Forecast trip date call false secs is civil le lt = rw (vers
 
 correct_back : (trip : List ℕ) (date call : ℕ) (dep : Bool) (secs : Option ℕ) → IsCivil date → IfSome secs (λ s. s ≤ 359999) → call < 2 ^ 32
     → said_by_value (object_of 2 (Correct trip date call dep secs)) ≡ Ok (Message (Correct trip date call dep secs))
-unfolding said_by_value head_of kind_of has_version message_of correct_of event_texts
+unfolding said_by_value head_of kind_of has_version message_of correct_of named_event
 correct_back trip date call true (Some secs) civil le lt = rw (label_back call lt, dates_back date civil, times_back secs le) refl
 correct_back trip date call false (Some secs) civil le lt = rw (label_back call lt, dates_back date civil, times_back secs le) refl
 correct_back trip date call true None civil le lt = rw (label_back call lt, dates_back date civil) refl
@@ -86,7 +86,7 @@ correct_back trip date call false None civil le lt = rw (label_back call lt, dat
 
 withdraw_back : (trip : List ℕ) (date call : ℕ) (dep : Bool) → IsCivil date → call < 2 ^ 32
     → said_by_value (object_of 2 (Withdraw trip date call dep)) ≡ Ok (Message (Withdraw trip date call dep))
-unfolding said_by_value head_of kind_of has_version message_of withdraw_of event_texts
+unfolding said_by_value head_of kind_of has_version message_of withdraw_of named_event
 withdraw_back trip date call true civil lt = rw (label_back call lt, dates_back date civil) refl
 withdraw_back trip date call false civil lt = rw (label_back call lt, dates_back date civil) refl
 

@@ -16,16 +16,16 @@ use Rattle.message_reader.specs.Chain.{◌>>=◌, need, unless}
 use Rattle.mt_base.specs.Texts.{date_of, seconds_of}
 use Rattle.message_reader.specs.Fields.{text_at, text_or_null_at, label_at, items_at, departure_of}
 
--- what an object that names an event has: a train by `trip` and `date`, a call by its label `call`,
--- and `event`
-pub record EventTexts : Type 0 where
+-- an event as an object names it: its train by `trip` and `date`, its call by the label `call`, and
+-- by `event` whether it is the departure
+pub record NamedEvent : Type 0 where
   pub trip : List ℕ
   pub date : List ℕ
   pub call : ℕ
   pub dep : Bool
 
-unfoldable pub event_texts : Data → Result EventTexts BadLine
-event_texts d = do
+unfoldable pub named_event : Data → Result NamedEvent BadLine
+named_event d = do
   trip ← need Shape (text_at (codes "trip") d)
   date ← need Shape (text_at (codes "date") d)
   call ← need Shape (label_at (codes "call") d)
@@ -36,11 +36,11 @@ event_texts d = do
 -- `forecast` and `report`: an event, and `time`
 unfoldable pub event_of : ValueKind → Data → Result Wire BadLine
 event_of kind d = do
-  texts ← event_texts d
+  named ← named_event d
   time ← need Shape (text_at (codes "time") d)
-  day ← need Time (date_of texts.date)
+  day ← need Time (date_of named.date)
   secs ← need Time (seconds_of time)
-  Ok (Event kind texts.trip day texts.call texts.dep secs)
+  Ok (Event kind named.trip day named.call named.dep secs)
 
 -- the time of a text, or no time where there is no text
 abbrev pub seconds_if_any : Option (List ℕ) → Option (Option ℕ)
@@ -50,18 +50,18 @@ seconds_if_any (Some text) = option_map (λ secs. Some secs) (seconds_of text)
 -- `correct`: an event, and `time`, which may be null
 unfoldable pub correct_of : Data → Result Wire BadLine
 correct_of d = do
-  texts ← event_texts d
+  named ← named_event d
   time ← need Shape (text_or_null_at (codes "time") d)
-  day ← need Time (date_of texts.date)
+  day ← need Time (date_of named.date)
   secs ← need Time (seconds_if_any time)
-  Ok (Correct texts.trip day texts.call texts.dep secs)
+  Ok (Correct named.trip day named.call named.dep secs)
 
 -- `withdraw`: an event
 unfoldable pub withdraw_of : Data → Result Wire BadLine
 withdraw_of d = do
-  texts ← event_texts d
-  day ← need Time (date_of texts.date)
-  Ok (Withdraw texts.trip day texts.call texts.dep)
+  named ← named_event d
+  day ← need Time (date_of named.date)
+  Ok (Withdraw named.trip day named.call named.dep)
 
 -- `cancel`: a train, and the labels `from` and `to` of two of its calls
 unfoldable pub cancel_of : Data → Result Wire BadLine

@@ -4,7 +4,7 @@ ghost use Rattle.std.specs.Prelude.{◌≡◌, ◌≤◌, IfOk, IfSome, option_m
 ghost use Rattle.std.specs.Result.{result_map_both};
 ghost use Rattle.serde_json.specs.View.{view};
 ghost use Rattle.message_reader.specs.Errors.{Gives, bad_in};
-ghost use Rattle.message_reader.specs.Messages.{event_texts, event_of, seconds_if_any, correct_of, withdraw_of, cancel_of};
+ghost use Rattle.message_reader.specs.Messages.{named_event, event_of, seconds_if_any, correct_of, withdraw_of, cancel_of};
 ghost use Rattle.message_reader.specs.Wires.{IsWire};
 
 use crate::bad_line::{BadLine, LineError};
@@ -19,29 +19,30 @@ use train_nodes::kinds::ValueKind;
 
 /// An event as an object names it.
 #[derive(Clone, Copy)]
-struct EventTexts<'v> {
+struct NamedEvent<'v> {
     trip: &'v str,
     date: &'v str,
-    call: u32,
+    call: Label,
     dep: bool,
 }
 
-#[tactic(auto, unfolding(crate::specs::Messages::event_texts))]
-fn texts_at<'v>(value: &'v Value) -> Result<EventTexts<'v>, BadLine>
+/// The event that an object names. `Shape` where a member of it is missing or of another kind.
+#[tactic(auto, unfolding(crate::specs::Messages::named_event))]
+fn event_at<'v>(value: &'v Value) -> Result<NamedEvent<'v>, BadLine>
     ensures { result_map_both
         (λ r. record { trip = r.trip.now; date = r.date.now; call = r.call; dep = r.dep })
         (λ bad. bad) result
-        ≡ event_texts (view value.now) }
+        ≡ named_event (view value.now) }
 {
     let trip = text_at(value, "trip").ok_or(BadLine::Shape)?;
     let date = text_at(value, "date").ok_or(BadLine::Shape)?;
     let call = label_at(value, "call").ok_or(BadLine::Shape)?;
     let event = text_at(value, "event").ok_or(BadLine::Shape)?;
     let dep = departure(event).ok_or(BadLine::Shape)?;
-    Ok(EventTexts {
+    Ok(NamedEvent {
         trip,
         date,
-        call: call.get(),
+        call,
         dep,
     })
 }
@@ -53,16 +54,16 @@ pub fn event(alloc: Global, kind: ValueKind, value: &Value) -> Result<Wire, Line
     ensures exact { Gives bad_in result (event_of kind (view value.now)) }
     ensures kept { IfOk result IsWire }
 {
-    let texts = texts_at(value)?;
+    let named = event_at(value)?;
     let time = text_at(value, "time").ok_or(BadLine::Shape)?;
-    let date = date(texts.date.as_bytes()).ok_or(BadLine::Time)?;
+    let date = date(named.date.as_bytes()).ok_or(BadLine::Time)?;
     let secs = seconds(time.as_bytes()).ok_or(BadLine::Time)?;
     Ok(Wire::Event {
         kind,
-        trip: Name::build(alloc, texts.trip)?,
+        trip: Name::build(alloc, named.trip)?,
         date,
-        call: Label::new(texts.call),
-        dep: texts.dep,
+        call: named.call,
+        dep: named.dep,
         secs,
     })
 }
@@ -86,15 +87,15 @@ pub fn correct(alloc: Global, value: &Value) -> Result<Wire, LineError>
     ensures exact { Gives bad_in result (correct_of (view value.now)) }
     ensures kept { IfOk result IsWire }
 {
-    let texts = texts_at(value)?;
+    let named = event_at(value)?;
     let time = text_or_null_at(value, "time").ok_or(BadLine::Shape)?;
-    let date = date(texts.date.as_bytes()).ok_or(BadLine::Time)?;
+    let date = date(named.date.as_bytes()).ok_or(BadLine::Time)?;
     let secs = seconds_if_any(time).ok_or(BadLine::Time)?;
     Ok(Wire::Correct {
-        trip: Name::build(alloc, texts.trip)?,
+        trip: Name::build(alloc, named.trip)?,
         date,
-        call: Label::new(texts.call),
-        dep: texts.dep,
+        call: named.call,
+        dep: named.dep,
         secs,
     })
 }
@@ -106,13 +107,13 @@ pub fn withdraw(alloc: Global, value: &Value) -> Result<Wire, LineError>
     ensures exact { Gives bad_in result (withdraw_of (view value.now)) }
     ensures kept { IfOk result IsWire }
 {
-    let texts = texts_at(value)?;
-    let date = date(texts.date.as_bytes()).ok_or(BadLine::Time)?;
+    let named = event_at(value)?;
+    let date = date(named.date.as_bytes()).ok_or(BadLine::Time)?;
     Ok(Wire::Withdraw {
-        trip: Name::build(alloc, texts.trip)?,
+        trip: Name::build(alloc, named.trip)?,
         date,
-        call: Label::new(texts.call),
-        dep: texts.dep,
+        call: named.call,
+        dep: named.dep,
     })
 }
 

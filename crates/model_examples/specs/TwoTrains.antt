@@ -224,8 +224,8 @@ abbrev pub left_a : ℕ → Message
 left_a time = Report (departure 0 0) time
 
 -- that report is corrected to this time
-abbrev pub left_a_at : ℕ → Message
-left_a_at time = Correct (departure 0 0) (Some time)
+abbrev pub corrected_a : ℕ → Message
+corrected_a time = Correct (departure 0 0) (Some time)
 
 -- the report of an event is taken back
 abbrev pub take_back : Node → Message

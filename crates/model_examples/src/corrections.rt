@@ -7,17 +7,17 @@ ghost use Rattle.delay_model.specs.declared.state.Event.{Event as AnEvent};
 ghost use Rattle.delay_model.specs.After.{after_messages};
 ghost use Rattle.delay_model.specs.Touched.{named, touched};
 ghost use Rattle.mt_base.specs.Order.{node_of};
-ghost use Rattle.model_examples.specs.TwoTrains.{clock, opts, network, start, times_after, counts_of, Accepts, answer, at_b1, arrival, departure, and_d, left_a, left_a_at, take_back, reported_at_b};
+ghost use Rattle.model_examples.specs.TwoTrains.{clock, opts, network, start, times_after, counts_of, Accepts, answer, at_b1, arrival, departure, and_d, left_a, corrected_a, take_back, reported_at_b};
 
 /// Where a report is corrected, the times that follow from it are those of the new time. To correct
 /// it to the time that it has changes nothing.
 pub fn corrected_report()
-    ensures accepted { Accepts opts (left_a (clock 8 5 0) ∷ left_a_at (clock 8 5 0)
-        ∷ left_a_at (clock 8 3 0) ∷ []) }
-    ensures changed { counts_of opts (left_a (clock 8 5 0) ∷ left_a_at (clock 8 5 0)
-        ∷ left_a_at (clock 8 3 0) ∷ []) ≡ 6 ∷ 0 ∷ 6 ∷ [] }
-    ensures times { times_after opts (left_a (clock 8 5 0) ∷ left_a_at (clock 8 5 0)
-        ∷ left_a_at (clock 8 3 0) ∷ []) ≡ clock 8 3 0 ∷ clock 8 33 0 ∷ clock 8 34 0 ∷ clock 9 2 0
+    ensures accepted { Accepts opts (left_a (clock 8 5 0) ∷ corrected_a (clock 8 5 0)
+        ∷ corrected_a (clock 8 3 0) ∷ []) }
+    ensures changed { counts_of opts (left_a (clock 8 5 0) ∷ corrected_a (clock 8 5 0)
+        ∷ corrected_a (clock 8 3 0) ∷ []) ≡ 6 ∷ 0 ∷ 6 ∷ [] }
+    ensures times { times_after opts (left_a (clock 8 5 0) ∷ corrected_a (clock 8 5 0)
+        ∷ corrected_a (clock 8 3 0) ∷ []) ≡ clock 8 3 0 ∷ clock 8 33 0 ∷ clock 8 34 0 ∷ clock 9 2 0
         ∷ clock 8 36 0 ∷ clock 9 10 0 ∷ [] }
 {}
 
@@ -65,12 +65,12 @@ pub fn next_report_caps()
 /// effect again once the report is taken back.
 pub fn forecast_holds_again()
     ensures accepted { Accepts opts (Forecast (departure 0 0) (clock 8 10 0) ∷ left_a (clock 8 5 0)
-        ∷ left_a_at (clock 8 3 0) ∷ take_back (departure 0 0) ∷ []) }
+        ∷ corrected_a (clock 8 3 0) ∷ take_back (departure 0 0) ∷ []) }
     ensures changed { counts_of opts (Forecast (departure 0 0) (clock 8 10 0)
-        ∷ left_a (clock 8 5 0) ∷ left_a_at (clock 8 3 0) ∷ take_back (departure 0 0) ∷ [])
+        ∷ left_a (clock 8 5 0) ∷ corrected_a (clock 8 3 0) ∷ take_back (departure 0 0) ∷ [])
         ≡ 4 ∷ 6 ∷ 6 ∷ 4 ∷ [] }
     ensures times { times_after opts (Forecast (departure 0 0) (clock 8 10 0)
-        ∷ left_a (clock 8 5 0) ∷ left_a_at (clock 8 3 0) ∷ take_back (departure 0 0) ∷ [])
+        ∷ left_a (clock 8 5 0) ∷ corrected_a (clock 8 3 0) ∷ take_back (departure 0 0) ∷ [])
         ≡ clock 8 10 0 ∷ clock 8 40 0 ∷ clock 8 41 0 ∷ clock 9 9 0 ∷ clock 8 36 0 ∷ clock 9 10 0
         ∷ [] }
 {}
@@ -121,10 +121,10 @@ pub fn correction_between_two_reports()
 pub fn first_contradiction_of_a_correction()
     ensures earlier { answer opts reported_at_b (Correct (departure 0 1) (Some (clock 8 4 0)))
         ≡ Some (Contradiction (departure 0 0) (clock 8 5 0)) }
-    ensures later { answer opts reported_at_b (left_a_at (clock 8 45 0))
+    ensures later { answer opts reported_at_b (corrected_a (clock 8 45 0))
         ≡ Some (Contradiction (arrival 0 1) (clock 8 36 0)) }
     ensures across_a_gap { answer opts (and_d ∷ Cancel 0 3 1 ∷ left_a (clock 8 0 0)
-        ∷ Report (departure 0 1) (clock 8 9 0) ∷ []) (left_a_at (clock 8 10 0))
+        ∷ Report (departure 0 1) (clock 8 9 0) ∷ []) (corrected_a (clock 8 10 0))
         ≡ Some (Contradiction (departure 0 1) (clock 8 9 0)) }
 {}
 
@@ -146,7 +146,7 @@ pub fn events_of_corrections()
     ensures corrected { named (after_messages (start opts) reported_at_b)
         (Correct (arrival 0 1) (Some (clock 8 37 0))) ≡ arrival 0 1 ∷ [] }
     ensures first_corrected { named (after_messages (start opts) reported_at_b)
-        (left_a_at (clock 8 3 0)) ≡ departure 0 0 ∷ [] }
+        (corrected_a (clock 8 3 0)) ≡ departure 0 0 ∷ [] }
     ensures taken_back { named (after_messages (start opts) (left_a (clock 8 5 0)
         ∷ Report (arrival 0 2) (clock 8 20 0) ∷ [])) (take_back (arrival 0 2))
         ≡ arrival 0 1 ∷ departure 0 1 ∷ arrival 0 2 ∷ [] }

@@ -3,7 +3,7 @@
 ghost use Rattle.std.specs.Prelude.{◌≡◌, List, [], ◌∷◌, Some};
 ghost use Rattle.delay_model.specs.declared.messages.Message.TheVariants.{Report, Correct, Withdraw, Keep as KeepIt, Extra};
 ghost use Rattle.delay_model.specs.declared.messages.Refusal.TheVariants.{Unknown, NoConnection, Contradiction, AgainstRank, Nothing};
-ghost use Rattle.model_examples.specs.TwoTrains.{clock, opts, stop_a, station_b, answer, at_b1, arrival, departure, new, by_d, left_a, left_a_at, take_back, keep_at_b};
+ghost use Rattle.model_examples.specs.TwoTrains.{clock, opts, stop_a, station_b, answer, at_b1, arrival, departure, new, by_d, left_a, corrected_a, take_back, keep_at_b};
 
 /// What is not there comes before what is there already, an impossible change before a report, a
 /// report before the order of events, and that before want of room. Last of all comes that there is
@@ -30,7 +30,7 @@ pub fn first_refusal()
 /// forecast; one without forecast has none to withdraw, also where the event was reported. What was
 /// taken back is not taken back again.
 pub fn nothing_to_take_back()
-    ensures corrected { answer opts [] (left_a_at (clock 8 3 0)) ≡ Some Nothing }
+    ensures corrected { answer opts [] (corrected_a (clock 8 3 0)) ≡ Some Nothing }
     ensures taken_back { answer opts [] (take_back (departure 0 0)) ≡ Some Nothing }
     ensures withdrawn { answer opts [] (Withdraw (departure 0 0)) ≡ Some Nothing }
     ensures another_reported { answer opts (left_a (clock 8 5 0) ∷ [])

@@ -1,6 +1,6 @@
 //! Names of stops, trips, routes and services.
 
-ghost use Rattle.std.specs.Prelude.{◌≡◌, ◌↔◌, List, ℕ, IfOk, IsTrue, bytes_eq, string_bytes};
+ghost use Rattle.std.specs.Prelude.{◌≡◌, List, ℕ, IfOk, string_bytes};
 
 use crate::memory::OutOfMemory;
 use std::alloc::Global;
@@ -33,14 +33,6 @@ impl Name {
         ensures { result.now ≡ self.now }
     {
         self.text.as_str()
-    }
-
-    /// Whether the two names are the same byte for byte.
-    pub fn is_same(&self, other: &Name) -> bool
-        ensures same { IsTrue result ↔ (self.now ≡ other.now) }
-        ensures tested { result ≡ bytes_eq self.now other.now }
-    {
-        self.text() == other.text()
     }
 
     /// A second name with the same text. `OutOfMemory` where there is no memory.

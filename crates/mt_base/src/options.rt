@@ -1,7 +1,5 @@
 //! The options of the command.
 
-ghost use Rattle.std.specs.Prelude.{◌↔◌, IsTrue};
-
 /// The options, read from the command's words.
 #[derive(Clone, Copy, Debug, PartialEq, Eq)]
 pub struct Opts {
@@ -27,22 +25,4 @@ pub struct Opts {
 
     /// How many connections may be kept or dropped at a time: 0 to 100,000.
     pub overrides: u32,
-}
-
-impl Opts {
-    ghost use Rattle.mt_base.specs.Options.{IsInRange};
-
-    /// Whether every option is in its range.
-    pub fn is_in_range(&self) -> bool
-        ensures { IsTrue result ↔ IsInRange self.now }
-    {
-        self.slack <= 50
-            && self.stop <= 3_600
-            && self.change >= 1
-            && self.change <= 3_600
-            && self.window <= 3_600
-            && self.spare_trains <= 2_000
-            && self.spare_calls <= 40_000
-            && self.overrides <= 100_000
-    }
 }

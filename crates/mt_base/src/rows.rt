@@ -1,7 +1,6 @@
 //! A vector that contracts see as its list.
 
-ghost use Rattle.std.specs.Prelude.{◌≡◌, ◌↔◌, List, [], IsTrue, length, slice_get};
-ghost use Rattle.std.specs.Option.{option_copied};
+ghost use Rattle.std.specs.Prelude.{◌≡◌, ◌↔◌, List, [], IsTrue, length};
 
 use std::marker::Model;
 
@@ -44,12 +43,5 @@ impl<T> Rows<T> {
         ensures { IsTrue result ↔ (self.now ≡ []) }
     {
         self.items.is_empty()
-    }
-
-    /// The row numbered `i`, from 0. None exactly where `i` is not below the length.
-    pub fn get(&self, i: usize) -> Option<&T>
-        ensures { option_copied result ≡ slice_get self.now i }
-    {
-        self.items.as_slice().get(i)
     }
 }

@@ -9,7 +9,7 @@ use Rattle.train_nodes.specs.declared.kinds.Choice.{Choice}
 use Rattle.train_nodes.specs.declared.kinds.Value.{Value}
 use Rattle.train_nodes.specs.declared.kinds.Value.TheVariants as Values
 use Rattle.train_nodes.specs.declared.kinds.ValueKind.TheVariants as ValueKinds
-use Rattle.train_nodes.specs.Kinds.{event_of, is_of_report, message_by_choice, message_of_choice, message_of_value}
+use Rattle.train_nodes.specs.Kinds.{changed_event, is_of_report, message_by_choice, message_of_choice, message_of_value}
 use Rattle.delay_model.specs.declared.overrides.Override.{Override}
 use Rattle.delay_model.specs.declared.overrides.Override.TheVariants as Chosen
 use Rattle.delay_model.specs.Effect.{events_between}
@@ -28,6 +28,7 @@ use Rattle.rank_order.specs.Marked.{Marked, is_marked}
 use Rattle.propagate.specs.Unsettled.{is_unsettled, is_fed_by_new}
 use Rattle.timetable.specs.Marking.{AreMarksOf, AreUnsettled, IsMarkedBefore, IsStateAfter, IsMarkedAndApplied, is_fed_from, is_marked_by, named_before, leaving_of}
 use Rattle.propagate.proofs.Named.{event-live}
+use Rattle.graph_edit.proofs.ValueLemmas.{value_live}
 use Rattle.propagate.proofs.Ordered.{filtered, keyed-live, live-keyed}
 use Rattle.timetable.proofs.Changed.{IsAlike, chosen-alike, live-key, none-only, valued-alike}
 use Rattle.timetable.proofs.Named.{live-event}
@@ -236,13 +237,7 @@ extra-end nw st n day route cs valid well accepted kept final k live was is =
     let walk = made-marks nw st new [] put (extra-turn nw st n day route cs accepted) valid.trains (stays-valid nw st m valid well accepted).trains 0 n (part-all 0 put (λ i d l. omega arith)) k live in
     (let e = rw (was, walk) at is in e) ∙ turn-first _ (list_any (is_same_node (node_of k)) (names_of put)) _
 
--- an accepted message about a report or a forecast, or a choice, names a live event
-pub value-live : (nw : Network) (st : State) (v : Value) → refusal nw st (message_of_value v) ≡ None → is_live st (event_of v) ≡ true
-value-live nw st (Values.Event ValueKinds.Report n t) h = not-false _ (accepted-by nw st (message_of_value (Values.Event ValueKinds.Report n t)) h).known
-value-live nw st (Values.Event ValueKinds.Forecast n t) h = not-false _ (accepted-by nw st (message_of_value (Values.Event ValueKinds.Forecast n t)) h).known
-value-live nw st (Values.Correct n o) h = not-false _ (accepted-by nw st (message_of_value (Values.Correct n o)) h).known
-value-live nw st (Values.Withdraw n) h = not-false _ (accepted-by nw st (message_of_value (Values.Withdraw n)) h).known
-
+-- an accepted choice names a live event
 pub choice-live : (nw : Network) (st : State) (o : Option Override) (f t : Node) → refusal nw st (message_by_choice o f t) ≡ None → is_live st t ≡ true
 choice-live nw st (Some Chosen.Keep) f t h = (and_parts (is_live st f) (is_live st t) (not-false _ (accepted-by nw st (message_by_choice (Some Chosen.Keep) f t) h).known)).1
 choice-live nw st (Some Chosen.Drop) f t h = (and_parts (is_live st f) (is_live st t) (not-false _ (accepted-by nw st (message_by_choice (Some Chosen.Drop) f t) h).known)).1
@@ -255,7 +250,7 @@ value-named st (Values.Correct n o) = refl
 value-named st (Values.Withdraw n) = refl
 
 -- a message about a report names what the report caps too
-pub named_value : (st : State) (v : Value) → named st (message_of_value v) ≡ cond (is_of_report v) (capped_by st (event_of v)) (event_of v ∷ [])
+pub named_value : (st : State) (v : Value) → named st (message_of_value v) ≡ cond (is_of_report v) (capped_by st (changed_event v)) (changed_event v ∷ [])
 named_value st (Values.Event ValueKinds.Report n t) = refl
 named_value st (Values.Event ValueKinds.Forecast n t) = refl
 named_value st (Values.Correct n o) = refl
@@ -274,8 +269,8 @@ module _ (nw : Network) (st : State) (v : Value) {m : Message} (says : message_o
   names : named_before st m ≡ named st m
   names = subst (λ m. named_before st m ≡ named st m) says (value-named st v)
 
-  pub value-there : refusal nw st m ≡ None → is_live st (event_of v) ≡ true
-  value-there h = value-live nw st v (subst (λ m. refusal nw st m ≡ None) (sym says) h)
+  pub value-there : refusal nw st m ≡ None → is_live st (changed_event v) ≡ true
+  value-there h = value_live nw st v (subst (λ m. refusal nw st m ≡ None) (sym says) h)
 
   pub value-before : (marks : Marked) → AreMarksOf (events st) marks → ((k : Key) → Contains (live_keys (events st)) k → is_marked marks k ≡ list_any (is_same_node (node_of k)) (named st (message_of_value v))) → IsMarkedBefore nw st m marks
   value-before marks fit marked =

@@ -13,7 +13,7 @@ ghost use Rattle.delay_model.specs.Events.{events, is_live, train_events};
 ghost use Rattle.delay_model.specs.Refusals.{refusal};
 ghost use Rattle.delay_model.specs.Touched.{live_only, named, names_of};
 ghost use Rattle.delay_model.specs.Valid.{IsTrain, IsValid};
-ghost use Rattle.train_nodes.specs.Kinds.{event_of, message_of_shape, message_of_value};
+ghost use Rattle.train_nodes.specs.Kinds.{changed_event, message_of_shape, message_of_value};
 ghost use Rattle.rank_order.specs.Marked.{is_marked};
 ghost use Rattle.timetable.specs.LiveTimes.{live_keys};
 ghost use Rattle.timetable.specs.Marking.{AreMarksOf, AreUnsettled, CanBeMarked, IsMarkedBefore, IsStateAfter, IsMarkedAndApplied, is_fed_from_new, is_fed_from, is_marked_by};
@@ -151,7 +151,7 @@ fn keep_live(trains: &Trains, marks: &mut Marks)
 fn mark_value(trains: &Trains, v: &Value, list: &mut Vec<Node>, marks: &mut Marks)
     // the trains, and a live event of them
     requires trains { All IsTrain trains.now.trains }
-    requires live { IsTrue (is_live trains.now (event_of v.now)) }
+    requires live { IsTrue (is_live trains.now (changed_event v.now)) }
 
     // an empty list with room, and marks of these events
     requires empty { list.old.items ≡ [] }

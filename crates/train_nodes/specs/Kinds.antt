@@ -27,10 +27,10 @@ message_of_value (Values.Correct n o) = Correct n o
 message_of_value (Values.Withdraw n) = Withdraw n
 
 -- the event of which it is said
-abbrev pub event_of : Value → Node
-event_of (Values.Event kind n t) = n
-event_of (Values.Correct n o) = n
-event_of (Values.Withdraw n) = n
+abbrev pub changed_event : Value → Node
+changed_event (Values.Event kind n t) = n
+changed_event (Values.Correct n o) = n
+changed_event (Values.Withdraw n) = n
 
 -- a time of this kind is a report
 abbrev pub is_report : ValueKind → Bool

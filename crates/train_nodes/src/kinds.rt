@@ -2,7 +2,7 @@
 
 ghost use Rattle.std.specs.Prelude.{◌≡◌};
 ghost use Rattle.delay_model.specs.Messages.{IsWellFormed};
-ghost use Rattle.train_nodes.specs.Kinds.{HasFewCalls, changed_train, event_of, is_of_report, message_of};
+ghost use Rattle.train_nodes.specs.Kinds.{HasFewCalls, changed_train, changed_event, is_of_report, message_of};
 
 use crate::well_formed::Msg;
 use delay_model::messages::Message;
@@ -64,7 +64,7 @@ pub enum Value {
 impl Value {
     /// The event.
     pub fn node(&self) -> Node
-        ensures { result ≡ event_of self.now }
+        ensures { result ≡ changed_event self.now }
     {
         match self {
             Value::Event { node, .. } => *node,
@@ -73,7 +73,7 @@ impl Value {
         }
     }
 
-    /// Whether it is the report that is given, mended or taken back, and not the forecast.
+    /// Whether it is the report that is given, corrected or taken back, and not the forecast.
     pub fn is_of_report(&self) -> bool
         ensures { result ≡ is_of_report self.now }
     {
