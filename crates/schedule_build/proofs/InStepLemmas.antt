@@ -11,6 +11,7 @@ use Rattle.delay_model.specs.declared.messages.Message.TheVariants.{Report, Fore
 use Rattle.delay_model.specs.declared.state.Train.{Train}
 use Rattle.mt_base.specs.declared.new_calls.NewCall.{NewCall}
 use Rattle.feed_tables.specs.Lawful.{AreDistinct}
+use Rattle.schedule_build.specs.Bases.{base_at}
 use Rattle.schedule_build.specs.Dates.{date_after}
 use Rattle.schedule_build.specs.Directory.{Names, names_of, train_named, with_extra}
 use Rattle.schedule_build.specs.InStep.{AreInStep, IsNewTrain, names_after_message}
@@ -36,49 +37,49 @@ abbrev ids : List TripRow → List (List ℕ)
 ids rows = map (λ (r : TripRow). r.id) rows
 
 -- the names of the trains of a day are of that day, and of trips of these rows
-day-names : (P : List ℕ → Type 0) (active : ℕ → Bool) (calls : List CallRow) (trips : List TripRow) (day trip : ℕ) (rows : List TripRow) → rows ≡ drop trip trips → All P (ids rows)
-    → All (λ (n : TrainName). (n.day ≡ day) × P n.trip) (map (name_of_run trips) (day_runs active calls day trip rows))
-day-names P active calls trips day trip [] e h = All-nil (λ (n : TrainName). (n.day ≡ day) × P n.trip)
-day-names P active calls trips day trip (row ∷ rows) e h =
+day-names : (P : List ℕ → Type 0) (active : ℕ → Bool) (calls : List CallRow) (trips : List TripRow) (day base trip : ℕ) (rows : List TripRow) → rows ≡ drop trip trips → All P (ids rows)
+    → All (λ (n : TrainName). (n.day ≡ day) × P n.trip) (map (name_of_run trips) (day_runs active calls day base trip rows))
+day-names P active calls trips day base trip [] e h = All-nil (λ (n : TrainName). (n.day ≡ day) × P n.trip)
+day-names P active calls trips day base trip (row ∷ rows) e h =
     let there = drop-there trips rows row trip e in
-    let rest = day-names P active calls trips day (trip + 1) rows there.1 (λ i d l. h (suc i) d (omega arith)) in
+    let rest = day-names P active calls trips day base (trip + 1) rows there.1 (λ i d l. h (suc i) d (omega arith)) in
     grind (arith, elements, there.0, rest, h 0 [] (omega arith))
 
-distinct-day : (active : ℕ → Bool) (calls : List CallRow) (trips : List TripRow) (day trip : ℕ) (rows : List TripRow) → rows ≡ drop trip trips → AreDistinct (ids rows)
-    → AreDistinct (map (name_of_run trips) (day_runs active calls day trip rows))
+distinct-day : (active : ℕ → Bool) (calls : List CallRow) (trips : List TripRow) (day base trip : ℕ) (rows : List TripRow) → rows ≡ drop trip trips → AreDistinct (ids rows)
+    → AreDistinct (map (name_of_run trips) (day_runs active calls day base trip rows))
 unfolding AreDistinct
-distinct-day active calls trips day trip [] e h = tt
-distinct-day active calls trips day trip (row ∷ rows) e h =
+distinct-day active calls trips day base trip [] e h = tt
+distinct-day active calls trips day base trip (row ∷ rows) e h =
     let there = drop-there trips rows row trip e in
-    let rest = distinct-day active calls trips day (trip + 1) rows there.1 h.1 in
-    let others = day-names (λ id. row.id ≢ id) active calls trips day (trip + 1) rows there.1 h.0 in
+    let rest = distinct-day active calls trips day base (trip + 1) rows there.1 h.1 in
+    let others = day-names (λ id. row.id ≢ id) active calls trips day base (trip + 1) rows there.1 h.0 in
     grind (arith, elements, there.0, rest, others)
 
 -- those of the days from a day on are of no earlier day
-later-names : (t : Tables) (first day days : ℕ) → All (λ (n : TrainName). day ≤ n.day) (map (name_of_run t.trips) (runs_from t first day days))
-later-names t first day zero = All-nil (λ (n : TrainName). day ≤ n.day)
-later-names t first day (suc days) =
-    let own = day-names (λ id. Unit {0}) (λ service. is_active t service (date_after first day)) t.calls t.trips day 0 t.trips refl (λ i d l. tt) in
-    let later = later-names t first (day + 1) days in
-    rw map-append (All-append (λ (n : TrainName). day ≤ n.day) (map (name_of_run t.trips) (runs_on t first day)) (map (name_of_run t.trips) (runs_from t first (day + 1) days)) (λ i d l. omega (arith, (own i d l).0)) (λ i d l. omega (arith, later i d l)))
+later-names : (t : Tables) (first : ℕ) (bases : List ℕ) (day days : ℕ) → All (λ (n : TrainName). day ≤ n.day) (map (name_of_run t.trips) (runs_from t first bases day days))
+later-names t first bases day zero = All-nil (λ (n : TrainName). day ≤ n.day)
+later-names t first bases day (suc days) =
+    let own = day-names (λ id. Unit {0}) (λ service. is_active t service (date_after first day)) t.calls t.trips day (base_at bases day) 0 t.trips refl (λ i d l. tt) in
+    let later = later-names t first bases (day + 1) days in
+    rw map-append (All-append (λ (n : TrainName). day ≤ n.day) (map (name_of_run t.trips) (runs_on t first day (base_at bases day))) (map (name_of_run t.trips) (runs_from t first bases (day + 1) days)) (λ i d l. omega (arith, (own i d l).0)) (λ i d l. omega (arith, later i d l)))
 
-distinct-days : (t : Tables) (first day days : ℕ) → AreDistinct (ids t.trips) → AreDistinct (map (name_of_run t.trips) (runs_from t first day days))
+distinct-days : (t : Tables) (first : ℕ) (bases : List ℕ) (day days : ℕ) → AreDistinct (ids t.trips) → AreDistinct (map (name_of_run t.trips) (runs_from t first bases day days))
 unfolding AreDistinct
-distinct-days t first day zero h = tt
-distinct-days t first day (suc days) h =
+distinct-days t first bases day zero h = tt
+distinct-days t first bases day (suc days) h =
     let active : ℕ → Bool = λ service. is_active t service (date_after first day) in
-    let own = day-names (λ id. Unit {0}) active t.calls t.trips day 0 t.trips refl (λ i d l. tt) in
-    let later = later-names t first (day + 1) days in
-    rw map-append (distinct-append (map (name_of_run t.trips) (runs_on t first day)) (map (name_of_run t.trips) (runs_from t first (day + 1) days)) (distinct-day active t.calls t.trips day 0 t.trips refl h) (distinct-days t first (day + 1) days h)
+    let own = day-names (λ id. Unit {0}) active t.calls t.trips day (base_at bases day) 0 t.trips refl (λ i d l. tt) in
+    let later = later-names t first bases (day + 1) days in
+    rw map-append (distinct-append (map (name_of_run t.trips) (runs_on t first day (base_at bases day))) (map (name_of_run t.trips) (runs_from t first bases (day + 1) days)) (distinct-day active t.calls t.trips day (base_at bases day) 0 t.trips refl h) (distinct-days t first bases (day + 1) days h)
     (λ i d l k e m is. omega (arith, (own i d l).0, later k e m, ap (λ (n : TrainName). n.day) is)))
 
 -- what a feed holds is in step
-pub loaded-in_step : (t : Tables) (first days : ℕ) (o : Opts) → IsLawful t → AreInStep (names_of t first days o) (schedule t first days o)
-loaded-in_step t first days o h =
+pub loaded-in_step : (t : Tables) (first days : ℕ) (bases : List ℕ) (o : Opts) → IsLawful t → AreInStep (names_of t first days bases o) (schedule t first days bases o)
+loaded-in_step t first days bases o h =
     record {
-      count = length-map (all_runs t first days) (name_of_run t.trips) ∙ sym (length-map (all_runs t first days) (run_train t.calls));
-      days = same (all_runs t first days);
-      distinct = distinct-days t first 0 days h.names.trips;
+      count = length-map (all_runs t first days bases) (name_of_run t.trips) ∙ sym (length-map (all_runs t first days bases) (run_train t.calls));
+      days = same (all_runs t first days bases);
+      distinct = distinct-days t first bases 0 days h.names.trips;
       spare = refl;
     }
   where

@@ -1,3 +1,4 @@
+pub mod BaseLemmas
 pub mod CallLemmas
 pub mod DateLemmas
 pub mod ExtraLemmas

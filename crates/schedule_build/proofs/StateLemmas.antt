@@ -31,7 +31,7 @@ pub fit-same : (calls all : List CallRow) (rs : List Run) → ((trip : ℕ) → 
 fit-same calls all rs same h = λ k r l.
     let f = h k r l in
     let e = same (get_or rs k r).trip in
-    record { day = f.day; two_calls = rw e f.two_calls; in_order = rw e f.in_order }
+    record { day = f.day; base = f.base; two_calls = rw e f.two_calls; in_order = rw e f.in_order }
 
 -- neither too many trains nor too many nodes
 pub few-enough : (calls : List CallRow) (rs : List Run) → length rs ≤ 200000 → count_calls calls rs ≤ 1000000 → too_many calls rs ≡ None

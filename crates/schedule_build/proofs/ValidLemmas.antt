@@ -10,6 +10,7 @@ use Rattle.delay_model.specs.declared.state.Train.{Train}
 use Rattle.delay_model.specs.Events.{events}
 use Rattle.delay_model.specs.Overrides.{connection_cmp}
 use Rattle.delay_model.specs.Valid.{HasRoom, IsValid}
+use Rattle.schedule_build.specs.Bases.{AreBases}
 use Rattle.schedule_build.proofs.SmallTimes.{run-small, calls-timely}
 use Rattle.schedule_build.proofs.FitLemmas.{runs-fit}
 use Rattle.schedule_build.proofs.GoodTrains.{loaded-good, loaded-silent}
@@ -20,18 +21,18 @@ trains-each Q calls each first [] h = each-none Q first
 trains-each Q calls each first (r ∷ rs) h =
     each-from Q first _ _ (each first r (h 0 r (omega arith))) (trains-each Q calls each (first + 1) rs (λ k d l. h (suc k) d (omega arith)))
 
-module _ (t : Tables) (first days : ℕ) (o : Opts) (lawful : IsLawful t) (few : days ≤ 31) where
-  pub schedule-valid : (nw : Network) → nw.opts ≡ o → IsInRange o → IsValid nw (schedule t first days o)
+module _ (t : Tables) (first days : ℕ) (bases : List ℕ) (o : Opts) (lawful : IsLawful t) (few : days ≤ 31) (are : AreBases days bases) where
+  pub schedule-valid : (nw : Network) → nw.opts ≡ o → IsInRange o → IsValid nw (schedule t first days bases o)
   schedule-valid nw same ranges =
-      valid-from nw (schedule t first days o) (rw same ranges)
-      (trains-each (IsGood nw) t.calls (λ n r f. loaded-good nw n r.day r.route (run_calls t.calls r) (run-small t.calls r (calls-timely t lawful) f.day) f.in_order) 0 _ (runs-fit t first days lawful few))
+      valid-from nw (schedule t first days bases o) (rw same ranges)
+      (trains-each (IsGood nw) t.calls (λ n r f. loaded-good nw n r.day r.route (run_calls t.calls r) (run-small t.calls r (calls-timely t lawful) f.base) f.in_order) 0 _ (runs-fit t first days bases lawful few are))
       (λ p choice got. let none : None ≡ Some choice = sym (get-empty connection_cmp p) ∙ got in absurd (cc))
 
-  pub schedule-silent : All (λ v. v.report ≡ None) (events (schedule t first days o))
+  pub schedule-silent : All (λ v. v.report ≡ None) (events (schedule t first days bases o))
   unfolding events
   schedule-silent =
       events-from_each (λ v. v.report ≡ None) 0 _ (trains-each (λ n u. All (λ v. v.report ≡ None) (events_of n u)) t.calls
-      (λ n r f. loaded-silent n r.day r.route (run_calls t.calls r) (run-small t.calls r (calls-timely t lawful) f.day)) 0 _ (runs-fit t first days lawful few))
+      (λ n r f. loaded-silent n r.day r.route (run_calls t.calls r) (run-small t.calls r (calls-timely t lawful) f.base)) 0 _ (runs-fit t first days bases lawful few are))
 
 few-of : (calls : List CallRow) (rs : List Run) → too_many calls rs ≡ None → (length rs ≤ 200000) × (count_calls calls rs ≤ 1000000)
 few-of calls rs h = grind (arith, common_steps)

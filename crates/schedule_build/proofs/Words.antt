@@ -22,7 +22,7 @@ pub use Rattle.delay_model.specs.declared.state.State.{State}
 pub use Rattle.call_lines.proofs.LoadedLemmas.{length-loaded, loaded-is}
 pub use Rattle.train_nodes.specs.Loaded.{DoNotFallFrom, call_at, loaded_from, loaded_train, with_train}
 pub use Rattle.call_lines.specs.declared.calls.TableCall.{TableCall}
-pub use Rattle.schedule_build.specs.Directory.{Place, dates_from, day_named, name_of_run, number_from, place_of_row}
+pub use Rattle.schedule_build.specs.Directory.{Place, day_named, days_from, name_of_run, number_from, place_of_row}
 pub use Rattle.schedule_build.specs.Runs.{HasService, all_runs, day_runs, is_set, runs_from, runs_on}
 pub use Rattle.schedule_build.specs.Schedule.{IsFit, count_calls, pushed, run_calls, run_train, schedule, schedule_of, too_many}
 pub use Rattle.schedule_build.specs.Services.{changes, is_active, runs}

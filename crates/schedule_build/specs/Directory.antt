@@ -1,5 +1,5 @@
 -- The names of a timetable, and what they stand for.
-use Rattle.std.specs.Prelude.{ℕ, zero, suc, ◌+◌, ◌-◌, ◌*◌, List, [], ◌∷◌, ◌++◌, Bool, ◌&&◌, if◌then◌else◌, Option, None, Some, nat_eq, bytes_eq, slice_index_or, map}
+use Rattle.std.specs.Prelude.{ℕ, zero, suc, ◌+◌, ◌-◌, List, [], ◌∷◌, ◌++◌, Bool, ◌&&◌, if◌then◌else◌, Option, None, Some, nat_eq, bytes_eq, map}
 use Rattle.std.specs.Option.{option_map, option_map_or}
 use Rattle.std.specs.Prelude.{slice_get}
 use Rattle.mt_base.specs.declared.options.Opts.{Opts}
@@ -9,6 +9,8 @@ use Rattle.mt_base.specs.declared.tables.TripRow.{TripRow}
 use Rattle.mt_base.specs.declared.tables.Tables.{Tables}
 use Rattle.delay_model.specs.Names.{TrainName}
 use Rattle.schedule_build.specs.declared.runs.Run.{Run}
+use Rattle.schedule_build.specs.declared.service_day.ServiceDay.{ServiceDay}
+use Rattle.schedule_build.specs.Bases.{base_at}
 use Rattle.schedule_build.specs.Dates.{date_after}
 use Rattle.schedule_build.specs.Runs.{all_runs}
 
@@ -17,10 +19,10 @@ pub record Place : Type 0 where
   pub id : List ℕ
   pub kind : PlaceKind
 
--- the dates of the loaded days, the places, the routes and the trains, each in the order of their
--- numbers; and for how many extra trains there is still room
+-- the loaded days, the places, the routes and the trains, each in the order of their numbers; and
+-- for how many extra trains there is still room
 pub record Names : Type 0 where
-  pub dates : List ℕ
+  pub days : List ServiceDay
   pub places : List Place
   pub routes : List (List ℕ)
   pub trains : List TrainName
@@ -40,7 +42,7 @@ train_named names trip day = number_from 0 (λ (t : TrainName). bytes_eq t.trip 
 
 -- the loaded day that has a date
 unfoldable pub day_named : Names → ℕ → Option ℕ
-day_named names date = number_from 0 (λ d. nat_eq d date) names.dates
+day_named names date = number_from 0 (λ (d : ServiceDay). nat_eq d.date date) names.days
 
 -- the place with an id
 unfoldable pub place_named : Names → List ℕ → Option ℕ
@@ -50,16 +52,16 @@ place_named names id = number_from 0 (λ (p : Place). bytes_eq p.id id) names.pl
 unfoldable pub route_named : Names → List ℕ → Option ℕ
 route_named names id = number_from 0 (λ r. bytes_eq r id) names.routes
 
--- ---- from numbers to names. A number that is not there has the empty name, the date 0, day 0 and
--- type 0
+-- ---- from numbers to names. A number that is not there has the empty name, the date 0, the base 0,
+-- day 0 and type 0
 
 -- the date of a service day, as the number YYYYMMDD
 abbrev pub date_of_day : Names → ℕ → ℕ
-date_of_day names day = slice_index_or names.dates day 0
+date_of_day names day = option_map_or (λ (d : ServiceDay). d.date) (slice_get names.days day) 0
 
--- the seconds from the base of day 0 to the base of a service day
-abbrev pub base_of : ℕ → ℕ
-base_of day = 86400 * day
+-- the base of a service day, in seconds from the base of day 0
+abbrev pub base_of : Names → ℕ → ℕ
+base_of names day = option_map_or (λ (d : ServiceDay). d.base) (slice_get names.days day) 0
 
 -- the `trip_id` of a train
 abbrev pub trip_of_train : Names → ℕ → List ℕ
@@ -90,10 +92,12 @@ with_extra trip day names =
 
 -- ---- the names of a feed
 
--- the dates of so many days from a date on
-abbrev pub dates_from : ℕ → ℕ → ℕ → List ℕ
-dates_from first day zero = []
-dates_from first day (suc days) = date_after first day ∷ dates_from first (day + 1) days
+-- so many days from the date `first` on, which have these bases
+abbrev pub days_from : ℕ → List ℕ → ℕ → ℕ → List ServiceDay
+days_from first bases day zero = []
+days_from first bases day (suc days) =
+    record { date = date_after first day; base = base_at bases day }
+    ∷ days_from first bases (day + 1) days
 
 -- a row of `stops.txt` as a place
 abbrev pub place_of_row : StopRow → Place
@@ -107,14 +111,14 @@ name_of_run trips r = record {
   day = r.day;
 }
 
--- the names of a feed's timetable of so many days from the date `first` on, with room for what the
--- options spare
-abbrev pub names_of : Tables → ℕ → ℕ → Opts → Names
-names_of t first days o =
+-- the names of a feed's timetable of so many days from the date `first` on, which have these bases,
+-- with room for what the options spare
+abbrev pub names_of : Tables → ℕ → ℕ → List ℕ → Opts → Names
+names_of t first days bases o =
     record {
-      dates = dates_from first 0 days;
+      days = days_from first bases 0 days;
       places = map place_of_row t.stops;
       routes = t.routes;
-      trains = map (name_of_run t.trips) (all_runs t first days);
+      trains = map (name_of_run t.trips) (all_runs t first days bases);
       spare_trains = o.spare_trains;
     }

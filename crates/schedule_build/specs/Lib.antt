@@ -1,3 +1,4 @@
+pub mod Bases
 pub mod Dates
 pub mod Directory
 pub mod Faults

@@ -18,7 +18,7 @@ use Rattle.schedule_build.specs.Runs.{all_runs}
 
 -- the calls of a run
 abbrev pub run_calls : List CallRow → Run → List TableCall
-run_calls calls r = trip_calls r.day (rows_of calls r.trip)
+run_calls calls r = trip_calls r.base (rows_of calls r.trip)
 
 -- the train of a run
 abbrev pub run_train : List CallRow → Run → Train
@@ -35,9 +35,9 @@ schedule_of calls rs o =
       spare_overrides = o.overrides;
     }
 
--- the schedule of so many days from the date `first` on
-abbrev pub schedule : Tables → ℕ → ℕ → Opts → State
-schedule t first days o = schedule_of t.calls (all_runs t first days) o
+-- the schedule of so many days from the date `first` on, which have these bases
+abbrev pub schedule : Tables → ℕ → ℕ → List ℕ → Opts → State
+schedule t first days bases o = schedule_of t.calls (all_runs t first days bases) o
 
 -- how many calls the runs have together
 abbrev pub count_calls : List CallRow → List Run → ℕ
@@ -50,9 +50,11 @@ too_many calls rs =
     if nat_lt 200000 (length rs) then Some Trains
     else (if nat_lt 2000000 (2 * count_calls calls rs) then Some Nodes else None)
 
--- a run is of a loaded day, has two calls at least, and its times do not fall
+-- a run is of a loaded day, whose base is at most 30 days of 26 hours after that of day 0; it has
+-- two calls at least, and its times do not fall
 pub record IsFit (calls : List CallRow) (r : Run) : Type 0 where
   pub day : r.day < 31
+  pub base : r.base ≤ 2808000
   pub two_calls : 2 ≤ length (run_calls calls r)
   pub in_order : DoNotFall (run_calls calls r)
 

@@ -1,12 +1,14 @@
 //! The names of a timetable, and the numbers that they stand for.
 
-ghost use Rattle.std.specs.Prelude.{◌≡◌, ◌<◌, ◌≤◌, ◌++◌, None, IfOk, IfSome, length};
+ghost use Rattle.std.specs.Prelude.{◌≡◌, ◌<◌, ◌≤◌, ◌++◌, None, All, IfOk, IfSome, length};
 ghost use Rattle.schedule_build.specs.Directory.{train_named, day_named, place_named, route_named, date_of_day, base_of, trip_of_train, day_of_train, id_of_place, kind_of_place, with_extra};
+ghost use Rattle.schedule_build.specs.declared.service_day.ServiceDay.{ServiceDay as ADay};
 
 use crate::extra_name::ExtraName;
 use crate::extra_trains::ExtraTrains;
 use crate::name_list::NameList;
 use crate::places::Places;
+use crate::service_day::ServiceDay;
 use crate::train_names::TrainNames;
 use mt_base::memory::OutOfMemory;
 use mt_base::numbers::{Day, RouteNo, StopNo, Time, TrainNo};
@@ -18,7 +20,7 @@ use std::marker::Model;
 /// the order of their numbers, with how many extra trains can still be added.
 #[derive(Drop)]
 pub struct Directory {
-    dates: Vec<u32>,
+    days: Vec<ServiceDay>,
     places: Places,
     routes: NameList,
     trains: TrainNames,
@@ -38,28 +40,29 @@ impl Model for Directory {
 }
 
 impl Directory {
-    /// The directory with the dates of the loaded days, with these places, routes and trains, and
-    /// with room for extra trains.
+    /// The directory with the loaded days, with these places, routes and trains, and with room for
+    /// extra trains.
     pub(crate) fn build(
-        dates: Vec<u32>,
+        days: Vec<ServiceDay>,
         places: Places,
         routes: NameList,
         trains: TrainNames,
         extras: ExtraTrains,
     ) -> Directory
-        // at most 31 days and 200,000 trains
-        requires days { length dates.items ≤ 31 }
+        // at most 31 days, none of them 30 days of 26 hours after day 0, and 200,000 trains
+        requires days { length days.items ≤ 31 }
+        requires bases { All (λ (d : ADay). d.base ≤ 2808000) days.items }
         requires few { length trains ≤ 200000 }
 
         // each part of the directory
-        ensures dates { result.dates ≡ dates.items }
+        ensures days { result.days ≡ days.items }
         ensures places { result.places ≡ places }
         ensures routes { result.routes ≡ routes }
         ensures trains { result.trains ≡ trains ++ extras.names }
         ensures spare { result.spare_trains ≡ extras.spare }
     {
         Directory {
-            dates,
+            days,
             places,
             routes,
             trains,
@@ -108,8 +111,8 @@ impl Directory {
         ensures number { result ≡ day_named self.now date }
         ensures there { IfSome result (λ d. d < 31) }
     {
-        for day in 0..self.dates.len() {
-            if self.dates[day] == date {
+        for day in 0..self.days.len() {
+            if self.days[day].date == date {
                 return Some(Day::new(day as u32));
             }
         }
@@ -138,15 +141,22 @@ impl Directory {
     pub fn date(&self, day: Day) -> u32
         ensures { result ≡ date_of_day self.now day }
     {
-        self.dates.get(day.get() as usize).copied().unwrap_or(0)
+        match self.days.get(day.get() as usize) {
+            Some(day) => day.date,
+            None => 0,
+        }
     }
 
-    /// The base of a service day in seconds from the base of day 0.
+    /// The base of a service day in seconds from the base of day 0, or 0 where the day is not
+    /// loaded.
     pub fn base(&self, day: Day) -> Time
-        requires { day < 31 }
-        ensures { result ≡ base_of day }
+        ensures base { result ≡ base_of self.now day }
+        ensures small { result ≤ 2808000 }
     {
-        Time::new(86_400 * day.get())
+        match self.days.get(day.get() as usize) {
+            Some(day) => day.base,
+            None => Time::new(0),
+        }
     }
 
     /// How many trains there are.

@@ -5,6 +5,7 @@ ghost use Rattle.std.specs.List.Sorted.{IsNonDecreasingBy};
 ghost use Rattle.mt_base.specs.Civil.{IsCivil};
 ghost use Rattle.mt_base.specs.Options.{IsInRange};
 ghost use Rattle.feed_tables.specs.Calls.{trip_of, times_of};
+ghost use Rattle.schedule_build.specs.Bases.{AreBases};
 ghost use Rattle.schedule_build.specs.Directory.{names_of};
 ghost use Rattle.schedule_build.specs.Faults.{IsFault};
 ghost use Rattle.schedule_build.specs.Groups.{IsGrouped};
@@ -21,8 +22,9 @@ use crate::runs::{Run, all_runs};
 use crate::trip_calls::trip_calls;
 use feed_tables::FeedTables;
 use mt_base::memory::OutOfMemory;
-use mt_base::numbers::Day;
+use mt_base::numbers::{Day, Time};
 use mt_base::options::Opts;
+use mt_base::rows::Rows;
 use mt_base::tables::{CallRow, What};
 use std::alloc::Global;
 use train_nodes::Trains;
@@ -79,7 +81,7 @@ fn push_run(
     // the trains with one more, where there is memory
     ensures { IfOk result (λ _. trains.new ≡ pushed all.now (run.now ∷ []) trains.old) }
 {
-    let calls = trip_calls(alloc, run.day, rows_of(all, run.trip))?;
+    let calls = trip_calls(alloc, run.base, rows_of(all, run.trip))?;
     let _ = trains.push_train(Day::new(run.day), run.route, calls.as_slice());
     Ok(())
 }
@@ -147,8 +149,9 @@ fn load(
 }
 
 /// The trains of so many service days from the date `first` on, a number YYYYMMDD of a year up to
-/// 2100, and the names of the feed's timetable of these days. There is a train for each day and, in
-/// the order of `trips.txt`, each trip whose service is active on that day and which has calls.
+/// 2100, and the names of the feed's timetable of these days. The base of each day is given, in
+/// seconds from that of day 0. There is a train for each day and, in the order of `trips.txt`, each
+/// trip whose service is active on that day and which has calls; its times count from that base.
 /// There is room for what the options spare. `TooMany` where there are more than 200,000 trains, or
 /// else more than 2,000,000 events, two for each call. `OutOfMemory` where there is no memory.
 pub fn expand(
@@ -157,29 +160,34 @@ pub fn expand(
     first: u32,
     days: u32,
     opts: &Opts,
+    bases: &Rows<Time>,
 ) -> Result<(Trains, Directory), ExpandFault>
-    // the days and the options
+    // the days, their bases and the options
     requires civil { IsCivil first }
     requires year { first < 21010000 }
     requires few_days { days ≤ 31 }
+    requires bases { AreBases days bases.now }
     requires options { IsInRange opts.now }
 
     // the trains and the names of these days
-    ensures schedule { IfOk result (λ r. r.0 ≡ schedule t.now first days opts.now) }
-    ensures names { IfOk result (λ r. r.1 ≡ names_of t.now first days opts.now) }
+    ensures schedule { IfOk result (λ r. r.0 ≡ schedule t.now first days bases.now opts.now) }
+    ensures names { IfOk result (λ r. r.1 ≡ names_of t.now first days bases.now opts.now) }
     ensures in_step { IfOk result (λ r. AreInStep r.1 r.0) }
 
     // when there are too many
-    ensures fits { IfOk result (λ _. too_many t.now.calls (all_runs t.now first days) ≡ None) }
-    ensures fault { IfErr result (IsFault (too_many t.now.calls (all_runs t.now first days))) }
+    ensures fits { IfOk result (λ _.
+        too_many t.now.calls (all_runs t.now first days bases.now) ≡ None) }
+    ensures fault { IfErr result
+        (IsFault (too_many t.now.calls (all_runs t.now first days bases.now))) }
 {
     let tables = t.tables();
     let all = grouped(alloc, tables.calls.as_slice())?;
-    let runs = all_runs(alloc, tables, all.as_slice(), first, days)?;
+    let bases = bases.as_slice();
+    let runs = all_runs(alloc, tables, all.as_slice(), first, days, bases)?;
     let Some(calls) = count_all(all.as_slice(), runs.as_slice()) else {
         return Err(ExpandFault::TooMany { what: What::Nodes });
     };
     let trains = load(alloc, all.as_slice(), runs.as_slice(), calls, opts)?;
-    let directory = directory_of(alloc, tables, runs.as_slice(), first, days, opts)?;
+    let directory = directory_of(alloc, tables, runs.as_slice(), first, days, bases, opts)?;
     Ok((trains, directory))
 }

@@ -24,41 +24,41 @@ fn both_times(row: &CallRow) -> Option<(u32, u32)>
     }
 }
 
-fn call_at(day: u32, row: &CallRow, arr: u32, dep: u32) -> TableCall
-    requires day { day < 31 }
+fn call_at(base: Time, row: &CallRow, arr: u32, dep: u32) -> TableCall
+    requires base { base ≤ 2808000 }
     requires arr { arr ≤ 359999 }
     requires dep { dep ≤ 359999 }
-    ensures { result ≡ call_at day row.now (arr, dep) }
+    ensures { result ≡ call_at base row.now (arr, dep) }
 {
     TableCall {
         stop: row.stop,
-        arr: Time::new(86_400 * day + arr),
-        dep: Time::new(86_400 * day + dep),
+        arr: Time::new(base.seconds() + arr),
+        dep: Time::new(base.seconds() + dep),
         board: row.board,
         alight: row.alight,
     }
 }
 
-fn timed_call(day: u32, row: &CallRow) -> Option<TableCall>
-    requires day { day < 31 }
+fn timed_call(base: Time, row: &CallRow) -> Option<TableCall>
+    requires base { base ≤ 2808000 }
     requires timely { IsTimely row.now }
-    ensures { result ≡ timed_call day row.now }
+    ensures { result ≡ timed_call base row.now }
 {
     match both_times(row) {
         None => None,
-        Some((arr, dep)) => Some(call_at(day, row, arr, dep)),
+        Some((arr, dep)) => Some(call_at(base, row, arr, dep)),
     }
 }
 
 /// The calls of the rows that have a time, in their order.
-fn timed_calls(alloc: Global, day: u32, rows: &[CallRow]) -> Result<Vec<TableCall>, OutOfMemory>
-    requires day { day < 31 }
+fn timed_calls(alloc: Global, base: Time, rows: &[CallRow]) -> Result<Vec<TableCall>, OutOfMemory>
+    requires base { base ≤ 2808000 }
     requires timely { All IsTimely rows.now }
-    ensures { IfOk result (λ calls. calls.items ≡ timed_calls day rows.now) }
+    ensures { IfOk result (λ calls. calls.items ≡ timed_calls base rows.now) }
 {
     let mut calls = Vec::new(alloc);
     for row in rows {
-        if let Some(call) = timed_call(day, row) {
+        if let Some(call) = timed_call(base, row) {
             calls.push(call)?;
         }
     }
@@ -92,18 +92,22 @@ fn sorted(alloc: Global, rows: &[CallRow]) -> Result<Vec<CallRow>, OutOfMemory>
     Ok(all)
 }
 
-/// The calls of a trip on a service day, from the trip's rows of `stop_times.txt` in any order:
-/// those with a time, by `stop_sequence`. Their times are in seconds from the base of day 0.
-/// `OutOfMemory` where there is no memory.
-pub fn trip_calls(alloc: Global, day: u32, rows: &[CallRow]) -> Result<Vec<TableCall>, OutOfMemory>
-    requires day { day < 31 }
+/// The calls of a trip on a service day with this base, from the trip's rows of `stop_times.txt` in
+/// any order: those with a time, by `stop_sequence`. Their times are in seconds from the base of day
+/// 0, as the base is, which is at most 30 days of 26 hours. `OutOfMemory` where there is no memory.
+pub fn trip_calls(
+    alloc: Global,
+    base: Time,
+    rows: &[CallRow],
+) -> Result<Vec<TableCall>, OutOfMemory>
+    requires base { base ≤ 2808000 }
     requires few { length rows.now < 2 ^ 32 }
     requires timely { All IsTimely rows.now }
-    ensures { IfOk result (λ calls. calls.items ≡ trip_calls day rows.now) }
+    ensures { IfOk result (λ calls. calls.items ≡ trip_calls base rows.now) }
 {
     if is_in_sequence(rows) {
-        return timed_calls(alloc, day, rows);
+        return timed_calls(alloc, base, rows);
     }
     let all = sorted(alloc, rows)?;
-    timed_calls(alloc, day, all.as_slice())
+    timed_calls(alloc, base, all.as_slice())
 }

@@ -25,15 +25,15 @@ pub load-requires-clause-fit : goal.load-requires-clause-fit
 load-requires-clause-fit c =
     let t = c.args.t.now in
     let g = rw (c.as_slice.ensures, c.tables-tables.ensures.tables) at c.in_ok-all.ensures in
-    let fit = runs-fit t c.args.first c.args.days c.tables-tables.ensures.lawful c.requires.few_days in
-    rw (c.as_slice-5.ensures.value, c.as_slice-6.ensures.value, c.in_ok-runs.ensures.runs, c.tables-tables.ensures.tables) (fit-same t.calls c.in_ok-all.all.items (all_runs t c.args.first c.args.days) g.same fit)
+    let fit = runs-fit t c.args.first c.args.days c.args.bases.now c.tables-tables.ensures.lawful c.requires.few_days c.requires.bases in
+    rw (c.as_slice-5.ensures.value, c.as_slice-6.ensures.value, c.in_ok-runs.ensures.runs, c.tables-tables.ensures.tables, c.as_slice-bases.ensures) (fit-same t.calls c.in_ok-all.all.items (all_runs t c.args.first c.args.days c.args.bases.now) g.same fit)
 
 pub returns-clause-fits : goal.returns-clause-fits
 returns-clause-fits c =
     let t = c.args.t.now in
-    let runs = all_runs t c.args.first c.args.days in
+    let runs = all_runs t c.args.first c.args.days c.args.bases.now in
     let g = rw (c.as_slice.ensures, c.tables-tables.ensures.tables) at c.in_ok-all.ensures in
-    let same = rw c.tables-tables.ensures.tables at c.in_ok-runs.ensures.runs in
+    let same = rw (c.tables-tables.ensures.tables, c.as_slice-bases.ensures) at c.in_ok-runs.ensures.runs in
     let count = rw (c.as_slice-3.ensures.value, c.as_slice-4.ensures.value, same, count-same t.calls c.in_ok-all.all.items runs g.same) at c.in-Some.ensures.some in
     few-enough t.calls runs (rw same at c.in_ok-runs.ensures.few) (omega (arith, count.0, count.1))
 
@@ -41,13 +41,13 @@ pub returns-clause-schedule : goal.returns-clause-schedule
 returns-clause-schedule c =
     let t = c.args.t.now in
     let g = rw (c.as_slice.ensures, c.tables-tables.ensures.tables) at c.in_ok-all.ensures in
-    let made = rw (c.as_slice-5.ensures.value, c.as_slice-6.ensures.value, c.in_ok-runs.ensures.runs, c.tables-tables.ensures.tables) at c.in_ok-trains.ensures in
-    made ∙ schedule-same t.calls c.in_ok-all.all.items (all_runs t c.args.first c.args.days) c.args.opts.now g.same
+    let made = rw (c.as_slice-5.ensures.value, c.as_slice-6.ensures.value, c.in_ok-runs.ensures.runs, c.tables-tables.ensures.tables, c.as_slice-bases.ensures) at c.in_ok-trains.ensures in
+    made ∙ schedule-same t.calls c.in_ok-all.all.items (all_runs t c.args.first c.args.days c.args.bases.now) c.args.opts.now g.same
 
 pub directory_of-requires-clause-loaded : goal.directory_of-requires-clause-loaded
 directory_of-requires-clause-loaded c =
-    let fit = runs-fit c.args.t.now c.args.first c.args.days c.tables-tables.ensures.lawful c.requires.few_days in
-    rw (c.as_slice-7.ensures.value, c.in_ok-runs.ensures.runs, c.tables-tables.ensures.tables) (λ k d l. (fit k d l).day)
+    let fit = runs-fit c.args.t.now c.args.first c.args.days c.args.bases.now c.tables-tables.ensures.lawful c.requires.few_days c.requires.bases in
+    rw (c.as_slice-7.ensures.value, c.in_ok-runs.ensures.runs, c.tables-tables.ensures.tables, c.as_slice-bases.ensures) (λ k d l. (fit k d l).day)
 
 pub returns-clause-in_step : goal.returns-clause-in_step
-returns-clause-in_step c = rw (returns-clause-schedule c, c.in_ok-directory.ensures, c.tables-tables.ensures.tables) (loaded-in_step c.args.t.now c.args.first c.args.days c.args.opts.now c.tables-tables.ensures.lawful)
+returns-clause-in_step c = rw (returns-clause-schedule c, c.in_ok-directory.ensures, c.tables-tables.ensures.tables, c.as_slice-bases.ensures) (loaded-in_step c.args.t.now c.args.first c.args.days c.args.bases.now c.args.opts.now c.tables-tables.ensures.lawful)
