@@ -3,7 +3,8 @@ use Rattle.schedule_build.proofs.Words.{◌≡◌, ◌+◌, ◌*◌, ◌<◌, �
 use Rattle.std.proofs.lemmas.Bool.{cases_lt}
 use Rattle.schedule_build.specs.Bases.{AreBases, base_at}
 
-past : (bases : List ℕ) (day : ℕ) → length bases ≤ day → base_at bases day ≡ 0
+-- a day past the last has the base 0
+pub past : (bases : List ℕ) (day : ℕ) → length bases ≤ day → base_at bases day ≡ 0
 past [] day l = refl
 past (base ∷ bases) zero l = absurd (omega arith)
 past (base ∷ bases) (suc day) l = past bases day (omega arith)

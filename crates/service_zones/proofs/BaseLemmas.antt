@@ -1,5 +1,5 @@
 -- Bases where no day is too short or too long.
-use Rattle.std.proofs.Common.{◌≡◌, ℕ, zero, suc, ◌+◌, ◌-◌, ◌*◌, ◌<◌, ◌≤◌, Bool, true, false, ◌||◌, int_lt, ℤ, pos, ◌+ℤ◌, ◌-ℤ◌, ◌≤ℤ◌, List, [], ◌∷◌, ◌++◌, length, map, slice_index, get_or, None, refl, sym, ◌∙◌, ap, inl, inr, arith}
+use Rattle.std.proofs.Common.{◌≡◌, ℕ, zero, suc, ◌+◌, ◌-◌, ◌*◌, ◌<◌, ◌≤◌, Bool, true, false, ◌||◌, int_lt, ℤ, pos, ◌+ℤ◌, ◌-ℤ◌, ◌≤ℤ◌, List, [], ◌∷◌, ◌++◌, length, map, get_or, nat_abs, None, refl, sym, ◌∙◌, ap, inl, inr, arith}
 use Rattle.std.proofs.lemmas.Bool.{cases_Bool, cases_lt}
 use Rattle.std.proofs.lemmas.Bool.Decides.{nat_tests}
 use Rattle.std.proofs.lemmas.Int.{ints}
@@ -10,7 +10,9 @@ use Rattle.jiff_core.specs.Calendar.{IsBetween}
 use Rattle.jiff_core.proofs.SignedLemmas.{signed_arith}
 use Rattle.schedule_build.specs.Dates.{date_after}
 use Rattle.service_zones.specs.Zones.{ZoneRules}
-use Rattle.service_zones.specs.Bases.{west, base, bases, is_odd_day, odd_day, AreBases}
+use Rattle.schedule_build.proofs.BaseLemmas.{past}
+use Rattle.schedule_build.specs.Bases.{AreBases, base_at}
+use Rattle.service_zones.specs.Bases.{west, base, bases, is_odd_day, odd_day}
 
 -- where none is found, none passes the test
 none-found : (test : ℕ → Bool) (n first : ℕ) → find test (range_with_len first n) ≡ None → (k : ℕ) → first ≤ k → k < first + n → test k ≡ false
@@ -48,6 +50,13 @@ module _ (zone : ZoneRules) (first days : ℕ) (even : odd_day zone first days �
   between zero within = omega (arith, ints)
   between (suc day) within = let before = between day (omega arith) in let more = step day within in omega (arith, ints, before.0, before.1, more.0, more.1)
 
+  -- the first base is 0, and there is none where there is no day
+  at-first : (found : List ℕ) → length found ≡ days → (0 < days → pos (base_at found 0) ≡ base zone first 0) → base_at found 0 ≡ 0
+  at-first found count same = elim (cases_lt 0 days) [
+    | inl some ↦ let zero_is = between 0 some in omega (arith, ints, same some, zero_is.0, zero_is.1)
+    | inr none ↦ past found 0 (omega (arith, count))
+  ]
+
   -- what is found is as a schedule takes it
   pub are-bases : (found : List ℕ) → map pos found ≡ bases zone first days → AreBases days found
   are-bases found same =
@@ -55,7 +64,15 @@ module _ (zone : ZoneRules) (first days : ℕ) (even : odd_day zone first days �
       let at = λ (day : ℕ) (within : day < days). sym (get_or-map pos found day 0 (pos 0) (omega (arith, count))) ∙ ap (λ (xs : List ℤ). get_or xs day (pos 0)) same ∙ get_or-map-range_with_len (base zone first) 0 days day day (pos 0) within (omega arith) in
       record {
         count = count;
-        begin = λ some. let e = at 0 some in let zero_is = between 0 some in omega (arith, ints, e, zero_is.0, zero_is.1);
+        begin = at-first found count (at 0);
         least = λ day within. let e = at day (omega arith) in let f = at (suc day) within in let more = step day within in omega (arith, ints, e, f, more.0);
         most = λ day within. let e = at day (omega arith) in let f = at (suc day) within in let more = step day within in omega (arith, ints, e, f, more.1);
       }
+
+-- numbers of seconds are those of the bases that they are
+pub seconds-are : (found : List ℕ) (all : List ℤ) → map pos found ≡ all → found ≡ map nat_abs all
+seconds-are found all same = rw (← same) (back found)
+  where
+    back : (xs : List ℕ) → xs ≡ map nat_abs (map pos xs)
+    back [] = refl
+    back (x ∷ xs) = ap (λ ys. x ∷ ys) (back xs)

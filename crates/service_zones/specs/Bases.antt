@@ -1,6 +1,6 @@
 -- The bases of service days: GTFS Schedule measures times from noon minus 12 hours of the service
 -- day. They are counted in seconds from the base of day 0.
-use Rattle.std.specs.Prelude.{◌≡◌, ℕ, suc, ◌+◌, ◌-◌, ◌*◌, ◌<◌, ◌≤◌, ℤ, pos, ◌+ℤ◌, ◌-ℤ◌, int_lt, Bool, ◌||◌, if◌then◌else◌, List, length, map, slice_index}
+use Rattle.std.specs.Prelude.{ℕ, ◌-◌, ◌*◌, ℤ, pos, nat_abs, ◌+ℤ◌, ◌-ℤ◌, int_lt, Bool, ◌||◌, if◌then◌else◌, List, map}
 use Rattle.std.specs.List.{find, range_with_len}
 use Rattle.std.specs.Option.{option_map_or}
 use Rattle.std.specs.declared.option.Option.{Option}
@@ -23,6 +23,11 @@ base zone first day = pos (86400 * day) +ℤ west zone (date_after first day) -�
 abbrev pub bases : ZoneRules → ℕ → ℕ → List ℤ
 bases zone first days = map (base zone first) (range_with_len 0 days)
 
+-- the same as numbers of seconds. Where no day is too short or too long, none of them lies before
+-- that of day 0
+abbrev pub base_seconds : ZoneRules → ℕ → ℕ → List ℕ
+base_seconds zone first days = map nat_abs (bases zone first days)
+
 -- the base of the day is less than 79,200 or more than 93,600 seconds after that of the day before:
 -- less than 22 or more than 26 hours
 abbrev pub is_odd_day : ZoneRules → ℕ → ℕ → Bool
@@ -33,13 +38,3 @@ is_odd_day zone first day =
 -- the first such day, of so many
 abbrev pub odd_day : ZoneRules → ℕ → ℕ → Option ℕ
 odd_day zone first days = find (is_odd_day zone first) (range_with_len 1 (days - 1))
-
--- one base for each day, of which the first is 0, and each further one 22 to 26 hours after the one
--- before
-pub record AreBases (days : ℕ) (found : List ℕ) : Type 0 where
-  pub count : length found ≡ days
-  pub begin : 0 < days → slice_index found 0 ≡ 0
-  pub least : (day : ℕ) → suc day < days
-      → slice_index found day + 79200 ≤ slice_index found (suc day)
-  pub most : (day : ℕ) → suc day < days
-      → slice_index found (suc day) ≤ slice_index found day + 93600

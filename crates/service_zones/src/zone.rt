@@ -1,11 +1,12 @@
 //! A zone: when service days begin there.
 
-ghost use Rattle.std.specs.Prelude.{◌≡◌, ◌+◌, ◌*◌, ◌<◌, ◌≤◌, ◌^◌, pos, map, IfOk, IfErr, OnOk, None, IfSome};
+ghost use Rattle.std.specs.Prelude.{◌≡◌, ◌+◌, ◌*◌, ◌<◌, ◌≤◌, ◌^◌, pos, map, is_some, IfOk, IfErr, OnOk, None, IfSome};
 ghost use Rattle.jiff_core.specs.Calendar.{IsWithin};
 ghost use Rattle.mt_base.specs.Civil.{IsCivil};
 ghost use Rattle.service_zones.specs.ZoneTexts.{zone_of};
 ghost use Rattle.service_zones.specs.Zones.{utc, AreInRange};
-ghost use Rattle.service_zones.specs.Bases.{west, base, bases, is_odd_day, odd_day, AreBases};
+ghost use Rattle.schedule_build.specs.Bases.{AreBases};
+ghost use Rattle.service_zones.specs.Bases.{west, base, bases, base_seconds, is_odd_day, odd_day};
 ghost use Rattle.service_zones.specs.Faults.{IsBaseFault};
 
 use crate::changes::SummerTime;
@@ -117,6 +118,17 @@ impl Zone {
         (1..days).find(|day| self.is_odd_day(first, *day))
     }
 
+    /// Whether a service day, of so many, begins less than 22 or more than 26 hours after the one
+    /// before, so that there are no bases.
+    pub fn has_odd_day(&self, first: u32, days: u32) -> bool
+        requires civil { IsCivil first }
+        requires year { first < 21010000 }
+        requires few_days { days ≤ 31 }
+        ensures { result ≡ is_some (odd_day self.now first days) }
+    {
+        self.odd_day(first, days).is_some()
+    }
+
     /// The bases of so many service days, in seconds from the base of day 0. GTFS Schedule measures
     /// times from noon minus 12 hours of the service day, so the bases of two days are 23 or 25
     /// hours apart where the clock changes by an hour between their noons. The date of day 0 is a
@@ -129,6 +141,7 @@ impl Zone {
         requires few_days { days ≤ 31 }
 
         ensures bases { IfOk result (λ found. map pos found ≡ bases self.now first days) }
+        ensures seconds { IfOk result (λ found. found ≡ base_seconds self.now first days) }
         ensures steps { IfOk result (AreBases days) }
         ensures even { OnOk result (odd_day self.now first days ≡ None) }
         ensures fault { IfErr result (IsBaseFault (odd_day self.now first days)) }
