@@ -39,7 +39,7 @@ fn the_plain_program_lists_the_edges(rt: HostRuntime) {
 #[test]
 fn a_train_has_two_events_a_call(rt: HostRuntime) {
     let schedule = build_schedule(rt.alloc()).expect(&rt, "memory");
-    if let Some(train) = schedule.trains.get(0) {
+    if let Some(train) = schedule.trains.as_slice().first() {
         let events = list_train_events(rt.alloc(), TrainNo::new(0), train).expect(&rt, "memory");
         assert!(&rt; events.len() == 6);
     }

@@ -17,12 +17,13 @@ use serde_json::Value;
 use std::alloc::Global;
 use train_nodes::kinds::ValueKind;
 
-/// An event as an object names it.
+/// An event as an object names it. Its call's label is the bare number, since a struct that holds
+/// texts of others cannot hold a number with a model of its own where it is handed on.
 #[derive(Clone, Copy)]
 struct NamedEvent<'v> {
     trip: &'v str,
     date: &'v str,
-    call: Label,
+    call: u32,
     dep: bool,
 }
 
@@ -42,7 +43,7 @@ fn event_at<'v>(value: &'v Value) -> Result<NamedEvent<'v>, BadLine>
     Ok(NamedEvent {
         trip,
         date,
-        call,
+        call: call.get(),
         dep,
     })
 }
@@ -62,7 +63,7 @@ pub fn event(alloc: Global, kind: ValueKind, value: &Value) -> Result<Wire, Line
         kind,
         trip: Name::build(alloc, named.trip)?,
         date,
-        call: named.call,
+        call: Label::new(named.call),
         dep: named.dep,
         secs,
     })
@@ -94,7 +95,7 @@ pub fn correct(alloc: Global, value: &Value) -> Result<Wire, LineError>
     Ok(Wire::Correct {
         trip: Name::build(alloc, named.trip)?,
         date,
-        call: named.call,
+        call: Label::new(named.call),
         dep: named.dep,
         secs,
     })
@@ -112,7 +113,7 @@ pub fn withdraw(alloc: Global, value: &Value) -> Result<Wire, LineError>
     Ok(Wire::Withdraw {
         trip: Name::build(alloc, named.trip)?,
         date,
-        call: named.call,
+        call: Label::new(named.call),
         dep: named.dep,
     })
 }
