@@ -32,7 +32,7 @@ ride_objects names (r ∷ rs) = item (ride_object names r) (ride_objects names r
 abbrev pub journey_object : Names → ℕ → ℕ → ℕ → ℕ → List PlanRide → Data
 journey_object names line after day arrives rides =
     object (member (codes "after") (number (unsigned after))
-    (member (codes "arrives") (string (clock_of_day day arrives))
+    (member (codes "arrives") (string (clock_of_day names day arrives))
     (member (codes "line") (number (unsigned line))
     (member (codes "rides") (array (ride_objects names rides)) no_members))))
 

@@ -10,7 +10,7 @@ date_of_train names train = date_text (date_of_day names (day_of_train names tra
 -- the seconds from the base of a train's service day to a time, which is given in seconds from the
 -- base of day 0. A time before that base, which no train has, counts as the base itself
 abbrev pub seconds_on_day : Names → ℕ → ℕ → ℕ
-seconds_on_day names train time = time - base_of (day_of_train names train)
+seconds_on_day names train time = time - base_of names (day_of_train names train)
 
 -- a time by the clock of a train's service day
 abbrev pub clock_of_train : Names → ℕ → ℕ → List ℕ
@@ -18,5 +18,5 @@ clock_of_train names train time = clock (seconds_on_day names train time)
 
 -- a time by the clock of a service day. A time before its base, which no arrival of a query has,
 -- counts as the base itself
-abbrev pub clock_of_day : ℕ → ℕ → List ℕ
-clock_of_day day time = clock (time - base_of day)
+abbrev pub clock_of_day : Names → ℕ → ℕ → List ℕ
+clock_of_day names day time = clock (time - base_of names day)

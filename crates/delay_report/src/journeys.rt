@@ -86,7 +86,7 @@ pub(crate) fn journey_value(
 ) -> Result<Value, OutOfMemory>
     ensures { IfOk result (λ v. view v ≡ journey_object dir.now line after day arrives rides.now) }
 {
-    let arrives = clock_value(alloc, seconds_after(day, arrives))?;
+    let arrives = clock_value(alloc, seconds_after(dir, day, arrives))?;
     let rides = ride_values(alloc, dir, rides)?;
     json!(in alloc; {"after": after, "arrives": arrives, "line": line, "rides": rides})
 }

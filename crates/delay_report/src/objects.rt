@@ -57,18 +57,17 @@ pub(crate) fn date_of_train(dir: &Directory, train: TrainNo) -> [u8; 8]
 }
 
 /// The seconds from the base of a service day to a time.
-pub(crate) fn seconds_after(day: Day, time: Time) -> u32
-    ensures { result ≡ time - base_of day }
+pub(crate) fn seconds_after(dir: &Directory, day: Day, time: Time) -> u32
+    ensures { result ≡ time - base_of dir.now day }
 {
-    let base = 86_400 * u64::from(day.get());
-    u64::from(time.seconds()).saturating_sub(base) as u32
+    time.seconds().saturating_sub(dir.base(day).seconds())
 }
 
 /// The seconds from the base of a train's service day to a time.
 pub(crate) fn seconds_on_day(dir: &Directory, train: TrainNo, time: Time) -> u32
     ensures { result ≡ seconds_on_day dir.now train time }
 {
-    seconds_after(dir.train_day(train), time)
+    seconds_after(dir, dir.train_day(train), time)
 }
 
 /// The date of a service day, in eight digits.

@@ -48,17 +48,17 @@ has-rows trains t l = ap (nat_lt 0) (trip-rows trains t l)
 -- ---- the runs
 
 abbrev pub run : ℕ → Run
-run t = record { day = 0; trip = t; route = 0 }
+run t = record { day = 0; base = 0; trip = t; route = 0 }
 
 -- a service that runs, and trips that have calls
-day-runs : (active : ℕ → Bool) (rows : List CallRow) (at n : ℕ) → active 0 ≡ true → ((t : ℕ) → t < at + n → has_calls rows t ≡ true) → day_runs active rows 0 at (map trip (range_with_len at n)) ≡ map run (range_with_len at n)
+day-runs : (active : ℕ → Bool) (rows : List CallRow) (at n : ℕ) → active 0 ≡ true → ((t : ℕ) → t < at + n → has_calls rows t ≡ true) → day_runs active rows 0 0 at (map trip (range_with_len at n)) ≡ map run (range_with_len at n)
 day-runs active rows at zero on has = refl
 day-runs active rows at (suc n) on has =
     rw (on, has at (omega arith)) (ap (λ rs. run at ∷ rs) (day-runs active rows (at + 1) n on (λ t l. has t (omega arith))))
 
-pub runs-are : (trains places : ℕ) → all_runs (made_tables trains places) 20260105 1 ≡ map run (numbers trains)
+pub runs-are : (trains places : ℕ) → all_runs (made_tables trains places) 20260105 1 (0 ∷ []) ≡ map run (numbers trains)
 runs-are trains places =
-    append-nil (day_runs (λ service. is_active (made_tables trains places) service (date_after 20260105 0)) (calls trains) 0 0 (map trip (numbers trains)))
+    append-nil (day_runs (λ service. is_active (made_tables trains places) service (date_after 20260105 0)) (calls trains) 0 0 0 (map trip (numbers trains)))
     ∙ day-runs (λ service. is_active (made_tables trains places) service (date_after 20260105 0)) (calls trains) 0 trains (is-on trains places) (λ t l. has-rows trains t (omega arith))
 
 -- ---- how many calls they have
@@ -80,7 +80,7 @@ count-short rows at zero each = omega arith
 count-short rows at (suc n) each =
     omega (arith, sum_by-cons (λ r. length (run_calls rows r)) (run at) (map run (range_with_len (at + 1) n)), run-short rows at, each at (omega arith), count-short rows (at + 1) n (λ t l. each t (omega arith)))
 
-pub not-too-many : (trains places : ℕ) → trains ≤ 100000 → too_many (calls trains) (all_runs (made_tables trains places) 20260105 1) ≡ None
+pub not-too-many : (trains places : ℕ) → trains ≤ 100000 → too_many (calls trains) (all_runs (made_tables trains places) 20260105 1 (0 ∷ [])) ≡ None
 not-too-many trains places few =
     let short = count-short (calls trains) 0 trains (λ t l. trip-rows trains t (omega arith)) in
     rw (runs-are trains places, length-map-range_with_len run 0 trains, le-ltb 200000 trains (omega arith), le-ltb 2000000 (2 * count_calls (calls trains) (map run (numbers trains))) (omega (arith, short))) refl

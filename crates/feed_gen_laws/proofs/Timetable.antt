@@ -1,5 +1,5 @@
 -- The timetable that the feed holds.
-use Rattle.feed_gen_laws.proofs.Words.{List, all_runs, ap, arith, get_or, le-ltb, length, length-map-range_with_len, refl, ℕ, ◌∙◌, ◌≡◌, ◌≤◌}
+use Rattle.feed_gen_laws.proofs.Words.{List, [], ◌∷◌, all_runs, ap, arith, get_or, le-ltb, length, length-map-range_with_len, refl, ℕ, ◌∙◌, ◌≡◌, ◌≤◌}
 use Rattle.std.proofs.lemmas.List.{length-map}
 use Rattle.std.proofs.lemmas.List.FromFn.{length-range_with_len}
 use Rattle.std.proofs.lemmas.List.Sums.{count_by-le-length, length-filter, sum_by-le}
@@ -34,11 +34,11 @@ timetable-held trains stops folder o are some few =
     let short : pairs (tables_of t o.change) ≤ 4000000 = omega (arith, pairs-few (tables_of t o.change) (length-map-range_with_len stop 0 stops ∙ are)) in
     record {
       rows = t;
-      state = schedule t 20260105 1 o;
-      names = names_of t 20260105 1 o;
+      state = schedule t 20260105 1 (0 ∷ []) o;
+      names = names_of t 20260105 1 (0 ∷ []) o;
       rows_are = tables;
-      holds = rw (tables, le-ltb 4000000 (pairs (tables_of t o.change)) short) (ap (λ w. unless_too_many w (schedule t 20260105 1 o, names_of t 20260105 1 o)) (not-too-many trains stops few));
-      one_each = length-map (all_runs t 20260105 1) (run_train t.calls) ∙ ap length (runs-are trains stops) ∙ length-map-range_with_len run 0 trains;
+      holds = rw (tables, le-ltb 4000000 (pairs (tables_of t o.change)) short) (ap (λ w. unless_too_many w (schedule t 20260105 1 (0 ∷ []) o, names_of t 20260105 1 (0 ∷ []) o)) (not-too-many trains stops few));
+      one_each = length-map (all_runs t 20260105 1 (0 ∷ [])) (run_train t.calls) ∙ ap length (runs-are trains stops) ∙ length-map-range_with_len run 0 trains;
     }
 
 -- the tables of so many trains hold a timetable

@@ -1,5 +1,5 @@
 -- The timetable that the tables of so many trains hold.
-use Rattle.std.specs.Prelude.{ℕ, ◌≡◌, List, length, Ok}
+use Rattle.std.specs.Prelude.{ℕ, ◌≡◌, List, [], ◌∷◌, length, Ok}
 use Rattle.mt_base.specs.declared.options.Opts.{Opts}
 use Rattle.mt_base.specs.declared.tables.Tables.{Tables}
 use Rattle.delay_model.specs.declared.state.State.{State}
@@ -15,5 +15,5 @@ pub record HoldsTimetable (trains : ℕ) (folder : List ℕ) (o : Opts) : Type 0
   pub state : State
   pub names : Names
   pub rows_are : tables_of (contents_of (files trains) folder) ≡ Ok rows
-  pub holds : loaded (contents_of (files trains) folder) 20260105 1 o ≡ Ok (state, names)
+  pub holds : loaded (contents_of (files trains) folder) 20260105 1 (0 ∷ []) o ≡ Ok (state, names)
   pub one_each : length state.trains ≡ trains

@@ -37,13 +37,13 @@ module _ (stops : List StopRow) where
   abbrev TableAt : TableCall → Type 0
   TableAt c = At c.stop
 
-  timed-one : (day : ℕ) (r : CallRow) (times : Option (ℕ × ℕ)) (cs : List TableCall) → RowAt r → All TableAt cs → All TableAt (cons_option (option_map (call_at day r) times) cs)
-  timed-one day r None cs at h = h
-  timed-one day r (Some times) cs at h = All-cons TableAt (call_at day r times) cs at h
+  timed-one : (base : ℕ) (r : CallRow) (times : Option (ℕ × ℕ)) (cs : List TableCall) → RowAt r → All TableAt cs → All TableAt (cons_option (option_map (call_at base r) times) cs)
+  timed-one base r None cs at h = h
+  timed-one base r (Some times) cs at h = All-cons TableAt (call_at base r times) cs at h
 
-  timed-each : (day : ℕ) (rows : List CallRow) → All RowAt rows → All TableAt (timed_calls day rows)
-  timed-each day [] h = All-nil TableAt
-  timed-each day (r ∷ rs) h = timed-one day r (both_times r.arr r.dep) (timed_calls day rs) (All-head RowAt r rs h) (timed-each day rs (All-tail RowAt r rs h))
+  timed-each : (base : ℕ) (rows : List CallRow) → All RowAt rows → All TableAt (timed_calls base rows)
+  timed-each base [] h = All-nil TableAt
+  timed-each base (r ∷ rs) h = timed-one base r (both_times r.arr r.dep) (timed_calls base rs) (All-head RowAt r rs h) (timed-each base rs (All-tail RowAt r rs h))
 
   table-each : (label : ℕ) (cs : List TableCall) → All TableAt cs → All (IsAtStop stops) (table_calls label cs)
   table-each label [] h = All-nil (IsAtStop stops)
@@ -52,7 +52,7 @@ module _ (stops : List StopRow) where
   run-each : (calls : List CallRow) → All RowAt calls → (r : Run) → All (IsAtStop stops) (run_train calls r).calls
   run-each calls h r =
       let rows = in_order-all RowAt sequence (rows_of calls r.trip) (All-filter (λ c. nat_eq (trip_of c) r.trip) RowAt calls h) in
-      begin-each stops _ (end-each stops _ (table-each 0 (run_calls calls r) (timed-each r.day (in_order sequence (rows_of calls r.trip)) rows)))
+      begin-each stops _ (end-each stops _ (table-each 0 (run_calls calls r) (timed-each r.base (in_order sequence (rows_of calls r.trip)) rows)))
 
 -- where each row is at a stop or platform, each call is
 pub schedule-at-stops : (stops : List StopRow) (calls : List CallRow) (rs : List Run) (o : Opts) → All (λ r. HasKind stops Platform r.stop) calls → AreAtStops stops (schedule_of calls rs o)

@@ -1,5 +1,5 @@
 -- What a feed gives: the state of its timetable with the names, or the first cause to refuse it.
-use Rattle.std.specs.Prelude.{ℕ, Option, None, Some, Result, Ok, Err}
+use Rattle.std.specs.Prelude.{ℕ, List, Option, None, Some, Result, Ok, Err}
 use Rattle.mt_base.specs.declared.options.Opts.{Opts}
 use Rattle.mt_base.specs.declared.tables.Tables.{Tables}
 use Rattle.mt_base.specs.declared.tables.What.{What}
@@ -28,26 +28,27 @@ abbrev pub unless_too_many : Option What → Timetable → Result Timetable Feed
 unless_too_many None timetable = Ok timetable
 unless_too_many (Some what) timetable = Err (TooMany what)
 
--- the timetable of so many days from the date `first` on, from the tables of a feed
-abbrev pub days_loaded : Tables → ℕ → ℕ → Opts → Result Timetable FeedRefusal
-days_loaded t first days o = unless_too_many (too_many t.calls (all_runs t first days))
-    (schedule t first days o, names_of t first days o)
+-- the timetable of so many days from the date `first` on, which have these bases, from the tables of
+-- a feed
+abbrev pub days_loaded : Tables → ℕ → ℕ → List ℕ → Opts → Result Timetable FeedRefusal
+days_loaded t first days bases o = unless_too_many (too_many t.calls (all_runs t first days bases))
+    (schedule t first days bases o, names_of t first days bases o)
 
 -- there are not too many pairs of a stop or station and a stop to which one can change from it
 abbrev pub few_pairs : Tables → Opts → Result (Unit {0}) FeedRefusal
 few_pairs t o = at_most 4000000 Pairs (pairs (tables_of t o.change))
 
 -- the same, where the pairs are counted first
-abbrev pub tables_loaded : Tables → ℕ → ℕ → Opts → Result Timetable FeedRefusal
-tables_loaded t first days o = do
+abbrev pub tables_loaded : Tables → ℕ → ℕ → List ℕ → Opts → Result Timetable FeedRefusal
+tables_loaded t first days bases o = do
   _ ← few_pairs t o
-  days_loaded t first days o
+  days_loaded t first days bases o
 
 -- the same, from what the feed holds: first of all its tables are read
-unfoldable pub loaded : Contents → ℕ → ℕ → Opts → Result Timetable FeedRefusal
-loaded contents first days o = do
+unfoldable pub loaded : Contents → ℕ → ℕ → List ℕ → Opts → Result Timetable FeedRefusal
+loaded contents first days bases o = do
   t ← tables_in contents
-  tables_loaded t first days o
+  tables_loaded t first days bases o
 
 -- why a feed is not loaded, where its schedule is not built
 abbrev pub schedule_error : ExpandFault → FeedError

@@ -16,6 +16,7 @@ ghost use Rattle.edge_rules.specs.Inside.{network_of};
 ghost use Rattle.mt_base.specs.declared.tables.Tables.{Tables as ATables};
 ghost use Rattle.gtfs_tables.specs.Feeds.{at_most, contents_of, tables_of as tables_in};
 ghost use Rattle.gtfs_tables.specs.Refusals.{Gives};
+ghost use Rattle.schedule_build.specs.Bases.{AreBases};
 ghost use Rattle.schedule_build.specs.InStep.{AreInStep};
 ghost use Rattle.schedule_build.specs.Schedule.{schedule};
 ghost use Rattle.feed_load.specs.Loaded.{days_loaded, loaded, schedule_error, tables_loaded};
@@ -23,7 +24,9 @@ ghost use Rattle.feed_load.specs.Loaded.{days_loaded, loaded, schedule_error, ta
 use change_times::{BuildFault, Changes};
 use feed_tables::FeedTables;
 use gtfs_tables::{FeedError, FeedRefusal, read_tables};
+use mt_base::numbers::Time;
 use mt_base::options::Opts;
+use mt_base::rows::Rows;
 use mt_base::tables::What;
 use mt_io::Feed;
 use schedule_build::{Directory, ExpandFault, expand, schedules_are_valid};
@@ -72,30 +75,34 @@ fn load_changes(alloc: Global, t: &FeedTables, default: u32) -> Result<Changes, 
     }
 }
 
-/// The trains of so many service days from the date `first` on call at stops and platforms alone.
-fn schedules_call_at_stops(t: &FeedTables, first: u32, days: u32, opts: &Opts)
-    ensures { AreAtStops t.now.stops (schedule t.now first days opts.now) }
+/// The trains of so many service days from the date `first` on, which have these bases, call at stops
+/// and platforms alone.
+fn schedules_call_at_stops(t: &FeedTables, first: u32, days: u32, opts: &Opts, bases: &Rows<Time>)
+    ensures { AreAtStops t.now.stops (schedule t.now first days bases.now opts.now) }
 {
     // The tables are read, so that the check knows that they are lawful.
     let _ = t.tables();
 }
 
-/// The trains and the names of so many days from the date `first` on, from the tables of a feed.
+/// The trains and the names of so many days from the date `first` on, which have these bases, from
+/// the tables of a feed.
 fn load_days(
     alloc: Global,
     t: &FeedTables,
     first: u32,
     days: u32,
     opts: &Opts,
+    bases: &Rows<Time>,
 ) -> Result<(Trains, Directory), FeedError>
-    // the days and the options
+    // the days with their bases, and the options
     requires civil { IsCivil first }
     requires year { first < 21010000 }
     requires days { (1 ≤ days) × (days ≤ 31) }
+    requires bases { AreBases days bases.now }
     requires options { IsInRange opts.now }
 
     // the trains and names, and the error that does not come
-    ensures found { Gives (λ r. r) result (days_loaded t.now first days opts.now) }
+    ensures found { Gives (λ r. r) result (days_loaded t.now first days bases.now opts.now) }
     ensures failed { IsErrOf result FeedError.ReadFault → ⊥ }
 
     // what holds of the trains and names
@@ -104,31 +111,33 @@ fn load_days(
     ensures stops { IfOk result (λ r. AreAtStops t.now.stops r.0) }
     ensures nodes { IfOk result (λ r. length (events r.0) + 2 * r.0.spare_calls ≤ 2097152) }
 {
-    schedules_are_valid(t, first, days, opts);
-    schedules_call_at_stops(t, first, days, opts);
-    match expand(alloc, t, first, days, opts) {
+    schedules_are_valid(t, first, days, opts, bases);
+    schedules_call_at_stops(t, first, days, opts, bases);
+    match expand(alloc, t, first, days, opts, bases) {
         Ok(made) => Ok(made),
         Err(fault) => Err(schedule_error(fault)),
     }
 }
 
-/// What the tables of a feed make on so many days from `first` on.
+/// What the tables of a feed make on so many days from `first` on, which have these bases.
 fn load_tables(
     alloc: Global,
     t: &FeedTables,
     first: u32,
     days: u32,
     opts: &Opts,
+    bases: &Rows<Time>,
 ) -> Result<Loaded, FeedError>
-    // the days and the options
+    // the days with their bases, and the options
     requires civil { IsCivil first }
     requires year { first < 21010000 }
     requires days { (1 ≤ days) × (days ≤ 31) }
+    requires bases { AreBases days bases.now }
     requires options { IsInRange opts.now }
 
     // what the tables make
     ensures found { Gives (λ r. (r.trains, r.directory)) result
-        (tables_loaded t.now first days opts.now) }
+        (tables_loaded t.now first days bases.now opts.now) }
 
     // the change times and waiting rules
     ensures network { IfOk result (λ r. HaveSameChanges (tables_of t.now opts.now.change) r.changes
@@ -148,7 +157,7 @@ fn load_tables(
 {
     let changes = load_changes(alloc, t, opts.change)?;
     let waits = Waits::build(alloc, t)?;
-    let (trains, directory) = load_days(alloc, t, first, days, opts)?;
+    let (trains, directory) = load_days(alloc, t, first, days, opts, bases)?;
     Ok(Loaded {
         trains,
         directory,
@@ -158,7 +167,8 @@ fn load_tables(
 }
 
 /// What the feed in a folder makes on so many days from `first` on, a date as the number YYYYMMDD
-/// of a year up to 2100. There is room for what the options spare. `Refused` has the first cause to
+/// of a year up to 2100. The base of each day is given, in seconds from that of day 0. There is room
+/// for what the options spare. `Refused` has the first cause to
 /// refuse the feed: a fault of its tables; more than 4,000,000 pairs of a stop or station and a
 /// stop with a change from the first to the second; more than 200,000 trains; or more than
 /// 2,000,000 nodes, two for each call. `ReadFault` comes only where the feed failed. `OutOfMemory`
@@ -170,17 +180,19 @@ pub fn load_feed<F: Feed>(
     first: u32,
     days: u32,
     opts: &Opts,
+    bases: &Rows<Time>,
 ) -> Result<Loaded, FeedError>
-    // the days and the options
+    // the days with their bases, and the options
     requires civil { IsCivil first }
     requires year { first < 21010000 }
     requires days { (1 ≤ days) × (days ≤ 31) }
+    requires bases { AreBases days bases.now }
     requires options { IsInRange opts.now }
 
     // what the feed makes
     ensures exact { (files : List ℕ → List ℕ → Option (List ℕ)) → F.tables feed.old ≡ Some files
         → Gives (λ r. (r.trains, r.directory)) result
-        (loaded (contents_of files folder.now) first days opts.now) }
+        (loaded (contents_of files folder.now) first days bases.now opts.now) }
 
     // the change times and waiting rules
     ensures network { IfOk result (λ r. (files : List ℕ → List ℕ → Option (List ℕ)) (t : ATables)
@@ -205,5 +217,5 @@ pub fn load_feed<F: Feed>(
         → F.faults feed.new ≡ F.faults feed.old }
 {
     let tables = read_tables(alloc, feed, folder)?;
-    load_tables(alloc, &tables, first, days, opts)
+    load_tables(alloc, &tables, first, days, opts, bases)
 }

@@ -161,6 +161,6 @@ queries_back v client from to date secs is civil le = rw (version_tested v is, d
 
 pub queries_by_number : (names : Names) (q : WireQuery) (time : WireTime) (from_stop to_stop day : ℕ) → q.time ≡ Some time
     → stop_or_station_named names q.from ≡ Some from_stop → stop_or_station_named names q.to ≡ Some to_stop → day_named names time.date ≡ Some day
-    → query_resolved names q ≡ Ok (record { day = day; query = record { from_stop = from_stop; to_stop = to_stop; time = base_of day + time.secs } })
+    → query_resolved names q ≡ Ok (record { day = day; query = record { from_stop = from_stop; to_stop = to_stop; time = base_of names day + time.secs } })
 unfolding query_resolved
 queries_by_number names q time from_stop to_stop day is_time is_from is_to is_day = rw (is_from, is_to, is_time, is_day) refl

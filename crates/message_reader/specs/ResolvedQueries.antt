@@ -31,6 +31,6 @@ query_resolved names q = do
     query = record {
       from_stop = from_stop;
       to_stop = to_stop;
-      time = base_of day + time.secs;
+      time = base_of names day + time.secs;
     };
   })

@@ -54,7 +54,7 @@ pub fn queries_are_resolved()
           query = record {
             from_stop = from_stop;
             to_stop = to_stop;
-            time = base_of day + time.secs;
+            time = base_of names day + time.secs;
           };
         }) }
 {}

@@ -51,18 +51,17 @@ pub(crate) fn train_on(dir: &Directory, trip: &Name, date: u32) -> Result<TrainO
 
 /// The time so many seconds after the base of a service day.
 pub(crate) fn time_on(dir: &Directory, day: Day, secs: u32) -> Time
-    requires loaded { day < 31 }
     requires within { secs ≤ 359999 }
-    ensures { result ≡ base_of day + secs }
+    ensures time { result ≡ base_of dir.now day + secs }
+    ensures small { result < 2 ^ 24 }
 {
     Time::new(dir.base(day).seconds() + secs)
 }
 
 /// The time so many seconds after the base of a service day, where so many are given.
 pub(crate) fn time_if_any_on(dir: &Directory, day: Day, secs: Option<u32>) -> Option<Time>
-    requires loaded { day < 31 }
     requires within { IfSome secs (λ s. s ≤ 359999) }
-    ensures exact { result ≡ option_map (λ s. base_of day + s) secs }
+    ensures exact { result ≡ option_map (λ s. base_of dir.now day + s) secs }
     ensures small { IfSome result (λ t. t < 2 ^ 24) }
 {
     match secs {
@@ -97,7 +96,6 @@ fn stop(dir: &Directory, id: &str) -> Option<StopNo>
 /// A new call of a train on a service day.
 #[tactic(auto, unfolding(crate::specs::Resolved::new_call))]
 fn new_call(dir: &Directory, day: Day, call: &WireCall) -> Result<NewCall, Refusal>
-    requires loaded { day < 31 }
     requires within { IsWireCall call.now }
     ensures exact { result ≡ new_call dir.now day call.now }
     ensures small { IfOk result IsSmallCall }
@@ -117,7 +115,6 @@ pub(crate) fn new_calls(
     day: Day,
     wire_calls: &[WireCall],
 ) -> Result<Rows<NewCall>, ResolveError>
-    requires loaded { day < 31 }
     requires within { All IsWireCall wire_calls.now }
     requires few { length wire_calls.now < 2 ^ 31 }
     ensures exact { Gives refusal_in result (new_calls dir.now day wire_calls.now) }

@@ -16,29 +16,29 @@ use Rattle.schedule_build.specs.Directory.{day_named, place_named}
 
 -- the same service days and places
 record IsSame (a b : Names) : Type 0 where
-  dates : b.dates ≡ a.dates
+  days : b.days ≡ a.days
   places : b.places ≡ a.places
 
 added-same : (names : Names) (name : Option TrainName) → IsSame names (with_added name names)
-added-same names None = record { dates = refl; places = refl }
-added-same names (Some n) = record { dates = refl; places = refl }
+added-same names None = record { days = refl; places = refl }
+added-same names (Some n) = record { days = refl; places = refl }
 
 same-by : (a : Names) (o : Option Message) (more : Message → Names) (other : Names) → ((m : Message) → IsSame a (more m)) → IsSame a other → IsSame a (option_map_or more o other)
 same-by a None more other h k = k
 same-by a (Some m) more other h k = h m
 
 known-same : (nw : Network) (st : State) (names : Names) (ws : List Wire) → IsSame names (known_after nw by_names st names ws)
-known-same nw st names [] = record { dates = refl; places = refl }
+known-same nw st names [] = record { days = refl; places = refl }
 known-same nw st names (w ∷ ws) =
     same-by names (accepted_message nw st (resolved names w)) (λ m. known_after nw by_names (effect st m) (names_with names w) ws) (known_after nw by_names st names ws)
     (λ m. let one = added-same names (added_name names w) in
     let rest = known-same nw (effect st m) (names_with names w) ws in
-    record { dates = rest.dates ∙ one.dates; places = rest.places ∙ one.places })
+    record { days = rest.days ∙ one.days; places = rest.places ∙ one.places })
     (known-same nw st names ws)
 
 asked-same : (a b : Names) (q : WireQuery) → IsSame a b → query_resolved b q ≡ query_resolved a q
 unfolding query_resolved stop_or_station_named place_named day_named
-asked-same a b q h = rw (h.dates, h.places) refl
+asked-same a b q h = rw (h.days, h.places) refl
 
 -- no line changes what a query asks
 pub asked-by-feed : (nw : Network) (names : Names) (st : State) (lines : List Line) (q : WireQuery) → query_resolved (names_after nw names st lines) q ≡ query_resolved names q

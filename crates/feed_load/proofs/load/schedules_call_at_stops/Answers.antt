@@ -10,5 +10,5 @@ use Rattle.feed_load.proofs.load.schedules_call_at_stops.Goals as goal
 pub returns : goal.returns
 returns c =
     let t = c.args.t.now in
-    schedule-at-stops t.stops t.calls (all_runs t c.args.first c.args.days) c.args.opts.now
+    schedule-at-stops t.stops t.calls (all_runs t c.args.first c.args.days c.args.bases.now) c.args.opts.now
     (All-weaker (IsCall t.stops (length t.trips)) (λ (r : CallRow). HasKind t.stops Platform r.stop) (λ r call. call.stop) t.calls c.tables.ensures.lawful.calls)
