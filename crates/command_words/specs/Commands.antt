@@ -15,6 +15,10 @@ from_rule = record (new_rule (codes "from")) { required = true; long = Some (cod
 abbrev pub option_rule : Text → Text → Rule
 option_rule name default = record (new_rule name) { long = Some name; defaults = default ∷ [] }
 
+-- `--zone TEXT`, which need not be given
+abbrev pub zone_rule : Rule
+zone_rule = record (new_rule (codes "zone")) { long = Some (codes "zone") }
+
 -- a command without flags for help and version
 abbrev pub bare_app : Text → App
 bare_app name = on_top (λ s. record s { disable_help_flag = true; disable_version_flag = true })
@@ -34,6 +38,7 @@ command_app name = fold with_rule (bare_app name) (
     ∷ option_rule (codes "spare-calls") (codes "4000")
     ∷ option_rule (codes "overrides") (codes "10000")
     ∷ option_rule (codes "workers") (codes "4")
+    ∷ zone_rule
     ∷ [])
 
 -- the word `N`: how many trains are made

@@ -1,5 +1,5 @@
 -- Words that give no option ask for the default options.
-use Rattle.std.specs.Prelude.{◌≡◌, List, [], ◌∷◌, Some, codes}
+use Rattle.std.specs.Prelude.{◌≡◌, List, [], ◌∷◌, None, Some, codes}
 use Rattle.clap.specs.Words.{Text}
 use Rattle.command_words.specs.declared.words.Command.{Command}
 use Rattle.command_words.specs.declared.words.Command.TheVariants.{Times, Serve}
@@ -19,6 +19,7 @@ asked_by_default command = record {
   days = 1;
   opts = default_options;
   workers = 4;
+  zone = None;
 }
 
 abbrev pub DefaultsAreAsked : Type 0

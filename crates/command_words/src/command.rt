@@ -2,7 +2,7 @@
 
 ghost use Rattle.std.specs.Prelude.{◌≡◌, IfOk, false};
 ghost use Rattle.clap.specs.Words.{app_of, rule_of};
-ghost use Rattle.command_words.specs.Commands.{command_app, gen_app, bare_app, feed_rule, from_rule, option_rule, trains_rule};
+ghost use Rattle.command_words.specs.Commands.{command_app, gen_app, bare_app, feed_rule, from_rule, option_rule, trains_rule, zone_rule};
 
 use clap::Arg;
 use std::alloc::{AllocError, Global};
@@ -40,6 +40,14 @@ fn option<'a>(alloc: Global, name: &'a str, default: &'a str) -> Arg<'a>
     Arg::new(alloc, name).long(name).default_value(default)
 }
 
+/// The option `--zone TEXT`.
+fn zone_option<'a>(alloc: Global) -> Arg<'a>
+    ensures rule { rule_of result ≡ zone_rule }
+    ensures local { result.global ≡ false }
+{
+    Arg::new(alloc, "zone").long("zone")
+}
+
 /// The command `NAME FEED --from DATE` with its options.
 pub(crate) fn named_command<'a>(
     alloc: Global,
@@ -58,7 +66,8 @@ pub(crate) fn named_command<'a>(
         .arg(option(alloc, "spare-trains", "200"))?
         .arg(option(alloc, "spare-calls", "4000"))?
         .arg(option(alloc, "overrides", "10000"))?
-        .arg(option(alloc, "workers", "4"))
+        .arg(option(alloc, "workers", "4"))?
+        .arg(zone_option(alloc))
 }
 
 /// The word `N`.

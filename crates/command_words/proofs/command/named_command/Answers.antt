@@ -16,4 +16,5 @@ returns c =
     let spare_trains = added c.in_ok-arg-8.ensures c.option-6.ensures.local window c.option-6.ensures.rule in
     let spare_calls = added c.in_ok-arg-9.ensures c.option-7.ensures.local spare_trains c.option-7.ensures.rule in
     let overrides = added c.in_ok-arg-10.ensures c.option-8.ensures.local spare_calls c.option-8.ensures.rule in
-    IfOk-weaker c.arg-11.result _ _ (λ r adds. added adds c.option-9.ensures.local overrides c.option-9.ensures.rule) c.arg-11.ensures
+    let workers = added c.in_ok-arg-11.ensures c.option-9.ensures.local overrides c.option-9.ensures.rule in
+    IfOk-weaker c.arg-12.result _ _ (λ r adds. added adds c.zone_option.ensures.local workers c.zone_option.ensures.rule) c.arg-12.ensures
