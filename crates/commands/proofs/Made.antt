@@ -1,5 +1,5 @@
 -- The summary of so many trains.
-use Rattle.std.proofs.Common.{◌≡◌, ◌∙◌, ◌≤◌, ℕ, List, [], All, Ok, arith, ap, sym, subst, true, length}
+use Rattle.std.proofs.Common.{◌≡◌, ◌∙◌, ◌≤◌, ℕ, List, [], ◌∷◌, All, Ok, arith, ap, sym, subst, true, length}
 use Rattle.mt_base.specs.declared.options.Opts.{Opts}
 use Rattle.mt_base.specs.declared.tables.Tables.{Tables}
 use Rattle.delay_model.specs.declared.network.Network.{Network}
@@ -43,7 +43,7 @@ only-one trains line other few x y =
 
 -- the sums over the replies in the timetable that was loaded, as a line, are the summary
 made-summary : (trains : ℕ) (line : List ℕ) (made : Network) (state : State) (names : Names) (sums : ReplySums) → trains ≤ 100000 → HoldsTimetable trains [] default_options
-    → loaded (contents_of (files trains) []) 20260105 1 default_options ≡ Ok (state, names) → ((rows : Tables) → tables_of (contents_of (files trains) []) ≡ Ok rows → IsSame (network rows default_options) made)
+    → loaded (contents_of (files trains) []) 20260105 1 (0 ∷ []) default_options ≡ Ok (state, names) → ((rows : Tables) → tables_of (contents_of (files trains) []) ≡ Ok rows → IsSame (network rows default_options) made)
     → AreSummed made names state (lines_of true (input trains)) sums → line ≡ summary_line sums (length state.trains) → IsOnlySummary trains line
 made-summary trains line made state names sums few holds held same summed is =
     let summary : IsSummary trains line = record {
@@ -61,11 +61,11 @@ made-summary trains line made state names sums few holds held same summed is =
 
 -- the same for a feed of as many trains, and for these options
 pub made-summary-by : (trains n : ℕ) (o : Opts) (line : List ℕ) (made : Network) (state : State) (names : Names) (sums : ReplySums) → n ≡ trains → o ≡ default_options → 1 ≤ trains → trains ≤ 100000
-    → loaded (contents_of (files n) []) 20260105 1 o ≡ Ok (state, names) → ((rows : Tables) → tables_of (contents_of (files n) []) ≡ Ok rows → IsSame (network rows o) made)
+    → loaded (contents_of (files n) []) 20260105 1 (0 ∷ []) o ≡ Ok (state, names) → ((rows : Tables) → tables_of (contents_of (files n) []) ≡ Ok rows → IsSame (network rows o) made)
     → AreSummed made names state (lines_of true (input trains)) sums → line ≡ summary_line sums (length state.trains) → IsOnlySummary trains line
 made-summary-by trains n o line made state names sums number options some few held same summed is =
     made-summary trains line made state names sums few (made-timetable trains [] default_options some few)
-    (subst (λ (m : ℕ). loaded (contents_of (files m) []) 20260105 1 default_options ≡ Ok (state, names)) number (subst (λ (p : Opts). loaded (contents_of (files n) []) 20260105 1 p ≡ Ok (state, names)) options held))
+    (subst (λ (m : ℕ). loaded (contents_of (files m) []) 20260105 1 (0 ∷ []) default_options ≡ Ok (state, names)) number (subst (λ (p : Opts). loaded (contents_of (files n) []) 20260105 1 (0 ∷ []) p ≡ Ok (state, names)) options held))
     (λ rows are.
     subst (λ (p : Opts). IsSame (network rows p) made) options (same rows (subst (λ (m : ℕ). tables_of (contents_of (files m) []) ≡ Ok rows) (sym number) are)))
     summed is

@@ -3,7 +3,7 @@ use Rattle.std.specs.Prelude.{Result}
 use Rattle.mt_base.specs.declared.options.Opts.{Opts}
 use Rattle.mt_base.specs.declared.tables.Tables.{Tables}
 use Rattle.delay_model.specs.declared.network.Network.{Network}
-use Rattle.command_words.specs.Words.{Asked}
+use Rattle.command_words.specs.Words.{Asked, asked_bases}
 use Rattle.feed_load.specs.Loaded.{Timetable, loaded}
 use Rattle.gtfs_tables.specs.declared.refusals.FeedRefusal.{FeedRefusal}
 use Rattle.gtfs_tables.specs.Feeds.{Files, contents_of, tables_of}
@@ -18,4 +18,4 @@ tables_in told a = tables_of (contents_of told a.folder)
 
 -- the state and the names of the timetable that the words ask for, or why its feed is refused
 abbrev pub asked_in : Files → Asked → Result Timetable FeedRefusal
-asked_in told a = loaded (contents_of told a.folder) a.first a.days a.opts
+asked_in told a = loaded (contents_of told a.folder) a.first a.days (asked_bases a) a.opts

@@ -1,5 +1,5 @@
 -- What `gen` writes.
-use Rattle.std.specs.Prelude.{ℕ, ◌≡◌, List, [], Some, Ok, true, length}
+use Rattle.std.specs.Prelude.{ℕ, ◌≡◌, List, [], ◌∷◌, Some, Ok, true, length}
 use Rattle.std.specs.declared.option.Option.{Option}
 use Rattle.mt_base.specs.declared.tables.Tables.{Tables}
 use Rattle.delay_model.specs.declared.state.State.{State}
@@ -25,7 +25,7 @@ pub record IsSummary (trains : ℕ) (line : List ℕ) : Type 0 where
   pub names : Names
   pub sums : ReplySums
   pub rows_are : tables_of (contents_of (files trains) []) ≡ Ok rows
-  pub holds : loaded (contents_of (files trains) []) 20260105 1 default_options
+  pub holds : loaded (contents_of (files trains) []) 20260105 1 (0 ∷ []) default_options
       ≡ Ok (state, names)
   pub summed : AreSummed (network rows default_options) names state (lines_of true (input trains))
       sums

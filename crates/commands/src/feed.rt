@@ -1,7 +1,8 @@
 //! The timetable that a feed holds.
 
-ghost use Rattle.std.specs.Prelude.{◌≡◌, ◌<◌, ◌≤◌, Ok, Some, IfOk, IsErrOf};
+ghost use Rattle.std.specs.Prelude.{◌≡◌, ◌<◌, ◌≤◌, None, Ok, Some, IfOk, IsErrOf};
 ghost use Rattle.command_words.specs.Held.{asked_view};
+ghost use Rattle.command_words.specs.Words.{zone_asked};
 ghost use Rattle.feed_load.specs.Loaded.{loaded};
 ghost use Rattle.gtfs_tables.specs.Feeds.{Files, contents_of, tables_of};
 ghost use Rattle.gtfs_tables.specs.Refusals.{Gives};
@@ -10,7 +11,9 @@ ghost use Rattle.mt_base.specs.Options.{IsInRange};
 ghost use Rattle.information_service.specs.Networks.{IsSame};
 ghost use Rattle.mt_io.specs.Causes.{counted};
 ghost use Rattle.mt_base.specs.declared.tables.Tables.{Tables as ATables};
+ghost use Rattle.schedule_build.specs.Bases.{AreBases};
 ghost use Rattle.schedule_build.specs.InStep.{AreInStep};
+ghost use Rattle.service_zones.specs.Bases.{base_seconds, odd_day};
 ghost use Rattle.commands.specs.Feeds.{network, tables_in, asked_in};
 
 use command_words::Asked;
@@ -18,8 +21,12 @@ use feed_load::load_feed;
 use gtfs_tables::FeedError;
 use information_service::InformationService;
 use mt_base::Opts;
+use mt_base::memory::OutOfMemory;
+use mt_base::numbers::Time;
+use mt_base::rows::Rows;
 use mt_io::Feed;
 use schedule_build::Directory;
+use service_zones::{BaseFault, Zone};
 use std::alloc::Global;
 use timetable::Timetable;
 
@@ -36,13 +43,31 @@ pub struct LoadedTimetable {
     pub room: u32,
 }
 
+/// The bases of so many service days from the date `first` on, in a zone where none of them is too
+/// short or too long.
+fn bases(alloc: Global, zone: &Zone, first: u32, days: u32) -> Result<Rows<Time>, OutOfMemory>
+    requires civil { IsCivil first }
+    requires year { first < 21010000 }
+    requires few_days { days ≤ 31 }
+    requires even { odd_day zone.now first days ≡ None }
+    ensures bases { IfOk result (λ found. found ≡ base_seconds zone.now first days) }
+    ensures steps { IfOk result (AreBases days) }
+{
+    match zone.bases(alloc, first, days) {
+        Ok(bases) => Ok(bases),
+        Err(BaseFault::OutOfMemory) => Err(OutOfMemory),
+        Err(BaseFault::DayLength { .. }) => unreachable!(),
+    }
+}
+
 /// The timetable of so many service days from the date `first` on that the feed in a folder holds,
-/// with its names.
+/// with its names. The days begin as they do in a zone, where none of them is too short or too long.
 pub fn load_timetable<F: Feed>(
     alloc: Global,
     folder: &str,
     first: u32,
     days: u32,
+    zone: &Zone,
     opts: &Opts,
     feed: &mut F,
 ) -> Result<LoadedTimetable, FeedError>
@@ -52,10 +77,14 @@ pub fn load_timetable<F: Feed>(
     requires days { (1 ≤ days) × (days ≤ 31) }
     requires options { IsInRange opts.now }
 
+    // no service day is too short or too long
+    requires even { odd_day zone.now first days ≡ None }
+
     // the timetable that the feed holds, or why it is refused
     ensures exact { (told : Files) → F.tables feed.old ≡ Some told
         → Gives (λ l. (l.timetable.state, l.directory)) result
-        (loaded (contents_of told folder.now) first days opts.now) }
+        (loaded (contents_of told folder.now) first days (base_seconds zone.now first days)
+        opts.now) }
     ensures network { IfOk result (λ l. (told : Files) (rows : ATables) → F.tables feed.old
         ≡ Some told → tables_of (contents_of told folder.now) ≡ Ok rows
         → IsSame (network rows opts.now) l.timetable.network) }
@@ -70,7 +99,8 @@ pub fn load_timetable<F: Feed>(
     ensures answered { ¬ (IsErrOf result FeedError.ReadFault)
         → F.faults feed.new ≡ F.faults feed.old }
 {
-    let loaded = load_feed(alloc, feed, folder, first, days, opts)?;
+    let bases = bases(alloc, zone, first, days)?;
+    let loaded = load_feed(alloc, feed, folder, first, days, opts, &bases)?;
     let timetable = Timetable::build(alloc, loaded.trains, loaded.changes, loaded.waits, *opts)?;
     let room = timetable
         .graph()
@@ -95,6 +125,8 @@ pub(crate) fn load_service<F: Feed>(
     requires year { asked.now.first < 21010000 }
     requires days { (1 ≤ asked.now.days) × (asked.now.days ≤ 31) }
     requires options { IsInRange asked.now.opts }
+    requires even { odd_day (zone_asked (asked_view asked.now).zone) asked.now.first asked.now.days
+        ≡ None }
 
     // the timetable that the feed holds, or why it is refused
     ensures exact { (told : Files) → F.tables feed.old ≡ Some told
@@ -115,6 +147,7 @@ pub(crate) fn load_service<F: Feed>(
         asked.folder,
         asked.first,
         asked.days,
+        &asked.zone(),
         &asked.opts,
         feed,
     )?;

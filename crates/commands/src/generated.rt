@@ -13,6 +13,7 @@ use command_words::{AskedGen, default_options, read_gen_words};
 use feed_gen::{GenFeed, GenLines};
 use mt_io::{Gate, Sink, put};
 use reply_sums::summary_text;
+use service_zones::Zone;
 use snapshot_board::NewHistory;
 use std::alloc::Global;
 use std::marker::Brand;
@@ -39,8 +40,8 @@ fn summary<R: Threads + Wait + Sync, G: Gate + Sync>(
 {
     let mut feed = GenFeed::build(alloc, asked.trains);
     let mut lines = GenLines::build(alloc, asked.trains)?;
-    let opts = default_options();
-    let loaded = load_timetable(alloc, "", SERVICE_DAY, 1, &opts, &mut feed)?;
+    let (zone, opts) = (Zone::utc(), default_options());
+    let loaded = load_timetable(alloc, "", SERVICE_DAY, 1, &zone, &opts, &mut feed)?;
     let count = loaded.timetable.graph().trains().count();
     let sums = sum_windows::<Brand, R, GenLines, G>(
         rt,
