@@ -55,7 +55,7 @@ class Maker:
     usual, most_transfers = USUAL, 80
     hub_counts, halt_counts, route_counts, trip_counts = (2, 3, 4), (3, 5, 8), (3, 6, 12), (20, 40, 80)
 
-    def __init__(self, number):
+    def __init__(self, number, days=None):
         self.random = Random(number)
         self.pick = pick = self.random.choice
         wide = number > self.usual
@@ -65,14 +65,15 @@ class Maker:
         self.stops = [stop for platforms in self.hubs.values() for stop in platforms] + self.halts
         self.routes = [f"R{route}" for route in range(pick(self.route_counts))]
         self.options = {name: pick(values) for name, values in OPTIONS.items() if pick((True, False))}
-        self.options["days"] = pick((1, 1, 2))
+        drawn_days = pick((1, 1, 2))
+        self.options["days"] = days or drawn_days
         self.unit = pick((60, 60, 20))
         self.trips = {f"T{trip}": list(self.calls()) for trip in range(pick(self.trip_counts))}
 
     def calls(self):
         """The stop, arrival and departure of each call of a trip; those between others may lack times."""
         steps = self.random.randrange
-        is_late = self.options["days"] == 2 and self.pick((True, False))
+        is_late = self.options["days"] > 1 and self.pick((True, False))
         time = (82_800 if is_late else 0) + self.unit * steps(9_000 // self.unit)
         last = self.random.randint(1, 6)
         for place in range(last + 1):
