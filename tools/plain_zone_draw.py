@@ -4,7 +4,7 @@ from calendar import monthrange
 from datetime import date, timedelta
 
 from plain_feed import MONDAY
-from plain_zone import HOUR, bases, hour_of_change, read_zone
+from plain_zone import DAY, HOUR, bases, hour_of_change, read_zone
 
 PLACES = (
     "CET-1CEST,M3.5.0,M10.5.0/3", "GMT0BST,M3.5.0/1,M10.5.0", "IST-1GMT0,M10.5.0,M3.5.0/1",
@@ -73,11 +73,12 @@ def zone_near(random, first, days):
     return f"{text}{pick(NAMES)}{second},{','.join(changes)}"
 
 
-def usual_zone(random, first, days):
-    """A zone whose clock changes near a day, and in which no loaded day is too short or too long."""
+def changing_zone(random, first, days):
+    """A zone in which a loaded day has more or less than 24 hours, and none is too short or too long."""
     while True:
         text = zone_near(random, first, days)
-        if bases(read_zone(text), first, days)[1] is None:
+        found, odd_day = bases(read_zone(text), first, days)
+        if odd_day is None and found != [DAY * day for day in range(days)]:
             return text
 
 
