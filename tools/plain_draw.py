@@ -11,9 +11,10 @@ from collections import Counter
 from pathlib import Path
 from random import Random
 
-from plain_feed import DAY, WEEKDAYS, time_text
+from plain_feed import WEEKDAYS, time_text
 from plain_lines import OF_VERSION_2
 from plain_program import place_of
+from plain_zone import DAY
 
 SERVED = (Path(__file__).resolve().parent.parent / "rows" / "served").read_text().split()
 USUAL = 36
@@ -54,7 +55,7 @@ class Maker:
     usual, most_transfers = USUAL, 80
     hub_counts, halt_counts, route_counts, trip_counts = (2, 3, 4), (3, 5, 8), (3, 6, 12), (20, 40, 80)
 
-    def __init__(self, number):
+    def __init__(self, number, days=None):
         self.random = Random(number)
         self.pick = pick = self.random.choice
         wide = number > self.usual
@@ -64,14 +65,15 @@ class Maker:
         self.stops = [stop for platforms in self.hubs.values() for stop in platforms] + self.halts
         self.routes = [f"R{route}" for route in range(pick(self.route_counts))]
         self.options = {name: pick(values) for name, values in OPTIONS.items() if pick((True, False))}
-        self.options["days"] = pick((1, 1, 2))
+        drawn_days = pick((1, 1, 2))
+        self.options["days"] = days or drawn_days
         self.unit = pick((60, 60, 20))
         self.trips = {f"T{trip}": list(self.calls()) for trip in range(pick(self.trip_counts))}
 
     def calls(self):
         """The stop, arrival and departure of each call of a trip; those between others may lack times."""
         steps = self.random.randrange
-        is_late = self.options["days"] == 2 and self.pick((True, False))
+        is_late = self.options["days"] > 1 and self.pick((True, False))
         time = (82_800 if is_late else 0) + self.unit * steps(9_000 // self.unit)
         last = self.random.randint(1, 6)
         for place in range(last + 1):
@@ -186,7 +188,7 @@ class Messages:
         else:
             event = self.event()
             time = event.scheduled + 20 * self.pick(range(-12, 100)) + self.pick((0, 0, 1))
-        time = max(event.train.day * DAY, time)
+        time = max(event.train.base, time)
         self.drawn.append((event, time))
         kind = self.pick(("report", *["forecast"] * 4))
         return self.named(event.name() | {"type": kind, "time": event.day_time(time)})
@@ -210,7 +212,7 @@ class Messages:
         event = self.event_with("report")
         reports = [v.report for v in event.train.events if v.live and v.report is not None and v is not event]
         time = self.pick((*reports, *reports, event.scheduled if event.report is None else event.report))
-        time = max(event.train.day * DAY, time + self.pick((0, 0, 1, -1, 60, -60, 300, -900)))
+        time = max(event.train.base, time + self.pick((0, 0, 1, -1, 60, -60, 300, -900)))
         text = self.pick((None, *[event.day_time(time)] * 3))
         return self.named(event.name() | {"type": "correct", "time": text})
 
@@ -241,7 +243,7 @@ class Messages:
         u, v = next((ends for ends in stretches if is_cut(*ends)), stretches[0])
         steps = range(max(1, (v.scheduled - u.scheduled) // self.maker.unit + 1))
         places = sorted(self.pick(steps) for _ in range(2 * self.pick((0, 1, 1, 2, 3))))
-        via = self.calls([u.scheduled + self.maker.unit * place for place in places], u.train.day)
+        via = self.calls([u.scheduled + self.maker.unit * place for place in places], u.train.base)
         return self.named(u.train.name() | {"type": "reroute", "from": u.label, "to": v.label, "via": via})
 
     def extra(self):
@@ -249,11 +251,11 @@ class Messages:
         near = self.event()
         step = self.maker.unit * self.pick((1, 5, 20))
         times = [near.scheduled + step * place for place in range(-2, self.pick((2, 3, 6)))]
-        day = self.pick(range(self.maker.options["days"]))
-        calls = self.calls([max(day * DAY, time) for time in (self.pick(times), *times, self.pick(times))], day)
+        date = self.pick(self.plain.feed.dates)
+        base = self.plain.feed.bases[date]
+        calls = self.calls([max(base, time) for time in (self.pick(times), *times, self.pick(times))], base)
         trip = self.pick((near.train.trip, *[f"X{len(self.plain.trains)}"] * 8))
         route = self.pick(self.maker.routes)
-        date = self.plain.feed.dates[day]
         return self.named({"type": "extra", "trip": trip, "date": date, "route": route, "calls": calls})
 
     def query(self):
@@ -264,10 +266,10 @@ class Messages:
         first, last = self.pick(ways)
         origin, destination = (first.stop, last.stop) if last else (self.pick(places), self.pick(places))
         time = self.plain.times.get(first, first.scheduled) + 60 * self.pick((-60, -10, -1, 0, 0, 1))
-        day = self.pick(range(self.maker.options["days"]))
-        time = max(0, self.pick((*[time - day * DAY] * 20, 0, 4 * DAY)))
+        date = self.pick(self.plain.feed.dates)
+        time = max(0, self.pick((*[time - self.plain.feed.bases[date]] * 20, 0, 4 * DAY)))
         members = {"client": self.pick("abc"), "from": origin, "to": destination}
-        message = {"type": "query"} | members | {"date": self.plain.feed.dates[day], "time": time_text(time)}
+        message = {"type": "query"} | members | {"date": date, "time": time_text(time)}
         return message | self.pick((*BAD, *[{}] * 150))
 
     def ride(self):
@@ -277,12 +279,12 @@ class Messages:
         cut = [(u, v) for u, v in itertools.chain(*stretches) if (u.kind, v.kind) == ("dep", "arr") and is_cut(u, v)]
         return self.pick(cut or [self.stretch()])
 
-    def calls(self, times, day):
+    def calls(self, times, base):
         """New calls with these times, two for each; now and then the times stand in any order, or a stop is none."""
         if times and self.pick(range(8)) == 0:
             self.random.shuffle(times)
         stops = self.pick((self.maker.stops, *[self.maker.stops] * 20, ("H0", "ENTRANCE", "NONE")))
-        texts = [time_text(time - day * DAY) for time in times]
+        texts = [time_text(time - base) for time in times]
         return [{"stop": self.pick(stops), "arr": arr, "dep": dep} for arr, dep in zip(texts[::2], texts[1::2])]
 
     def named(self, message):

@@ -5,7 +5,8 @@ import itertools
 from dataclasses import dataclass, field
 from datetime import date, timedelta
 
-DAY = 86_400
+from plain_zone import UTC, bases, read_zone
+
 MONDAY = date(2026, 1, 5)
 WEEKDAYS = ("monday", "tuesday", "wednesday", "thursday", "friday", "saturday", "sunday")
 
@@ -14,7 +15,7 @@ WEEKDAYS = ("monday", "tuesday", "wednesday", "thursday", "friday", "saturday", 
 class Event:
     """An arrival, which is open where passengers may alight, or a departure, which is open where they may board.
 
-    Times are seconds from the beginning of service day 0.
+    Times are seconds from the base of service day 0.
     """
 
     train: "Train"
@@ -36,18 +37,18 @@ class Event:
 
     def day_time(self, time):
         """The text of a time on the service day of the train."""
-        return time_text(time - self.train.day * DAY)
+        return time_text(time - self.train.base)
 
 
 @dataclass(eq=False)
 class Train:
-    """A trip on one service day, with the two events of each of its calls in its order."""
+    """A trip on one service day, which begins at its base, with the two events of each of its calls in its order."""
 
     number: int
     trip: str
     route: str
-    day: int
     date: str
+    base: int
     events: list[Event] = field(default_factory=list)
     next_label: int = 0
 
@@ -67,10 +68,10 @@ class Train:
         self.events[0].live = self.events[-1].live = False
 
 
-def seconds_of(text, day):
-    """The seconds of a time text on a service day."""
+def seconds_of(text, base):
+    """The seconds of a time text on the service day of a base."""
     hours, minutes, seconds = map(int, text.split(":"))
-    return day * DAY + 3600 * hours + 60 * minutes + seconds
+    return base + 3600 * hours + 60 * minutes + seconds
 
 
 def time_text(seconds):
@@ -92,19 +93,21 @@ def runs(service, today, calendar, exceptions):
     return row is not None and row[weekday] == "1" and row["start_date"] <= today <= row["end_date"]
 
 
-def timed_call(row, day):
+def timed_call(row, base):
     """The call of a row with a time; one that is empty is the other."""
     times = row["arrival_time"] or row["departure_time"], row["departure_time"] or row["arrival_time"]
     are_open = (int(row.get(column) or 0) != 1 for column in ("drop_off_type", "pickup_type"))
-    return row["stop_id"], *zip((seconds_of(time, day) for time in times), are_open)
+    return row["stop_id"], *zip((seconds_of(time, base) for time in times), are_open)
 
 
 class Feed:
-    """The tables of a folder."""
+    """The tables of a folder, and the loaded days, which begin as the zone of a text has them."""
 
-    def __init__(self, folder, days, default_change, first=MONDAY):
+    def __init__(self, folder, days, default_change, first=MONDAY, zone=UTC):
         self.folder, self.days, self.default_change, self.first = folder, days, default_change, first
         self.dates = [date_text(day, first) for day in range(days)]
+        # The base of each loaded day by its date.
+        self.bases = dict(zip(self.dates, bases(read_zone(zone), first, days)[0]))
         self.stops = {row["stop_id"]: row for row in self.rows("stops.txt")}
         self.transfers = [row for row in self.rows("transfers.txt") if self.is_general(row)]
         self.rules = self.rows("waiting_rules.txt")
@@ -125,11 +128,11 @@ class Feed:
         exceptions = {(row["service_id"], row["date"]): row for row in self.rows("calendar_dates.txt")}
         calls = sorted(self.rows("stop_times.txt"), key=lambda row: int(row["stop_sequence"]))
         trains = []
-        for day, trip in itertools.product(range(self.days), self.rows("trips.txt")):
+        for (day, date), trip in itertools.product(enumerate(self.dates), self.rows("trips.txt")):
             rows = [row for row in calls if row["trip_id"] == trip["trip_id"]]
-            timed = [timed_call(row, day) for row in rows if row["arrival_time"] or row["departure_time"]]
+            timed = [timed_call(row, self.bases[date]) for row in rows if row["arrival_time"] or row["departure_time"]]
             if timed and runs(trip["service_id"], self.first + timedelta(days=day), calendar, exceptions):
-                trains.append(Train(len(trains), trip["trip_id"], trip["route_id"], day, self.dates[day]))
+                trains.append(Train(len(trains), trip["trip_id"], trip["route_id"], date, self.bases[date]))
                 trains[-1].begin(timed)
         return trains
 

@@ -15,13 +15,14 @@ import json
 import re
 from collections import namedtuple
 
-from plain_feed import DAY, Feed, Train, seconds_of, time_text
+from plain_feed import Feed, Train, seconds_of, time_text
 from plain_journeys import Journeys, rides_of
 from plain_lines import Bad, read_line
+from plain_zone import UTC
 
 DEFAULTS = {
     "days": 1, "slack": 7, "stop": 60, "change": 180, "window": 1800,
-    "spare-trains": 200, "spare-calls": 4000, "overrides": 10_000,
+    "spare-trains": 200, "spare-calls": 4000, "overrides": 10_000, "zone": UTC,
 }  # fmt: skip
 UNKNOWN, NOTHING = {"refused": "Unknown"}, {"refused": "Nothing"}
 
@@ -33,8 +34,8 @@ class Plain:
     """The first state of a feed, and the messages that come to it."""
 
     def __init__(self, folder, options, feed=None):
-        self.options = DEFAULTS | options
-        self.feed = feed or Feed(folder, self.options["days"], self.options["change"])
+        self.options = options = DEFAULTS | options
+        self.feed = feed or Feed(folder, options["days"], options["change"], zone=options["zone"])
         self.trains = self.feed.trains()
         self.spare = {"trains": self.options["spare-trains"], "calls": self.options["spare-calls"]}
         # For each departure, the planned connections by feeder; and what was chosen for each feeder: keep or drop.
@@ -121,7 +122,7 @@ class Plain:
         event = self.live_event(message)
         if event is None:
             return UNKNOWN
-        time = seconds_of(message["time"], event.train.day)
+        time = seconds_of(message["time"], event.train.base)
         contradicted = first_contradicted(event, time)
         if contradicted:
             return contradiction(contradicted)
@@ -133,7 +134,7 @@ class Plain:
         event = self.live_event(message)
         if event is None:
             return UNKNOWN
-        time = None if message["time"] is None else seconds_of(message["time"], event.train.day)
+        time = None if message["time"] is None else seconds_of(message["time"], event.train.base)
         contradicted = time is not None and first_contradicted(event, time, is_replaced=True)
         if contradicted:
             return contradiction(contradicted)
@@ -175,7 +176,7 @@ class Plain:
         reported = first_reported(after(stretch[0]))
         if reported:
             return contradiction(reported)
-        new = list(train.new_calls(read_calls(message["via"], train.day)))
+        new = list(train.new_calls(read_calls(message["via"], train.base)))
         events = [*train.events[: place_of(stretch[0]) + 1], *new, *train.events[place_of(stretch[-1]) :]]
         refusal = self.against_rank(self.train_edges(events)) or self.shortage(calls=len(message["via"]))
         if refusal:
@@ -187,15 +188,15 @@ class Plain:
         return None
 
     def take_extra(self, message):
-        dates, date = self.feed.dates, message["date"]
-        if date not in dates or message["route"] not in self.feed.routes:
+        bases, date = self.feed.bases, message["date"]
+        if date not in bases or message["route"] not in self.feed.routes:
             return UNKNOWN
         if not self.are_at_stops(message["calls"]):
             return UNKNOWN
         if self.train(message["trip"], date):
             return {"refused": "Known"}
-        train = Train(len(self.trains), message["trip"], message["route"], dates.index(date), date)
-        train.begin(read_calls(message["calls"], train.day))
+        train = Train(len(self.trains), message["trip"], message["route"], date, bases[date])
+        train.begin(read_calls(message["calls"], train.base))
         refusal = self.against_rank(self.train_edges(train.events)) or self.shortage(trains=1, calls=train.next_label)
         if refusal:
             return refusal
@@ -239,16 +240,16 @@ class Plain:
 
         It has journeys in place of one; a reply may show any of them that arrives then.
         """
-        places, days = (query["from"], query["to"]), self.feed.dates
+        places, bases = (query["from"], query["to"]), self.feed.bases
         if not all(place in self.feed.stops and self.feed.place_type(place) in "01" for place in places):
             return {"bad": "stop"}
-        if query["date"] not in days or not re.fullmatch("[0-9]{1,2}:[0-5][0-9]:[0-5][0-9]", query["time"]):
+        if query["date"] not in bases or not re.fullmatch("[0-9]{1,2}:[0-5][0-9]:[0-5][0-9]", query["time"]):
             return {"bad": "time"}
-        day = days.index(query["date"])
-        journeys = Journeys(self.feed, rides, *places, seconds_of(query["time"], day))
+        base = bases[query["date"]]
+        journeys = Journeys(self.feed, rides, *places, seconds_of(query["time"], base))
         if journeys.arrives is None:
             return {"after": after, "arrives": None}
-        return {"after": after, "arrives": time_text(journeys.arrives - day * DAY), "rides": journeys}
+        return {"after": after, "arrives": time_text(journeys.arrives - base), "rides": journeys}
 
     def are_at_stops(self, calls):
         return all(self.feed.is_stop(call["stop"]) for call in calls)
@@ -338,9 +339,9 @@ def after(event):
     return event.train.events[place_of(event) + 1 :]
 
 
-def read_calls(calls, day):
+def read_calls(calls, base):
     """The calls of a line, where passengers may alight and board."""
-    return [(call["stop"], *((seconds_of(call[kind], day), True) for kind in ("arr", "dep"))) for call in calls]
+    return [(call["stop"], *((seconds_of(call[kind], base), True) for kind in ("arr", "dep"))) for call in calls]
 
 
 def first_reported(events, contradicts=lambda report: True):

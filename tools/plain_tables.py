@@ -238,7 +238,7 @@ class CheckedFeed(Feed):
 
     def __init__(self, tables, options, first):
         self.tables = tables
-        super().__init__(None, options["days"], options["change"], first)
+        super().__init__(None, options["days"], options["change"], first, options["zone"])
 
     def rows(self, name):
         return self.tables.rows[name]

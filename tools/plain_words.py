@@ -3,6 +3,7 @@
 from datetime import date
 
 from plain_tables import is_date, is_number
+from plain_zone import UTC, bases, read_zone
 
 RANGES = {
     "days": (1, 31),
@@ -15,11 +16,13 @@ RANGES = {
     "overrides": (0, 100_000),
     "workers": (1, 16),
 }
+# The options whose values are no numbers.
+TEXTS = ("from", "zone")
 USAGE = "usage: traind times FEED --from DATE or traind serve FEED --from DATE or traind gen N"
 
 
 def read_words(words):
-    """The command, its FEED or N, and the options by name, a date and numbers; or None where the words are others."""
+    """The command, its FEED or N, and the options by name, each with its value; or None where the words are others."""
     if not words or words[0] not in ("times", "serve", "gen"):
         return None
     given = parts(words[1:])
@@ -32,7 +35,16 @@ def read_words(words):
     elif "from" not in options:
         return None
     values = {option: value_of(option, text) for option, text in options.items()}
-    return None if None in values.values() else (words[0], main, values)
+    if None in values.values() or (words[0] != "gen" and not has_usual_days(values)):
+        return None
+    return words[0], main, values
+
+
+def has_usual_days(values):
+    """Whether no loaded day is too short or too long in the zone."""
+    zone = read_zone(values.get("zone", UTC))
+    _, odd_day = bases(zone, values["from"], values.get("days", 1))
+    return odd_day is None
 
 
 def parts(words):
@@ -47,7 +59,7 @@ def parts(words):
         else:
             option, equals, text = word.partition("=")
             option = option.removeprefix("--") if option.startswith("--") else None
-            if option in options or (option != "from" and option not in RANGES):
+            if option in options or option not in (*TEXTS, *RANGES):
                 return None
             if not equals:
                 if not rest or (rest[0].startswith("-") and rest[0] != "-"):
@@ -58,9 +70,11 @@ def parts(words):
 
 
 def value_of(option, text):
-    """The value of an option, or None where it is none."""
+    """The value of an option, which is a date, a zone text or a number; or None where it is none."""
     if option == "from":
         is_first = is_date(text) and 1900 <= int(text[:4]) <= 2100
         return date(int(text[:4]), int(text[4:6]), int(text[6:])) if is_first else None
+    if option == "zone":
+        return text if read_zone(text) else None
     least, most = RANGES[option]
     return int(text) if is_number(text, most) and int(text) >= least else None

@@ -11,6 +11,8 @@ ZONE = re.compile(f"{NAME}({OFFSET})(?:{NAME}({OFFSET})?,({CHANGE}),({CHANGE}))?
 HOUR = 3_600
 DAY = 86_400
 LEAST_DAY, LONGEST_DAY = 22 * HOUR, 26 * HOUR
+# A text of universal time, which is the zone where none is given.
+UTC = "UTC0"
 
 
 def read_zone(text):
