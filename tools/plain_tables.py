@@ -1,4 +1,4 @@
-"""The tables of a feed as docs/FORMATS.md has them, and the first fault of a feed that is refused.
+"""The tables of a feed as docs/FEEDS.md has them, and the first fault of a feed that is refused.
 
 Each table is taken apart into rows, and each value is checked in the order of that
 page. What is read is a Feed of tools/plain_feed.py. Only the limits of stops,
