@@ -6,7 +6,7 @@ use Rattle.mt_io.specs.Memory.{can_fail}
 use Rattle.commands.specs.Summaries.{IsOnlySummary, WritesSummary}
 use Rattle.command_words.specs.GenWords.{gen_asked_of}
 use Rattle.command_words.specs.declared.gen_words.AskedGen.{AskedGen}
-use Rattle.commands.proofs.tests.in_memory.generate_in_memory.Goals as goal
+use Rattle.command_tests.proofs.tests.in_memory.generate_in_memory.Goals as goal
 
 -- a front of the summary fits where the summary does
 summary-fits : (words : List (List ℕ)) (held written : List ℕ) (room : ℕ)

@@ -1,7 +1,7 @@
 use Rattle.std.proofs.Common.{◌≡◌, List, ℕ, [], ap, refl, inr}
 use Rattle.mt_io.specs.Causes.{CanFail, never, once_full}
 use Rattle.mt_io.specs.Memory.{can_fail}
-use Rattle.commands.proofs.tests.in_memory.run_in_memory.Goals as goal
+use Rattle.command_tests.proofs.tests.in_memory.run_in_memory.Goals as goal
 
 -- where no call is listed, an object fails only by itself
 by-itself : (calls : List ℕ) (can : CanFail) → calls ≡ [] → can_fail calls can ≡ can

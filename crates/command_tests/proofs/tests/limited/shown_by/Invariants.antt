@@ -1,5 +1,5 @@
 use Rattle.std.proofs.Common.{Some}
-use Rattle.commands.proofs.tests.limited.shown_by.Given as goal
+use Rattle.command_tests.proofs.tests.limited.shown_by.Given as goal
 
 -- the board that is opened
 abbrev pub ghosts-limited_text-H-History : goal.ghosts-limited_text-H-History

@@ -1,5 +1,5 @@
 use Rattle.std.proofs.Common.{◌≡◌}
-use Rattle.commands.proofs.tests.refused_memory.count_reached.Given as goal
+use Rattle.command_tests.proofs.tests.refused_memory.count_reached.Given as goal
 
 -- a query leaves the room of the scratch as it is
 abbrev pub invariant-loop-pair : goal.invariant-loop-pair
