@@ -1,6 +1,7 @@
 -- Words that give no option ask for the default options.
-use Rattle.std.specs.Prelude.{◌≡◌, List, [], ◌∷◌, None, Some, codes}
+use Rattle.std.specs.Prelude.{◌≡◌, List, [], ◌∷◌, Some, codes}
 use Rattle.clap.specs.Words.{Text}
+use Rattle.service_zones.specs.Zones.{utc}
 use Rattle.command_words.specs.declared.words.Command.{Command}
 use Rattle.command_words.specs.declared.words.Command.TheVariants.{Times, Serve}
 use Rattle.command_words.specs.GenWords.{default_options}
@@ -19,7 +20,7 @@ asked_by_default command = record {
   days = 1;
   opts = default_options;
   workers = 4;
-  zone = None;
+  zone = utc;
 }
 
 abbrev pub DefaultsAreAsked : Type 0

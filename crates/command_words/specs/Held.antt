@@ -1,9 +1,8 @@
 -- What the words ask for, as it is held.
-use Rattle.std.specs.Option.{option_map}
 use Rattle.command_words.specs.declared.words.Asked.{Asked as Held}
 use Rattle.command_words.specs.Words.{Asked}
 
--- the same, with the texts of the folder's name and of the zone
+-- the same, with the text of the folder's name
 abbrev pub asked_view : Held → Asked
 asked_view a = record {
   command = a.command;
@@ -12,5 +11,5 @@ asked_view a = record {
   days = a.days;
   opts = a.opts;
   workers = a.workers;
-  zone = option_map (λ text. text.now) a.zone;
+  zone = a.zone;
 }

@@ -1,13 +1,13 @@
 -- What the words after the program's name ask for.
-use Rattle.std.specs.Prelude.{ℕ, List, [], ◌∷◌, Bool, false, ◌&&◌, nat_le, if◌then◌else◌, Some, None, is_none, bytes_eq, codes, option_and_then}
-use Rattle.std.specs.Option.{option_map_or, unwrap_or}
+use Rattle.std.specs.Prelude.{ℕ, List, [], ◌∷◌, ◌&&◌, nat_le, if◌then◌else◌, Some, None, is_none, bytes_eq, codes, option_and_then}
+use Rattle.std.specs.Option.{option_map_or}
 use Rattle.std.specs.declared.option.Option.{Option}
 use Rattle.clap.specs.Words.{App, Row, Text, fault_of, first_of, matches_of}
 use Rattle.clap.specs.Walk.{is_empty}
 use Rattle.mt_base.specs.Texts.{date_of}
 use Rattle.gtfs_tables.specs.Fields.{number_of}
 use Rattle.mt_base.specs.declared.options.Opts.{Opts}
-use Rattle.service_zones.specs.Bases.{base_seconds, odd_day}
+use Rattle.service_zones.specs.Bases.{base_seconds, day_of_wrong_length}
 use Rattle.service_zones.specs.Zones.{ZoneRules, utc}
 use Rattle.service_zones.specs.ZoneTexts.{zone_of}
 use Rattle.command_words.specs.Commands.{command_app}
@@ -16,7 +16,7 @@ use Rattle.command_words.specs.declared.words.Command.TheVariants.{Times, Serve}
 
 -- the command, the folder of the feed, the first service day as the number YYYYMMDD, how many
 -- service days there are, the options of the timetable, how many workers answer queries, and the
--- zone text of the place, if one is given
+-- zone in which service days begin
 pub record Asked : Type 0 where
   pub command : Command
   pub folder : Text
@@ -24,7 +24,7 @@ pub record Asked : Type 0 where
   pub days : ℕ
   pub opts : Opts
   pub workers : ℕ
-  pub zone : Option Text
+  pub zone : ZoneRules
 
 infixl 10 ◌>>=◌
 -- the next step, where there is a value
@@ -63,22 +63,13 @@ options_of given =
       overrides = overrides;
     })
 
--- the zone of a zone text, if it is one; where none is given, that is universal time
+-- the zone of a zone text, if it is one; where no text is given, universal time
 abbrev pub zone_given : Option Text → Option ZoneRules
 zone_given text = option_map_or zone_of text (Some utc)
 
--- the same, and universal time for a text that is none
-abbrev pub zone_asked : Option Text → ZoneRules
-zone_asked text = unwrap_or (zone_given text) utc
-
--- if a text is given, it is a zone text, and of so many service days none is too short or too long
-abbrev pub has_bases : Option Text → ℕ → ℕ → Bool
-has_bases text first days =
-    option_map_or (λ zone. is_none (odd_day zone first days)) (zone_given text) false
-
 -- the bases of the service days that are asked for, in seconds from that of day 0
 abbrev pub asked_bases : Asked → List ℕ
-asked_bases a = base_seconds (zone_asked a.zone) a.first a.days
+asked_bases a = base_seconds a.zone a.first a.days
 
 -- the command of this name
 abbrev pub command_of : Text → Option Command
@@ -93,8 +84,8 @@ values_ask command given =
     number_within (codes "days") 1 31 given >>= λ days.
     options_of given >>= λ opts.
     number_within (codes "workers") 1 16 given >>= λ workers.
-    let zone = first_of (codes "zone") given in
-    if has_bases zone first days then Some (record {
+    zone_given (first_of (codes "zone") given) >>= λ zone.
+    if is_none (day_of_wrong_length zone first days) then Some (record {
       command = command;
       folder = folder;
       first = first;
@@ -105,7 +96,7 @@ values_ask command given =
     }) else None
 
 -- what these words ask of the command that clap reads as this app: clap reads them without a fault,
--- each value is well spelt and in its range, and the service days have bases
+-- each value is well spelt and in its range, and no service day is too short or too long in the zone
 abbrev pub command_asked : Command → App → List Text → Option Asked
 command_asked command app words = if is_empty (fault_of app words)
     then values_ask command (matches_of app words) else None

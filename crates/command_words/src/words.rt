@@ -6,8 +6,8 @@ ghost use Rattle.mt_base.specs.Civil.{IsCivil};
 ghost use Rattle.mt_base.specs.Options.{IsInRange};
 ghost use Rattle.command_words.specs.Commands.{command_app};
 ghost use Rattle.command_words.specs.Held.{asked_view};
-ghost use Rattle.service_zones.specs.Bases.{odd_day};
-ghost use Rattle.command_words.specs.Words.{asked_of, command_of, has_bases, values_ask, zone_asked, zone_given};
+ghost use Rattle.service_zones.specs.Bases.{day_of_wrong_length};
+ghost use Rattle.command_words.specs.Words.{asked_of, command_of, values_ask, zone_given};
 ghost use Rattle.command_words.specs.declared.words.WordsFault.TheVariants.{OutOfMemory};
 
 use crate::arguments::given_arguments;
@@ -49,40 +49,17 @@ pub struct Asked<'a> {
     /// How many workers answer queries: 1 to 16.
     pub workers: u32,
 
-    /// The zone text of the place where service days begin, if one is given.
-    pub zone: Option<&'a str>,
+    /// The zone in which service days begin.
+    pub zone: Zone,
 }
 
-impl Asked<'_> {
-    /// The zone in which service days begin: that of the text, or universal time where none is
-    /// given or it is no zone text.
-    pub fn zone(&self) -> Zone
-        ensures { result ≡ zone_asked (asked_view self.now).zone }
-    {
-        zone_given(self.zone).unwrap_or(Zone::utc())
-    }
-}
-
-/// The zone of a zone text, if it is one; where none is given, universal time.
+/// The zone of a zone text, if it is one; where no text is given, universal time.
 fn zone_given(text: Option<&str>) -> Option<Zone>
     ensures { result ≡ zone_given (option_map (λ t. t.now) text.entry) }
 {
     match text {
         Some(text) => Zone::read(text),
         None => Some(Zone::utc()),
-    }
-}
-
-/// Whether the text, if one is given, is a zone text, and no service day is too short or too long.
-fn has_bases(text: Option<&str>, first: u32, days: u32) -> bool
-    requires civil { IsCivil first }
-    requires year { first < 21010000 }
-    requires few_days { days ≤ 31 }
-    ensures { result ≡ has_bases (option_map (λ t. t.now) text.entry) first days }
-{
-    match zone_given(text) {
-        Some(zone) => !zone.has_odd_day(first, days),
-        None => false,
     }
 }
 
@@ -140,8 +117,7 @@ fn values_ask<'a>(command: Command, given: &ArgMatches<'a>) -> Option<Asked<'a>>
     ensures days { IfSome result (λ a. (1 ≤ a.days) × (a.days ≤ 31)) }
     ensures options { IfSome result (λ a. IsInRange a.opts) }
     ensures workers { IfSome result (λ a. (1 ≤ a.workers) × (a.workers ≤ 16)) }
-    ensures even { IfSome result (λ a.
-        odd_day (zone_asked (asked_view a).zone) a.first a.days ≡ None) }
+    ensures lengths { IfSome result (λ a. day_of_wrong_length a.zone a.first a.days ≡ None) }
 {
     let asked = Asked {
         command,
@@ -150,13 +126,12 @@ fn values_ask<'a>(command: Command, given: &ArgMatches<'a>) -> Option<Asked<'a>>
         days: number_within(given, "days", 1, 31)?,
         opts: options(given)?,
         workers: number_within(given, "workers", 1, 16)?,
-        zone: value(given, "zone"),
+        zone: zone_given(value(given, "zone"))?,
     };
-    if has_bases(asked.zone, asked.first, asked.days) {
-        Some(asked)
-    } else {
-        None
+    if asked.zone.has_day_of_wrong_length(asked.first, asked.days) {
+        return None;
     }
+    Some(asked)
 }
 
 /// What the words after the program's name ask for, of which the first is the command. `Usage` only
@@ -176,8 +151,7 @@ pub fn read_words<'a>(alloc: Global, words: &'a [String]) -> Result<Asked<'a>, W
     ensures workers { IfOk result (λ a. (1 ≤ a.workers) × (a.workers ≤ 16)) }
 
     // no service day is too short or too long
-    ensures even { IfOk result (λ a.
-        odd_day (zone_asked (asked_view a).zone) a.first a.days ≡ None) }
+    ensures lengths { IfOk result (λ a. day_of_wrong_length a.zone a.first a.days ≡ None) }
 {
     let name = words.first().ok_or(WordsFault::Usage)?.as_str();
     let command = command_of(name).ok_or(WordsFault::Usage)?;

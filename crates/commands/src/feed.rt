@@ -2,7 +2,6 @@
 
 ghost use Rattle.std.specs.Prelude.{◌≡◌, ◌<◌, ◌≤◌, None, Ok, Some, IfOk, IsErrOf};
 ghost use Rattle.command_words.specs.Held.{asked_view};
-ghost use Rattle.command_words.specs.Words.{zone_asked};
 ghost use Rattle.feed_load.specs.Loaded.{loaded};
 ghost use Rattle.gtfs_tables.specs.Feeds.{Files, contents_of, tables_of};
 ghost use Rattle.gtfs_tables.specs.Refusals.{Gives};
@@ -13,7 +12,7 @@ ghost use Rattle.mt_io.specs.Causes.{counted};
 ghost use Rattle.mt_base.specs.declared.tables.Tables.{Tables as ATables};
 ghost use Rattle.schedule_build.specs.Bases.{AreBases};
 ghost use Rattle.schedule_build.specs.InStep.{AreInStep};
-ghost use Rattle.service_zones.specs.Bases.{base_seconds, odd_day};
+ghost use Rattle.service_zones.specs.Bases.{base_seconds, day_of_wrong_length};
 ghost use Rattle.commands.specs.Feeds.{network, tables_in, asked_in};
 
 use command_words::Asked;
@@ -49,7 +48,7 @@ fn bases(alloc: Global, zone: &Zone, first: u32, days: u32) -> Result<Rows<Time>
     requires civil { IsCivil first }
     requires year { first < 21010000 }
     requires few_days { days ≤ 31 }
-    requires even { odd_day zone.now first days ≡ None }
+    requires lengths { day_of_wrong_length zone.now first days ≡ None }
     ensures bases { IfOk result (λ found. found ≡ base_seconds zone.now first days) }
     ensures steps { IfOk result (AreBases days) }
 {
@@ -61,7 +60,7 @@ fn bases(alloc: Global, zone: &Zone, first: u32, days: u32) -> Result<Rows<Time>
 }
 
 /// The timetable of so many service days from the date `first` on that the feed in a folder holds,
-/// with its names. The days begin as they do in a zone, where none of them is too short or too long.
+/// with its names. The days begin as they do in a zone where none of them is too short or too long.
 pub fn load_timetable<F: Feed>(
     alloc: Global,
     folder: &str,
@@ -78,7 +77,7 @@ pub fn load_timetable<F: Feed>(
     requires options { IsInRange opts.now }
 
     // no service day is too short or too long
-    requires even { odd_day zone.now first days ≡ None }
+    requires lengths { day_of_wrong_length zone.now first days ≡ None }
 
     // the timetable that the feed holds, or why it is refused
     ensures exact { (told : Files) → F.tables feed.old ≡ Some told
@@ -125,8 +124,7 @@ pub(crate) fn load_service<F: Feed>(
     requires year { asked.now.first < 21010000 }
     requires days { (1 ≤ asked.now.days) × (asked.now.days ≤ 31) }
     requires options { IsInRange asked.now.opts }
-    requires even { odd_day (zone_asked (asked_view asked.now).zone) asked.now.first asked.now.days
-        ≡ None }
+    requires lengths { day_of_wrong_length asked.now.zone asked.now.first asked.now.days ≡ None }
 
     // the timetable that the feed holds, or why it is refused
     ensures exact { (told : Files) → F.tables feed.old ≡ Some told
@@ -147,7 +145,7 @@ pub(crate) fn load_service<F: Feed>(
         asked.folder,
         asked.first,
         asked.days,
-        &asked.zone(),
+        &asked.zone,
         &asked.opts,
         feed,
     )?;

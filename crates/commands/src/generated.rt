@@ -40,7 +40,8 @@ fn summary<R: Threads + Wait + Sync, G: Gate + Sync>(
 {
     let mut feed = GenFeed::build(alloc, asked.trains);
     let mut lines = GenLines::build(alloc, asked.trains)?;
-    let (zone, opts) = (Zone::utc(), default_options());
+    let zone = Zone::utc();
+    let opts = default_options();
     let loaded = load_timetable(alloc, "", SERVICE_DAY, 1, &zone, &opts, &mut feed)?;
     let count = loaded.timetable.graph().trains().count();
     let sums = sum_windows::<Brand, R, GenLines, G>(

@@ -69,7 +69,7 @@ fn serve_words<R: Threads + Wait + Sync, F: Feed, S: Source, K: Sink, G: Gate + 
         asked.folder,
         asked.first,
         asked.days,
-        &asked.zone(),
+        &asked.zone,
         &asked.opts,
         feed,
     )?;

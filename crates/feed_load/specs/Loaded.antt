@@ -28,8 +28,8 @@ abbrev pub unless_too_many : Option What → Timetable → Result Timetable Feed
 unless_too_many None timetable = Ok timetable
 unless_too_many (Some what) timetable = Err (TooMany what)
 
--- the timetable of so many days from the date `first` on, which have these bases, from the tables of
--- a feed
+-- the timetable of so many days from the date `first` on, which have these bases, from the tables
+-- of a feed
 abbrev pub days_loaded : Tables → ℕ → ℕ → List ℕ → Opts → Result Timetable FeedRefusal
 days_loaded t first days bases o = unless_too_many (too_many t.calls (all_runs t first days bases))
     (schedule t first days bases o, names_of t first days bases o)

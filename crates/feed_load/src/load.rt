@@ -75,8 +75,8 @@ fn load_changes(alloc: Global, t: &FeedTables, default: u32) -> Result<Changes, 
     }
 }
 
-/// The trains of so many service days from the date `first` on, which have these bases, call at stops
-/// and platforms alone.
+/// The trains of so many service days from the date `first` on, which have these bases, call at
+/// stops and platforms alone.
 fn schedules_call_at_stops(t: &FeedTables, first: u32, days: u32, opts: &Opts, bases: &Rows<Time>)
     ensures { AreAtStops t.now.stops (schedule t.now first days bases.now opts.now) }
 {
@@ -167,12 +167,11 @@ fn load_tables(
 }
 
 /// What the feed in a folder makes on so many days from `first` on, a date as the number YYYYMMDD
-/// of a year up to 2100. The base of each day is given, in seconds from that of day 0. There is room
-/// for what the options spare. `Refused` has the first cause to
-/// refuse the feed: a fault of its tables; more than 4,000,000 pairs of a stop or station and a
-/// stop with a change from the first to the second; more than 200,000 trains; or more than
-/// 2,000,000 nodes, two for each call. `ReadFault` comes only where the feed failed. `OutOfMemory`
-/// where there is no memory.
+/// of a year up to 2100. The base of each day is given, in seconds from that of day 0. There is
+/// room for what the options spare. `Refused` has the first cause to refuse the feed: a fault of its
+/// tables; more than 4,000,000 pairs of a stop or station and a stop with a change from the first
+/// to the second; more than 200,000 trains; or more than 2,000,000 nodes, two for each call.
+/// `ReadFault` comes only where the feed failed. `OutOfMemory` where there is no memory.
 pub fn load_feed<F: Feed>(
     alloc: Global,
     feed: &mut F,

@@ -54,7 +54,11 @@ node_named names dep r = do
 unfoldable pub new_call : Names → ℕ → WireCall → Result NewCall Refusal
 new_call names day call = do
   stop ← need refusals.Unknown (stop_named names call.stop)
-  Ok (record { stop = stop; arr = base_of names day + call.arr; dep = base_of names day + call.dep })
+  Ok (record {
+    stop = stop;
+    arr = base_of names day + call.arr;
+    dep = base_of names day + call.dep;
+  })
 
 -- new calls of a train on a service day
 unfoldable pub new_calls : Names → ℕ → List WireCall → Result (List NewCall) Refusal
@@ -84,7 +88,8 @@ unfoldable pub correct_resolved : Names → List ℕ → ℕ → ℕ → Bool �
     → Result Message Refusal
 correct_resolved names trip date call dep secs = do
   found ← train_on names trip date
-  Ok (messages.Correct (event_on found call dep) (option_map (λ s. base_of names found.day + s) secs))
+  Ok (messages.Correct (event_on found call dep)
+      (option_map (λ s. base_of names found.day + s) secs))
 
 -- a withdrawn forecast
 unfoldable pub withdraw_resolved : Names → List ℕ → ℕ → ℕ → Bool → Result Message Refusal

@@ -1,5 +1,5 @@
--- The bases of the loaded service days. GTFS Schedule measures times from noon minus 12 hours of the
--- service day: from the base of that day. Bases are counted in seconds from the base of day 0.
+-- The bases of the loaded service days. GTFS Schedule measures times from noon minus 12 hours of
+-- the service day: from the base of that day. Bases are counted in seconds from the base of day 0.
 use Rattle.std.specs.Prelude.{◌≡◌, ℕ, suc, ◌+◌, ◌<◌, ◌≤◌, List, length, slice_index_or}
 
 -- the base of a service day, or that of day 0 where the day is not loaded

@@ -52,8 +52,8 @@ place_named names id = number_from 0 (λ (p : Place). bytes_eq p.id id) names.pl
 unfoldable pub route_named : Names → List ℕ → Option ℕ
 route_named names id = number_from 0 (λ r. bytes_eq r id) names.routes
 
--- ---- from numbers to names. A number that is not there has the empty name, the date 0, the base 0,
--- day 0 and type 0
+-- ---- from numbers to names. A number that is not there has the empty name, the date 0, the base
+-- 0, day 0 and type 0
 
 -- the date of a service day, as the number YYYYMMDD
 abbrev pub date_of_day : Names → ℕ → ℕ

@@ -15,8 +15,8 @@ seen a =
       spare_trains = a.extras.spare;
     }
 
--- there are at most 31 days, of which no base is later than 30 days of 26 hours after that of day 0;
--- and each train has a number of 32 bits, also those that are spare
+-- there are at most 31 days, and no base is later than 30 days of 26 hours after that of day 0; and
+-- each train has a number of 32 bits, also those that are spare
 pub record IsStored (a : Inside) : Type 0 where
   pub days : length a.days.items ≤ 31
   pub bases : All (λ (d : ServiceDay). d.base ≤ 2808000) a.days.items

@@ -49,7 +49,7 @@ impl Directory {
         trains: TrainNames,
         extras: ExtraTrains,
     ) -> Directory
-        // at most 31 days, none of them 30 days of 26 hours after day 0, and 200,000 trains
+        // at most 31 days, none later than 30 days of 26 hours after day 0, and 200,000 trains
         requires days { length days.items ≤ 31 }
         requires bases { All (λ (d : ADay). d.base ≤ 2808000) days.items }
         requires few { length trains ≤ 200000 }
@@ -109,7 +109,8 @@ impl Directory {
     #[tactic(auto, unfolding(crate::specs::Directory::day_named))]
     pub fn day(&self, date: u32) -> Option<Day>
         ensures number { result ≡ day_named self.now date }
-        ensures there { IfSome result (λ d. d < 31) }
+        ensures there { IfSome result (λ d. d < length self.now.days) }
+        ensures few { IfSome result (λ d. d < 31) }
     {
         for day in 0..self.days.len() {
             if self.days[day].date == date {

@@ -27,6 +27,6 @@ pub use extra_name::ExtraName;
 pub use faults::ExpandFault;
 pub use in_step::messages_keep_names_in_step;
 pub use schedule::expand;
-pub use service_day::ServiceDay;
+pub use service_day::{ServiceDay, days_have_the_bases_that_are_given};
 pub use services::active;
 pub use valid::schedules_are_valid;

@@ -93,8 +93,9 @@ fn sorted(alloc: Global, rows: &[CallRow]) -> Result<Vec<CallRow>, OutOfMemory>
 }
 
 /// The calls of a trip on a service day with this base, from the trip's rows of `stop_times.txt` in
-/// any order: those with a time, by `stop_sequence`. Their times are in seconds from the base of day
-/// 0, as the base is, which is at most 30 days of 26 hours. `OutOfMemory` where there is no memory.
+/// any order: those with a time, by `stop_sequence`. Their times are in seconds from the base of
+/// day 0, as the base is, which is at most 30 days of 26 hours. `OutOfMemory` where there is no
+/// memory.
 pub fn trip_calls(
     alloc: Global,
     base: Time,

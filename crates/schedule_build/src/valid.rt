@@ -15,10 +15,9 @@ use mt_base::options::Opts;
 use mt_base::rows::Rows;
 
 /// The trains of so many service days from the date `first` on, which have these bases, are a valid
-/// state, whatever the
-/// stops, the change times and the waiting rules: along each train the times do not fall, and a
-/// planned connection leads to a later departure. No event is reported. Where there are not too
-/// many trains and events, their numbers leave room for what the options spare.
+/// state, whatever the stops, the change times and the waiting rules: along each train the times do
+/// not fall, and a planned connection leads to a later departure. No event is reported. Where there
+/// are not too many trains and events, their numbers leave room for what the options spare.
 pub fn schedules_are_valid(t: &FeedTables, first: u32, days: u32, opts: &Opts, bases: &Rows<Time>)
     requires few_days { days ≤ 31 }
     requires bases { AreBases days bases.now }

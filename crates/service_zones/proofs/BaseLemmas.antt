@@ -12,7 +12,7 @@ use Rattle.schedule_build.specs.Dates.{date_after}
 use Rattle.service_zones.specs.Zones.{ZoneRules}
 use Rattle.schedule_build.proofs.BaseLemmas.{past}
 use Rattle.schedule_build.specs.Bases.{AreBases, base_at}
-use Rattle.service_zones.specs.Bases.{west, base, bases, is_odd_day, odd_day}
+use Rattle.service_zones.specs.Bases.{west, base, bases, base_seconds, is_of_wrong_length, day_of_wrong_length}
 
 -- where none is found, none passes the test
 none-found : (test : ℕ → Bool) (n first : ℕ) → find test (range_with_len first n) ≡ None → (k : ℕ) → first ≤ k → k < first + n → test k ≡ false
@@ -36,12 +36,12 @@ even-step before after even = elim (cases_Bool (int_lt (after -ℤ before) (pos 
 pub one-more : (f : ℕ → ℤ) (found : List ℕ) (day n : ℕ) → map pos found ≡ map f (range_with_len 0 day) → pos n ≡ f day → map pos (found ++ n ∷ []) ≡ map f (range_with_len 0 (day + 1))
 one-more f found day n so_far now = rw (map-append pos found (n ∷ []), so_far, now) (sym (map-range_with_len_more f 0 day day (omega arith)))
 
-module _ (zone : ZoneRules) (first days : ℕ) (even : odd_day zone first days ≡ None) where
+module _ (zone : ZoneRules) (first days : ℕ) (even : day_of_wrong_length zone first days ≡ None) where
   -- a base lies 22 to 26 hours after the one of the day before
   pub step : (day : ℕ) → suc day < days → IsBetween (base zone first day +ℤ pos 79200) (base zone first day +ℤ pos 93600) (base zone first (suc day))
   step day within =
       let back : suc day - 1 ≡ day = omega arith in
-      let small = rw back at (none-found (is_odd_day zone first) (days - 1) 1 even (suc day) (omega arith) (omega arith)) in
+      let small = rw back at (none-found (is_of_wrong_length zone first) (days - 1) 1 even (suc day) (omega arith) (omega arith)) in
       even-step (base zone first day) (base zone first (suc day)) small
 
   -- so it is at least 22 hours a day, and at most 26
@@ -76,3 +76,15 @@ seconds-are found all same = rw (← same) (back found)
     back : (xs : List ℕ) → xs ≡ map nat_abs (map pos xs)
     back [] = refl
     back (x ∷ xs) = ap (λ ys. x ∷ ys) (back xs)
+
+-- whole numbers from 0 on are what they are as natural numbers
+nats-back : (f : ℕ → ℤ) (at n : ℕ) → ((day : ℕ) → day < at + n → pos 0 ≤ℤ f day) → map pos (map nat_abs (map f (range_with_len at n))) ≡ map f (range_with_len at n)
+nats-back f at zero h = refl
+nats-back f at (suc n) h =
+    let low = h at (omega arith) in
+    let one : pos (nat_abs (f at)) ≡ f at = omega (arith, ints, low) in
+    rw (one, nats-back f (at + 1) n (λ day l. h day (omega arith))) refl
+
+pub seconds-back : (zone : ZoneRules) (first days : ℕ) → day_of_wrong_length zone first days ≡ None → map pos (base_seconds zone first days) ≡ bases zone first days
+seconds-back zone first days none =
+    nats-back (base zone first) 0 days (λ day l. let low = between zone first days none day (omega arith) in omega (arith, ints, low.0))

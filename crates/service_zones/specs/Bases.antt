@@ -30,11 +30,11 @@ base_seconds zone first days = map nat_abs (bases zone first days)
 
 -- the base of the day is less than 79,200 or more than 93,600 seconds after that of the day before:
 -- less than 22 or more than 26 hours
-abbrev pub is_odd_day : ZoneRules → ℕ → ℕ → Bool
-is_odd_day zone first day =
+abbrev pub is_of_wrong_length : ZoneRules → ℕ → ℕ → Bool
+is_of_wrong_length zone first day =
     let step = base zone first day -ℤ base zone first (day - 1) in
     int_lt step (pos 79200) || int_lt (pos 93600) step
 
 -- the first such day, of so many
-abbrev pub odd_day : ZoneRules → ℕ → ℕ → Option ℕ
-odd_day zone first days = find (is_odd_day zone first) (range_with_len 1 (days - 1))
+abbrev pub day_of_wrong_length : ZoneRules → ℕ → ℕ → Option ℕ
+day_of_wrong_length zone first days = find (is_of_wrong_length zone first) (range_with_len 1 (days - 1))

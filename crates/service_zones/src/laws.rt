@@ -1,8 +1,8 @@
 //! Laws of zones.
 
-ghost use Rattle.std.specs.Prelude.{◌≡◌, ℕ, ◌*◌, true, pos, None, ◌↔◌};
+ghost use Rattle.std.specs.Prelude.{◌≡◌, ℕ, ◌*◌, true, pos, None, map, ◌↔◌};
 ghost use Rattle.service_zones.specs.Changes.{is_summer, HasLastStart};
-ghost use Rattle.service_zones.specs.Bases.{base};
+ghost use Rattle.service_zones.specs.Bases.{base, base_seconds, bases, day_of_wrong_length};
 
 use crate::changes::SummerTime;
 use crate::zone::Zone;
@@ -17,6 +17,13 @@ pub fn the_last_change_decides(summer: &SummerTime, date: u32)
 /// In a zone without summer time the bases of service days are those of universal time, 86,400
 /// seconds apart. The call does nothing.
 #[tactic(auto, unfolding(crate::specs::Bases::west))]
-pub fn days_are_even_without_summer_time(zone: &Zone, first: u32)
+pub fn days_are_equal_without_summer_time(zone: &Zone, first: u32)
     ensures { zone.now.summer ≡ None → (day : ℕ) → base zone.now first day ≡ pos (86400 * day) }
+{}
+
+/// Where no service day is too short or too long, no base lies before that of day 0: the bases as
+/// numbers of seconds are the bases. The call does nothing.
+pub fn no_base_is_before_the_first(zone: &Zone, first: u32)
+    ensures { (days : ℕ) → day_of_wrong_length zone.now first days ≡ None
+        → map pos (base_seconds zone.now first days) ≡ bases zone.now first days }
 {}

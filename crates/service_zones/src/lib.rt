@@ -10,5 +10,7 @@ pub mod zone;
 
 pub use changes::{Change, SummerTime};
 pub use faults::BaseFault;
-pub use laws::{days_are_even_without_summer_time, the_last_change_decides};
+pub use laws::{
+    days_are_equal_without_summer_time, no_base_is_before_the_first, the_last_change_decides,
+};
 pub use zone::Zone;

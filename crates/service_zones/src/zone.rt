@@ -6,7 +6,7 @@ ghost use Rattle.mt_base.specs.Civil.{IsCivil};
 ghost use Rattle.service_zones.specs.ZoneTexts.{zone_of};
 ghost use Rattle.service_zones.specs.Zones.{utc, AreInRange};
 ghost use Rattle.schedule_build.specs.Bases.{AreBases};
-ghost use Rattle.service_zones.specs.Bases.{west, base, bases, base_seconds, is_odd_day, odd_day};
+ghost use Rattle.service_zones.specs.Bases.{west, base, bases, base_seconds, is_of_wrong_length, day_of_wrong_length};
 ghost use Rattle.service_zones.specs.Faults.{IsBaseFault};
 
 use crate::changes::SummerTime;
@@ -98,35 +98,35 @@ impl Zone {
         86_400 * day as i32 + self.west(date_after(first, day)) - self.west(first)
     }
 
-    fn is_odd_day(&self, first: u32, day: u32) -> bool
+    fn is_of_wrong_length(&self, first: u32, day: u32) -> bool
         requires civil { IsCivil first }
         requires year { first < 21010000 }
         requires few { day ≤ 31 }
         requires second { 0 < day }
-        ensures { result ≡ is_odd_day self.now first day }
+        ensures { result ≡ is_of_wrong_length self.now first day }
     {
         let step = self.base(first, day) - self.base(first, day - 1);
         step < 79_200 || step > 93_600
     }
 
-    fn odd_day(&self, first: u32, days: u32) -> Option<u32>
+    fn day_of_wrong_length(&self, first: u32, days: u32) -> Option<u32>
         requires civil { IsCivil first }
         requires year { first < 21010000 }
         requires few { days ≤ 31 }
-        ensures { result ≡ odd_day self.now first days }
+        ensures { result ≡ day_of_wrong_length self.now first days }
     {
-        (1..days).find(|day| self.is_odd_day(first, *day))
+        (1..days).find(|day| self.is_of_wrong_length(first, *day))
     }
 
     /// Whether a service day, of so many, begins less than 22 or more than 26 hours after the one
     /// before, so that there are no bases.
-    pub fn has_odd_day(&self, first: u32, days: u32) -> bool
+    pub fn has_day_of_wrong_length(&self, first: u32, days: u32) -> bool
         requires civil { IsCivil first }
         requires year { first < 21010000 }
         requires few_days { days ≤ 31 }
-        ensures { result ≡ is_some (odd_day self.now first days) }
+        ensures { result ≡ is_some (day_of_wrong_length self.now first days) }
     {
-        self.odd_day(first, days).is_some()
+        self.day_of_wrong_length(first, days).is_some()
     }
 
     /// The bases of so many service days, in seconds from the base of day 0. GTFS Schedule measures
@@ -143,10 +143,10 @@ impl Zone {
         ensures bases { IfOk result (λ found. map pos found ≡ bases self.now first days) }
         ensures seconds { IfOk result (λ found. found ≡ base_seconds self.now first days) }
         ensures steps { IfOk result (AreBases days) }
-        ensures even { OnOk result (odd_day self.now first days ≡ None) }
-        ensures fault { IfErr result (IsBaseFault (odd_day self.now first days)) }
+        ensures lengths { OnOk result (day_of_wrong_length self.now first days ≡ None) }
+        ensures fault { IfErr result (IsBaseFault (day_of_wrong_length self.now first days)) }
     {
-        if let Some(day) = self.odd_day(first, days) {
+        if let Some(day) = self.day_of_wrong_length(first, days) {
             return Err(BaseFault::DayLength { day: Day::new(day) });
         }
         let mut bases = Vec::with_capacity(alloc, days as usize)?;

@@ -82,7 +82,7 @@ fn shown_by<R: Threads + Wait + Sync>(
         asked.folder,
         asked.first,
         asked.days,
-        &asked.zone(),
+        &asked.zone,
         &asked.opts,
         &mut feed,
     )?;

@@ -31,7 +31,7 @@ fn feed_timetable(alloc: Global) -> Result<Timetable, Fail> {
         asked.folder,
         asked.first,
         asked.days,
-        &asked.zone(),
+        &asked.zone,
         &asked.opts,
         &mut feed,
     )?;

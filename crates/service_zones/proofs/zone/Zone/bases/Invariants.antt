@@ -1,6 +1,6 @@
 use Rattle.std.proofs.Common.{◌≡◌, pos, map, None}
 use Rattle.std.specs.List.{range_with_len}
-use Rattle.service_zones.specs.Bases.{base, odd_day}
+use Rattle.service_zones.specs.Bases.{base, day_of_wrong_length}
 use Rattle.service_zones.proofs.zone.Zone.bases.Given as goal
 
 -- the bases of the days so far
