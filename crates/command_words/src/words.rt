@@ -156,5 +156,8 @@ pub fn read_words<'a>(alloc: Global, words: &'a [String]) -> Result<Asked<'a>, W
     let name = words.first().ok_or(WordsFault::Usage)?.as_str();
     let command = command_of(name).ok_or(WordsFault::Usage)?;
     let given = command_matches(alloc, name, words)?;
-    values_ask(command, &given).ok_or(WordsFault::Usage)
+    match values_ask(command, &given) {
+        Some(asked) => Ok(asked),
+        None => Err(WordsFault::Usage),
+    }
 }

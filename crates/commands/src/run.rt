@@ -38,7 +38,10 @@ fn times_words<F: Feed, S: Source, K: Sink>(
         (stream_seen K.written K.faults out.old out.new)
         feed.old feed.new input.old input.new out.old out.new result }
 {
-    let asked = read_words(alloc, words)?;
+    let asked = match read_words(alloc, words) {
+        Ok(asked) => asked,
+        Err(fault) => return Err(Fault::from(fault)),
+    };
     let mut service = load_service(alloc, &asked, feed)?;
     write_output(alloc, &mut service, input, out, budget)?;
     Ok(())
@@ -63,7 +66,10 @@ fn serve_words<R: Threads + Wait + Sync, F: Feed, S: Source, K: Sink, G: Gate + 
         (stream_seen K.written K.faults out.old out.new)
         feed.old feed.new input.old input.new out.old out.new result }
 {
-    let asked = read_words(alloc, words)?;
+    let asked = match read_words(alloc, words) {
+        Ok(asked) => asked,
+        Err(fault) => return Err(Fault::from(fault)),
+    };
     let loaded = load_timetable(
         alloc,
         asked.folder,

@@ -75,7 +75,10 @@ fn shown_by<R: Threads + Wait + Sync>(
     text: &[u8],
 ) -> Result<Vec<u8>, Fail> {
     let words = words_of(alloc, "serve feed --from 20260105 --slack 0 --workers 4")?;
-    let asked = read_words(alloc, &words)?;
+    let asked = match read_words(alloc, &words) {
+        Ok(asked) => asked,
+        Err(fault) => return Err(Fail::from(fault)),
+    };
     let mut feed = feed_of(alloc, &WITH_RULES, None)?;
     let loaded = load_timetable(
         alloc,

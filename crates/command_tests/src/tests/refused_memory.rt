@@ -24,7 +24,10 @@ const PLACES: u32 = 6;
 /// The timetable of the feed, by the options that the program has without further words.
 fn feed_timetable(alloc: Global) -> Result<Timetable, Fail> {
     let words = words_of(alloc, CASE.words)?;
-    let asked = read_words(alloc, &words)?;
+    let asked = match read_words(alloc, &words) {
+        Ok(asked) => asked,
+        Err(fault) => return Err(Fail::from(fault)),
+    };
     let mut feed = feed_of(alloc, &TABLES, None)?;
     let loaded = load_timetable(
         alloc,
