@@ -1,28 +1,36 @@
 -- Which command words ask for.
-use Rattle.std.proofs.Common.{◌≡◌, ◌∙◌, ◌≤◌, ◌<◌, length, get_or, map, subst, ℕ, List, [], ◌∷◌, Option, Some, None, Bool, true, false, if◌then◌else◌, bytes_eq, codes, ap, sym, refl, arith}
+use Rattle.std.proofs.Common.{◌≡◌, ◌∙◌, ◌≤◌, ◌<◌, length, get_or, map, subst, ℕ, List, [], ◌∷◌, Option, Some, None, Bool, true, false, if◌then◌else◌, is_none, bytes_eq, codes, ap, sym, refl, arith}
 use Rattle.std.proofs.lemmas.Option.{same_Some}
 use Rattle.clap.specs.Words.{Row, fault_of, first_of, matches_of}
 use Rattle.clap.specs.Walk.{is_empty}
 use Rattle.command_words.specs.declared.words.Command.{Command}
 use Rattle.command_words.specs.declared.words.Command.TheVariants.{Times, Serve}
 use Rattle.command_words.specs.Commands.{command_app}
-use Rattle.command_words.specs.Words.{◌>>=◌, Asked, asked_of, command_asked, command_of, first_date, number_within, options_of, values_ask}
+use Rattle.command_words.specs.Words.{◌>>=◌, Asked, asked_of, command_asked, command_of, first_date, number_within, options_of, values_ask, zone_given}
+use Rattle.service_zones.specs.Bases.{day_of_wrong_length}
 use Rattle.commands.specs.Runs.{AskFor}
 
--- a chain that ends in one record
-chained : {A B C D E : Type 0} (x : Option A) (y : Option B) (z : Option C) (u : Option D) (v : Option E) (make : A → B → C → D → E → Asked) (command : Command) (r : Asked) → ((a : A) (b : B) (c : C) (d : D) (e : E) → (make a b c d e).command ≡ command)
-    → (x >>= λ a. y >>= λ b. z >>= λ c. u >>= λ d. v >>= λ e. Some (make a b c d e)) ≡ Some r → r.command ≡ command
-chained (Some a) (Some b) (Some c) (Some d) (Some e) make command r h is = sym (ap (λ (q : Asked). q.command) (same_Some _ r is)) ∙ h a b c d e
-chained None y z u v make command r h is = absurd cc
-chained (Some a) None z u v make command r h is = absurd cc
-chained (Some a) (Some b) None u v make command r h is = absurd cc
-chained (Some a) (Some b) (Some c) None v make command r h is = absurd cc
-chained (Some a) (Some b) (Some c) (Some d) None make command r h is = absurd cc
+-- a chain that ends in a record, or in none
+chained : {A B C D E F : Type 0} (x : Option A) (y : Option B) (z : Option C) (u : Option D) (v : Option E) (w : Option F) (make : A → B → C → D → E → F → Option Asked) (command : Command) (r : Asked)
+    → ((a : A) (b : B) (c : C) (d : D) (e : E) (f : F) → make a b c d e f ≡ Some r → r.command ≡ command)
+    → (x >>= λ a. y >>= λ b. z >>= λ c. u >>= λ d. v >>= λ e. w >>= λ f. make a b c d e f) ≡ Some r → r.command ≡ command
+chained (Some a) (Some b) (Some c) (Some d) (Some e) (Some f) make command r h is = h a b c d e f is
+chained None y z u v w make command r h is = absurd cc
+chained (Some a) None z u v w make command r h is = absurd cc
+chained (Some a) (Some b) None u v w make command r h is = absurd cc
+chained (Some a) (Some b) (Some c) None v w make command r h is = absurd cc
+chained (Some a) (Some b) (Some c) (Some d) None w make command r h is = absurd cc
+chained (Some a) (Some b) (Some c) (Some d) (Some e) None make command r h is = absurd cc
+
+made : (well : Bool) (q r : Asked) → (if well then Some q else None) ≡ Some r → q ≡ r
+made true q r is = same_Some q r is
+made false q r is = absurd cc
 
 values-command : (command : Command) (given : List Row) (a : Asked) → values_ask command given ≡ Some a → a.command ≡ command
 values-command command given a e =
-    chained (first_of (codes "feed") given) (first_date given) (number_within (codes "days") 1 31 given) (options_of given) (number_within (codes "workers") 1 16 given)
-    (λ folder first days opts workers. record { command = command; folder = folder; first = first; days = days; opts = opts; workers = workers }) command a (λ f d n o w. refl) e
+    chained (first_of (codes "feed") given) (first_date given) (number_within (codes "days") 1 31 given) (options_of given) (number_within (codes "workers") 1 16 given) (zone_given (first_of (codes "zone") given))
+    (λ folder first days opts workers zone. if is_none (day_of_wrong_length zone first days) then Some (record { command = command; folder = folder; first = first; days = days; opts = opts; workers = workers; zone = zone }) else None) command a
+    (λ f d n o w z is. sym (ap (λ (q : Asked). q.command) (made (is_none (day_of_wrong_length z d n)) _ a is))) e
 
 bound : (x : Option Command) (f : Command → Option Asked) (a : Asked) → (x >>= f) ≡ Some a → (c : Command) × (x ≡ Some c) × (f c ≡ Some a)
 bound None f a e = absurd cc

@@ -26,7 +26,7 @@ use mt_base::rows::Rows;
 use mt_io::Feed;
 use schedule_build::Directory;
 use service_zones::{BaseFault, Zone};
-use std::alloc::Global;
+use std::alloc::{AllocError, Global};
 use timetable::Timetable;
 
 /// A timetable that was loaded, with its names.
@@ -54,9 +54,59 @@ fn bases(alloc: Global, zone: &Zone, first: u32, days: u32) -> Result<Rows<Time>
 {
     match zone.bases(alloc, first, days) {
         Ok(bases) => Ok(bases),
-        Err(BaseFault::OutOfMemory) => Err(OutOfMemory),
+        Err(BaseFault::OutOfMemory) => Err(AllocError),
         Err(BaseFault::DayLength { .. }) => unreachable!(),
     }
+}
+
+/// The timetable of so many service days from the date `first` on, which have these bases, that the
+/// feed in a folder holds, with its names.
+fn load_with_bases<F: Feed>(
+    alloc: Global,
+    folder: &str,
+    first: u32,
+    days: u32,
+    bases: &Rows<Time>,
+    opts: &Opts,
+    feed: &mut F,
+) -> Result<LoadedTimetable, FeedError>
+    // a date, and numbers in their ranges
+    requires civil { IsCivil first }
+    requires year { first < 21010000 }
+    requires days { (1 ≤ days) × (days ≤ 31) }
+    requires options { IsInRange opts.now }
+    requires bases { AreBases days bases.now }
+
+    // the timetable that the feed holds, or why it is refused
+    ensures exact { (told : Files) → F.tables feed.old ≡ Some told
+        → Gives (λ l. (l.timetable.state, l.directory)) result
+        (loaded (contents_of told folder.now) first days bases.now opts.now) }
+    ensures network { IfOk result (λ l. (told : Files) (rows : ATables) → F.tables feed.old
+        ≡ Some told → tables_of (contents_of told folder.now) ≡ Ok rows
+        → IsSame (network rows opts.now) l.timetable.network) }
+
+    // no message was accepted, and names and trains are in step
+    ensures new { IfOk result (λ l. l.timetable.count ≡ 0) }
+    ensures in_step { IfOk result (λ l. AreInStep l.directory l.timetable.state) }
+
+    // a read fault comes where one read failed, and else none failed
+    ensures failed { IsErrOf result FeedError.ReadFault
+        → Some (F.faults feed.new) ≡ counted (F.faults feed.old) }
+    ensures answered { ¬ (IsErrOf result FeedError.ReadFault)
+        → F.faults feed.new ≡ F.faults feed.old }
+{
+    let loaded = load_feed(alloc, feed, folder, first, days, opts, bases)?;
+    let timetable = Timetable::build(alloc, loaded.trains, loaded.changes, loaded.waits, *opts)?;
+    let room = timetable
+        .graph()
+        .trains()
+        .count()
+        .saturating_add(opts.spare_trains);
+    Ok(LoadedTimetable {
+        timetable,
+        directory: loaded.directory,
+        room,
+    })
 }
 
 /// The timetable of so many service days from the date `first` on that the feed in a folder holds,
@@ -99,18 +149,7 @@ pub fn load_timetable<F: Feed>(
         → F.faults feed.new ≡ F.faults feed.old }
 {
     let bases = bases(alloc, zone, first, days)?;
-    let loaded = load_feed(alloc, feed, folder, first, days, opts, &bases)?;
-    let timetable = Timetable::build(alloc, loaded.trains, loaded.changes, loaded.waits, *opts)?;
-    let room = timetable
-        .graph()
-        .trains()
-        .count()
-        .saturating_add(opts.spare_trains);
-    Ok(LoadedTimetable {
-        timetable,
-        directory: loaded.directory,
-        room,
-    })
+    load_with_bases(alloc, folder, first, days, &bases, opts, feed)
 }
 
 /// The timetable that the words ask for, as a service.

@@ -24,7 +24,7 @@ returns-in_err-loaded-clause-fault g c =
     let f = c.in_err-loaded.field-0.0 in
     let holds = made-timetable c.build-feed.result [] c.default_options-opts.result (omega (arith, c.build-feed.ensures, c.requires.trains.0)) (omega (arith, c.build-feed.ensures, c.requires.trains.1)) in
     handed-on c.from_residual-in_err-loaded.result (feed_fault f) faults.OutOfMemory c.from_residual-in_err-loaded.ensures.1
-    (only-memory f _ (holds.state, holds.names) holds.holds (rw (c.utc.ensures, one-base) at c.in_err-loaded.ensures.exact (files c.build-feed.result) refl) (λ is. c.in_err-loaded.ensures.failed (ap Err is)))
+    (only-memory f _ (holds.state, holds.names) holds.holds (rw (c.utc-zone.ensures, one-base) at c.in_err-loaded.ensures.exact (files c.build-feed.result) refl) (λ is. c.in_err-loaded.ensures.failed (ap Err is)))
 
 pub returns-in_err-sums-clause-fault : goal.returns-in_err-sums-clause-fault
 returns-in_err-sums-clause-fault g c =
@@ -37,6 +37,6 @@ returns-clause-ok g c =
     let made = c.in_ok-loaded.loaded.timetable in
     made-summary-by c.args.asked.trains c.build-feed.result c.default_options-opts.result _ made.network made.state c.in_ok-loaded.loaded.directory c.in_ok-sums.sums
     c.build-feed.ensures c.default_options-opts.ensures.value c.requires.trains.0 c.requires.trains.1
-    (rw (c.utc.ensures, one-base) at c.in_ok-loaded.ensures.exact (files c.build-feed.result) refl) (λ rows are. c.in_ok-loaded.ensures.network (files c.build-feed.result) rows refl are)
+    (rw (c.utc-zone.ensures, one-base) at c.in_ok-loaded.ensures.exact (files c.build-feed.result) refl) (λ rows are. c.in_ok-loaded.ensures.network (files c.build-feed.result) rows refl are)
     (c.in_ok-sums.ensures.ok (input c.args.asked.trains) (ap Some c.in_ok-lines.ensures))
     (c.in_ok-summary_text.ensures ∙ ap (summary_line c.in_ok-sums.sums) (c.count-count.ensures ∙ ap (λ (s : State). length s.trains) (c.trains.ensures.trains ∙ c.graph.ensures.state)))

@@ -9,7 +9,7 @@ returns-in-Err g c = record { run = words-not-read (Err c.from.result) c.in-Err.
 pub returns-in_err-service : goal.returns-in_err-service
 returns-in_err-service g c = record {
   run =
-      feed-not-loaded _ _ (asked_view c.in-Ok.asked) c.in-Ok.ensures.ok c.from_residual-in_err-service.result c.in_err-service.field-0.0 c.from_residual-in_err-service.ensures.1
+      feed-not-loaded _ _ (asked_view c.in-Ok.asked) c.in-Ok.ensures.ok c.from_residual.result c.in_err-service.field-0.0 c.from_residual.ensures.1
       c.in_err-service.ensures.exact (λ is. c.in_err-service.ensures.failed (ap Err is))
       (λ other. c.in_err-service.ensures.answered (λ is. other (same-error _ _ _ refl is)));
 }

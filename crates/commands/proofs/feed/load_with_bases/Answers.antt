@@ -4,7 +4,7 @@ use Rattle.timetable.specs.TimetableState.{TimetableState}
 use Rattle.information_service.specs.Networks.{IsSame}
 use Rattle.commands.specs.Feeds.{network}
 use Rattle.commands.proofs.SameTables.{same-tables}
-use Rattle.commands.proofs.feed.load_timetable.Goals as goal
+use Rattle.commands.proofs.feed.load_with_bases.Goals as goal
 
 pub returns-clause-network : goal.returns-clause-network
 returns-clause-network g c = λ told rows is are.
