@@ -37,6 +37,7 @@ class Case:
     status: int = 0
     redirect: str = ""  # what a shell does with the streams; `gone` and `leaves`: a pipe that is not read to its end
     megabytes: int = 64
+    addresses: int = 6_000_000  # kilobytes
 
 
 def blocks(pieces):

@@ -37,9 +37,6 @@ pub struct LoadedTimetable {
 
     /// The names of its trains, stops, routes and service days.
     pub directory: Directory,
-
-    /// How many trains it has room for, extra trains among them.
-    pub room: u32,
 }
 
 /// The bases of so many service days from the date `first` on, in a zone where none of them is too
@@ -97,15 +94,9 @@ fn load_with_bases<F: Feed>(
 {
     let loaded = load_feed(alloc, feed, folder, first, days, opts, bases)?;
     let timetable = Timetable::build(alloc, loaded.trains, loaded.changes, loaded.waits, *opts)?;
-    let room = timetable
-        .graph()
-        .trains()
-        .count()
-        .saturating_add(opts.spare_trains);
     Ok(LoadedTimetable {
         timetable,
         directory: loaded.directory,
-        room,
     })
 }
 
@@ -188,5 +179,5 @@ pub(crate) fn load_service<F: Feed>(
         &asked.opts,
         feed,
     )?;
-    Ok(InformationService::build(alloc, loaded.timetable, loaded.directory, loaded.room)?)
+    Ok(InformationService::build(alloc, loaded.timetable, loaded.directory)?)
 }

@@ -50,7 +50,6 @@ fn summary<R: Threads + Wait + Sync, G: Gate + Sync>(
         NewHistory::new(),
         loaded.timetable,
         loaded.directory,
-        loaded.room,
         asked.workers,
         &mut lines,
         gate,

@@ -85,7 +85,6 @@ fn serve_words<R: Threads + Wait + Sync, F: Feed, S: Source, K: Sink, G: Gate + 
         NewHistory::new(),
         loaded.timetable,
         loaded.directory,
-        loaded.room,
         asked.workers,
         input,
         out,

@@ -1,20 +1,22 @@
 pub mod Words
-mod Forward
-mod Answer
-mod Taking
-mod RideLemmas
-mod Departures
-mod Scanning
-mod Onward
-mod Improved
-mod DepartureList
-mod StampedLemmas
-mod LoweredLemmas
-mod CallLemmas
-mod WalkLemmas
-mod AtCall
-mod StationLemmas
+pub mod TrainLine
+pub mod NextDeparture
+pub mod Numbered
+pub mod Stretches
+pub mod LeavingFrom
+mod TableLemmas
+mod OpeningsLemmas
+mod ChangeLemmas
+mod RoomLemmas
+mod Kept
+mod KeptSteps
+mod KeptEnds
+mod WaysBack
 mod WayBack
-mod Passed
-mod ScanEnds
+mod EarlyStops
+mod SearchEnds
+mod PassedLemmas
+mod Missing
+mod Noted
+mod AllArrivals
 mod EveryQuery

@@ -1,5 +1,6 @@
 -- The way back from a ride, one ride after the other, and that it has an end.
-use Rattle.conn_scan.proofs.Words.{◌≡◌, ◌≢◌, inl, inr, ℕ, zero, suc, ◌+◌, ◌<◌, ◌≤◌, List, [], ◌∷◌, ◌++◌, length, map, reverse, Option, Some, None, sym, ◌∙◌, ap, arith, All, AllPairs, option_and_then, option_map_or, eqb-true, length-map, All-cons, All-contains, All-map, All-nil, All-weaker, PlanRide, Query, Network, State, IsValid, AreAtStops, Access, ride_before, AreExplained, CanBoard, IsPossible, IsWayBack, LeadsTo}
+use Rattle.conn_scan.proofs.Words.{◌≡◌, ◌≢◌, inl, inr, ℕ, zero, suc, ◌+◌, ◌<◌, ◌≤◌, List, [], ◌∷◌, ◌++◌, length, map, reverse, Option, Some, None, refl, sym, ◌∙◌, ap, subst, arith, append-nil, append_assoc, All, AllPairs, option_and_then, option_map_or, eqb-true, length-map, All-cons, All-contains, All-map, All-nil, All-weaker, PlanRide, Network, State, AreAtStops, Access, ride_before, CanBoard, IsPossible, IsWayBack, LeadsTo}
+use Rattle.conn_scan.specs.Ways.{LeadsBackwards}
 use Rattle.std.proofs.Math.Dec.{eqb}
 use Rattle.std.proofs.lemmas.Bool.Decides.{Decides-eqb}
 use Rattle.std.proofs.lemmas.List.{length-append}
@@ -10,10 +11,18 @@ use Rattle.std.proofs.lemmas.Map.Steps.{length-le_from_distinct_below}
 use Rattle.delay_model.proofs.Lists.{AllPairs-nil}
 use Rattle.change_times.proofs.WalkLemmas.{cases-option}
 use Rattle.edge_rules.proofs.EventChanges.{AllPairs-map}
-use Rattle.conn_scan.proofs.Answer.{boards-earlier}
-use Rattle.conn_scan.proofs.Forward.{ride-at_stop}
-use Rattle.conn_scan.proofs.Onward.{stop-within}
-use Rattle.conn_scan.proofs.Scanning.{LeadsBack, leads-more, leads-all}
+use Rattle.journey_laws.proofs.Forward.{ride-at_stop}
+use Rattle.conn_scan.proofs.ChangeLemmas.{stop-within}
+
+-- these rides, the latest first, lead back from one to another
+abbrev pub LeadsBack : (ℕ → Option Access) → PlanRide → List PlanRide → PlanRide → Type 0
+LeadsBack access r rides last = (rest : List PlanRide) → IsWayBack access last rest → IsWayBack access r (rides ++ rest)
+
+leads-more : (access : ℕ → Option Access) (r : PlanRide) (rides : List PlanRide) (last before : PlanRide) → LeadsBack access r rides last → ride_before access last ≡ Some before → LeadsBack access r (rides ++ before ∷ []) before
+leads-more access r rides last before leads at = λ rest way. subst (IsWayBack access r) (sym (append_assoc rides (before ∷ []) rest)) (leads (before ∷ rest) (at, way))
+
+leads-all : (access : ℕ → Option Access) (r : PlanRide) (rides : List PlanRide) (last : PlanRide) → LeadsBack access r rides last → ride_before access last ≡ None → IsWayBack access r rides
+leads-all access r rides last leads at = subst (IsWayBack access r) (append-nil rides) (leads [] at)
 
 -- rides that are boarded at different stops are no more than there are stops
 apart-fit : (rs : List PlanRide) (n : ℕ) → AllPairs (λ (a b : PlanRide). a.board_stop ≢ b.board_stop) rs → All (λ (r : PlanRide). r.board_stop < n) rs → length rs ≤ n
@@ -28,14 +37,14 @@ apart-fit rs n apart within =
     omega arith) in
     omega (arith, few, length-map rs stop_of)
 
-module _ (nw : Network) (st : State) (q : Query) (valid : IsValid nw st) (access : ℕ → Option Access) (explained : AreExplained nw st q access) where
+module _ (nw : Network) (st : State) (access : ℕ → Option Access) (backwards : LeadsBackwards nw st access) where
   -- the way back from a ride that departs before time `end` has an end
   pub way-back : (end : ℕ) (r : PlanRide) → r.board_time < end → CanBoard access r → (rides : List PlanRide) × IsWayBack access r rides
   way-back zero r early can = absurd (omega arith)
   way-back (suc end) r early can = elim (cases-option (ride_before access r)) [
     | inl first ↦ ([], first)
     | inr before ↦
-        let last = boards-earlier nw st q valid access explained r before.0 can before.1 in
+        let last = backwards r before.0 can before.1 in
         let rest = way-back end before.0 (omega arith) last.1 in
         (before.0 ∷ rest.0, (before.1, rest.1))
   ]
@@ -47,7 +56,7 @@ module _ (nw : Network) (st : State) (q : Query) (valid : IsValid nw st) (access
   way-each : (way : List PlanRide) (r : PlanRide) → IsWayBack access r way → IsPossible nw st access r → All (IsUntil r.board_time) (r ∷ way)
   way-each [] r back possible = All-cons (IsUntil r.board_time) r [] (possible, omega arith) (All-nil (IsUntil r.board_time))
   way-each (b ∷ way) r back possible =
-      let before = boards-earlier nw st q valid access explained r b possible.1 back.0 in
+      let before = backwards r b possible.1 back.0 in
       All-cons (IsUntil r.board_time) r (b ∷ way) (possible, omega arith)
       (All-weaker (IsUntil b.board_time) (IsUntil r.board_time) (λ s h. let until = h.1 in let earlier = before.2 in (h.0, omega arith)) (b ∷ way) (way-each way b back.1 (before.0, before.1)))
 
@@ -55,12 +64,12 @@ module _ (nw : Network) (st : State) (q : Query) (valid : IsValid nw st) (access
   way-apart : (way : List PlanRide) (r : PlanRide) → IsWayBack access r way → IsPossible nw st access r → AllPairs (λ (a b : PlanRide). a.board_stop ≢ b.board_stop) (r ∷ way)
   way-apart [] r back possible = AllPairs-cons (λ (a b : PlanRide). a.board_stop ≢ b.board_stop) r [] (All-nil (λ (s : PlanRide). r.board_stop ≢ s.board_stop)) (AllPairs-nil (λ (a b : PlanRide). a.board_stop ≢ b.board_stop))
   way-apart (b ∷ way) r back possible =
-      let before = boards-earlier nw st q valid access explained r b possible.1 back.0 in
+      let before = backwards r b possible.1 back.0 in
       let each = way-each way b back.1 (before.0, before.1) in
       AllPairs-cons (λ (a b : PlanRide). a.board_stop ≢ b.board_stop) r (b ∷ way)
       (All-weaker (IsUntil b.board_time) (λ (s : PlanRide). r.board_stop ≢ s.board_stop) (λ s h same.
       let at : ride_before access s ≡ Some b = ap (λ stop. option_and_then (λ (a : Access). a.ride) (access stop)) (sym same) ∙ back.0 in
-      let earlier = (boards-earlier nw st q valid access explained s b h.0.1 at).2 in
+      let earlier = (backwards s b h.0.1 at).2 in
       let until = h.1 in
       absurd (omega arith)) (b ∷ way) each)
       (way-apart way b back.1 (before.0, before.1))
@@ -88,14 +97,14 @@ module _ (access : ℕ → Option Access) (last : PlanRide) where
   pub way-ends : (rides : List PlanRide) → IsOnWay access last rides None → LeadsTo access last (reverse rides)
   way-ends rides way = (way.done, leads-all access last way.done way.ride way.leads (sym way.next), ap reverse way.split)
 
-  module _ (nw : Network) (st : State) (q : Query) (valid : IsValid nw st) (explained : AreExplained nw st q access) where
+  module _ (nw : Network) (st : State) (backwards : LeadsBackwards nw st access) where
     earlier : (r : PlanRide) (o : Option PlanRide) → CanBoard access r → ride_before access r ≡ o → left_of o < r.board_time + 1
     earlier r None can at = omega arith
     earlier r (Some before) can at =
-        let back = boards-earlier nw st q valid access explained r before can at in omega arith
+        let step = backwards r before can at in omega arith
 
     pub way-can : (rides : List PlanRide) (r : PlanRide) → IsOnWay access last rides (Some r) → CanBoard access r
-    way-can rides r way = (boards-earlier nw st q valid access explained way.ride r way.can (sym way.next)).1
+    way-can rides r way = (backwards way.ride r way.can (sym way.next)).1
 
     pub way-more : (rides new : List PlanRide) (r : PlanRide) (before : Option PlanRide) → IsOnWay access last rides (Some r) → new ≡ rides ++ r ∷ [] → before ≡ ride_before access r → IsOnWay access last new before
     way-more rides new r before way pushed next =
@@ -117,7 +126,7 @@ module _ (access : ℕ → Option Access) (last : PlanRide) where
 
     pub way-fits : AreAtStops nw.stops st → IsPossible nw st access last → (rides : List PlanRide) (r : PlanRide) → IsOnWay access last rides (Some r) → length rides < length nw.stops
     way-fits at_stops possible rides r way =
-        let rest = way-back nw st q valid access explained (r.board_time + 1) r (omega arith) (way-can rides r way) in
+        let rest = way-back nw st access backwards (r.board_time + 1) r (omega arith) (way-can rides r way) in
         let whole = way.leads (r ∷ rest.0) (sym way.next, rest.1) in
-        let short = way-short nw st q valid access explained at_stops (way.done ++ r ∷ rest.0) last whole possible in
+        let short = way-short nw st access backwards at_stops (way.done ++ r ∷ rest.0) last whole possible in
         omega (arith, short, ap length way.split, length-append way.done (r ∷ rest.0))

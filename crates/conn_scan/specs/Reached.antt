@@ -1,23 +1,38 @@
--- By when, and how, a passenger reaches the stops. `access` says it for each stop of which a scan
+-- By when, and how, a passenger gets to the stops. `access` says it for each stop of which a scan
 -- knows.
-use Rattle.std.specs.Prelude.{◌≡◌, ℕ, ◌≤◌, nat_lt, List, true, if◌then◌else◌, Option, Some, None, get_or, set, MatchBool}
-use Rattle.std.specs.Option.{MatchOption, option_and_then, option_map_or}
+use Rattle.std.specs.Prelude.{◌≡◌, ℕ, ◌≤◌, Option, Some, None, get_or}
+use Rattle.std.specs.Option.{MatchOption, option_and_then, option_map}
 use Rattle.mt_base.specs.declared.journeys.Query.{Query}
 use Rattle.mt_base.specs.declared.journeys.PlanRide.{PlanRide}
 use Rattle.delay_model.specs.declared.network.Network.{Network}
 use Rattle.delay_model.specs.declared.state.State.{State}
-pub use Rattle.conn_scan.specs.declared.accesses.Access.{Access}
-use Rattle.delay_model.specs.Journeys.{IsRide, IsInTime, is_one_station}
+use Rattle.delay_model.specs.Journeys.{IsRide, IsInTime}
+use Rattle.dep_order.specs.Ordered.{Ordered}
+use Rattle.journey_laws.specs.Reached.{IsFromOrigin}
+use Rattle.conn_scan.specs.StopTimes.{time_at}
+use Rattle.conn_scan.specs.Stretches.{ride_of}
+use Rattle.conn_scan.specs.declared.openings.Openings.{Openings}
+use Rattle.conn_scan.specs.declared.stop_rides.Stretch.{Stretch}
 
--- how a passenger gets to place b, from a list by the numbers of the places
-abbrev pub access_in : List (Option Access) → ℕ → Option Access
-access_in list b = get_or list b None
+-- how a passenger gets to a stop: from what time on one can board there, and the ride behind which
+-- that is; none if it is straight from the origin
+pub record Access : Type 0 where
+  pub time : ℕ
+  pub ride : Option PlanRide
 
--- the list once place b can be reached so too: of two ways the earlier is kept, and the first of
--- two at one time
-abbrev pub improved : ℕ → Access → List (Option Access) → List (Option Access)
-improved b a list = if option_map_or (λ (o : Access). nat_lt a.time o.time) (access_in list b) true
-    then set list b (Some a) else list
+-- the ride of two numbers
+abbrev pub ride_along : State → Ordered → Stretch → PlanRide
+ride_along st o r = ride_of st o r.first r.last
+
+-- the ride that stands at stop b
+abbrev pub ride_at : Openings → ℕ → Option Stretch
+ride_at ls b = get_or ls.rides b None
+
+-- how a passenger gets to stop b, by what is known
+abbrev pub access_of : State → Ordered → Openings → ℕ → Option Access
+access_of st o ls b =
+    option_map (λ t. record { time = t; ride = option_map (ride_along st o) (ride_at ls b) })
+    (time_at ls.times b)
 
 -- a passenger can board at stop b at time t
 abbrev pub IsReached : (ℕ → Option Access) → ℕ → ℕ → Type 0
@@ -26,12 +41,6 @@ IsReached access b t = (a : Access) × (access b ≡ Some a) × (a.time ≤ t)
 -- a passenger can be at the ride's first stop when it departs
 abbrev pub CanBoard : (ℕ → Option Access) → PlanRide → Type 0
 CanBoard access r = IsReached access r.board_stop r.board_time
-
--- straight from the origin a passenger can board at place b at time t: within the origin's station
--- not before the query's time, at a stop of another station only after a change
-abbrev pub IsFromOrigin : Network → Query → ℕ → ℕ → Type 0
-IsFromOrigin nw q b t = MatchBool (is_one_station nw q.from_stop b) (q.time ≤ t)
-    (IsInTime nw q.from_stop q.time b t)
 
 -- behind this ride a passenger can board at place b at time t: the change from where it ends is
 -- done by then

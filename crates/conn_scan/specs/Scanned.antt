@@ -1,96 +1,98 @@
--- The scan, on plain lists: what a passenger knows once a ride, the rides of a departure, and the
--- departures from a time on are taken.
-use Rattle.std.specs.Prelude.{◌≡◌, ℕ, ◌<◌, length, List, [], ◌∷◌, ◌++◌, Bool, true, false, nat_le, if◌then◌else◌, Option, Some}
-use Rattle.std.specs.Option.{option_map_or}
-use Rattle.mt_base.specs.declared.journeys.PlanRide.{PlanRide}
+-- The scan, on plain lists: what is known once departures are scanned, one after the other.
+use Rattle.std.specs.Prelude.{◌≡◌, ℕ, ◌<◌, ◌≤◌, List, [], ◌∷◌, Bool, true, false, ◌&&◌, not, nat_eq, nat_le, nat_lt, if◌then◌else◌, Option, Some, None, length, set}
+use Rattle.std.specs.Option.{option_map_or, option_or}
 use Rattle.mt_base.specs.declared.journeys.Query.{Query}
-use Rattle.mt_base.specs.Order.{node_of}
 use Rattle.change_times.specs.ChangeTables.{ChangeTables}
 use Rattle.change_times.specs.Reach.{reached}
-use Rattle.delay_model.specs.declared.network.Network.{Network}
-use Rattle.delay_model.specs.declared.state.Call.{Call}
-use Rattle.delay_model.specs.declared.state.State.{State}
-use Rattle.train_nodes.specs.Calls.{has_call}
-use Rattle.dep_order.specs.declared.departure.Departure.{Departure}
-use Rattle.conn_scan.specs.Calls.{arrival_at, calls_after}
-use Rattle.conn_scan.specs.Lowered.{lowered, access_of}
-use Rattle.conn_scan.specs.Reached.{Access}
-use Rattle.conn_scan.specs.Rides.{rides_from}
-use Rattle.conn_scan.specs.Scan.{better}
+use Rattle.delay_model.specs.Changes.{station}
+use Rattle.dep_order.specs.declared.departure.Leaving.{Leaving}
+use Rattle.conn_scan.specs.Aboard.{boarding_at}
+use Rattle.conn_scan.specs.Openings.{lowered}
+use Rattle.conn_scan.specs.StopTimes.{is_by}
+use Rattle.conn_scan.specs.declared.known.Ending.{Ending}
 use Rattle.conn_scan.specs.declared.known.Known.{Known}
-use Rattle.conn_scan.specs.declared.walk.Arrival.{Arrival}
-use Rattle.conn_scan.specs.declared.walk.Boarding.{Boarding}
+use Rattle.conn_scan.specs.declared.stop_rides.Stretch.{Stretch}
 
--- the change times of a network
-abbrev pub changes_of : Network → ChangeTables
-changes_of nw = record { stops = nw.stops; transfers = nw.transfers; default = nw.opts.change }
+-- place b is of the destination's station
+abbrev pub ends_there : ChangeTables → Query → ℕ → Bool
+ends_there t q b = nat_eq (station t.stops b) (station t.stops q.to_stop)
 
--- once a ride is taken
-abbrev pub took : Network → Query → PlanRide → Known → Known
-took nw q r k =
+-- the best arrival is not after a time
+abbrev pub is_there_by : Option Ending → ℕ → Bool
+is_there_by best time = option_map_or (λ (e : Ending). nat_le e.time time) best false
+
+-- a time is before the best arrival
+abbrev pub is_before : ℕ → Option Ending → Bool
+is_before time best = option_map_or (λ (e : Ending). nat_lt time e.time) best true
+
+-- the number of the departure where passengers boarded who ride on departure d: those that are
+-- aboard stay aboard, and else they board here if they can
+abbrev pub boarding : Leaving → Known → Option ℕ
+boarding d k =
+    option_or (boarding_at k.aboard d.number)
+    (if is_by k.openings.times d.stop d.time then Some d.number else None)
+
+-- passengers may alight where the train of departure d arrives next, at one of so many stops, and
+-- none has arrived there by then
+abbrev pub is_first_arrival : ℕ → Leaving → Known → Bool
+is_first_arrival stops d k = nat_lt d.to stops && not (is_by k.held d.to d.arrival)
+
+-- the best arrival, once that of this ride is known
+abbrev pub better : ChangeTables → Query → Leaving → Stretch → Option Ending → Option Ending
+better t q d r best =
+    if ends_there t q d.to && is_before d.arrival best
+    then Some (record { time = d.arrival; ride = r }) else best
+
+-- once passengers arrived where the train of departure d arrives next, by this ride
+abbrev pub arrived : ChangeTables → Query → Leaving → Stretch → Known → Known
+arrived t q d r k =
     record {
-      accesses = lowered r.alight_time (Some r) (reached (changes_of nw) r.alight_stop) k.accesses;
-      best = better nw q r k.best;
+      openings = lowered d.arrival (Some r) (reached t d.to) k.openings;
+      held = set k.held d.to (Some d.arrival);
+      aboard = k.aboard;
+      best = better t q d r k.best;
     }
 
--- once these rides are taken, one after the other
-abbrev pub took_all : Network → Query → List PlanRide → Known → Known
-took_all nw q [] k = k
-took_all nw q (r ∷ rs) k = took_all nw q rs (took nw q r k)
+-- departure d, where those are aboard who boarded at the departure of number b
+abbrev pub ride_by : ℕ → Leaving → Stretch
+ride_by b d = record { first = b; last = d.number }
 
--- the boarding of a departure
-abbrev pub boarding_of : Departure → Boarding
-boarding_of d = record { train = d.key.train; label = d.key.label; stop = d.stop; time = d.time }
+-- once they stay aboard
+abbrev pub stayed : ℕ → Leaving → Known → Known
+stayed b d k = record k { aboard = set k.aboard d.next (Some b) }
 
--- the ride from a departure to an arrival of the same train
-abbrev pub ride_to : Boarding → Arrival → PlanRide
-ride_to b a =
-    record {
-      train = b.train;
-      board = b.label;
-      board_stop = b.stop;
-      board_time = b.time;
-      alight = a.label;
-      alight_stop = a.stop;
-      alight_time = a.time;
-    }
+-- once they rode on to the next arrival
+abbrev pub rode : ChangeTables → Query → ℕ → Leaving → Known → Known
+rode t q b d k =
+    if is_first_arrival (length t.stops) d k then arrived t q d (ride_by b d) (stayed b d k) else stayed b d k
 
--- the rides from a departure to the calls after it where one may alight, up to the first that the
--- train does not reach
-abbrev pub rides_on : Network → State → Boarding → List Call → List PlanRide
-rides_on nw st b [] = []
-rides_on nw st b (d ∷ ds) =
-    if d.arrival.live then
-    (if d.alight then ride_to b (arrival_at nw st b.train d) ∷ [] else [])
-    ++ (if d.departure.live then rides_on nw st b ds else [])
-    else []
-
--- the rides to the calls after the one with the label `next` are left of those to the calls after
--- the one with the label `label`
-pub record LeavesRides (nw : Network) (st : State) (q : Query) (b : Boarding) (label : ℕ)
-    (old : Known) (next : ℕ) (new : Known) : Type 0 where
-  pub left : took_all nw q (rides_on nw st b (calls_after st b.train next)) new
-      ≡ took_all nw q (rides_on nw st b (calls_after st b.train label)) old
-  pub there : has_call st b.train next ≡ true
-  pub fewer : length (calls_after st b.train next) < length (calls_after st b.train label)
-
--- whether a passenger can be at a stop by a time
-abbrev pub is_in_time : Network → Query → List (Option Access) → ℕ → ℕ → Bool
-is_in_time nw q accesses stop time = option_map_or (λ (a : Access). nat_le a.time time)
-    (access_of nw q accesses stop) false
-
--- once a departure is scanned: its rides are taken if a passenger can be at its stop in time
-abbrev pub departed : Network → State → Query → Departure → Known → Known
-departed nw st q d k =
-    if is_in_time nw q k.accesses d.stop d.time then took_all nw q
-    (rides_from nw st (node_of d.key)) k else k
-
--- whether the best ride arrives by a time
-abbrev pub is_there_by : Option PlanRide → ℕ → Bool
-is_there_by best time = option_map_or (λ (r : PlanRide). nat_le r.alight_time time) best false
+-- once a departure is scanned
+abbrev pub departed : ChangeTables → Query → Leaving → Known → Known
+departed t q d k = option_map_or (λ b. rode t q b d k) (boarding d k) k
 
 -- once these departures are scanned, up to the first that is not before the best arrival
-abbrev pub scanned : Network → State → Query → List Departure → Known → Known
-scanned nw st q [] k = k
-scanned nw st q (d ∷ ds) k = if is_there_by k.best d.time then k else scanned nw st q ds
-    (departed nw st q d k)
+abbrev pub scanned : ChangeTables → Query → List Leaving → Known → Known
+scanned t q [] k = k
+scanned t q (d ∷ ds) k =
+    if is_there_by k.best d.time then k else scanned t q ds (departed t q d k)
+
+-- there are rows for so many stops and the number past all of them, and for so many numbers of
+-- departures and the one past all of them
+pub record HasRoomFor (stops numbers : ℕ) (k : Known) : Type 0 where
+  pub held : stops ≤ length k.held
+  pub times : stops < length k.openings.times
+  pub rides : stops < length k.openings.rides
+  pub aboard : numbers < length k.aboard
+
+-- the numbers of a departure are within these
+pub record IsWithin (stops numbers : ℕ) (d : Leaving) : Type 0 where
+  pub number : d.number < numbers
+  pub next : d.next ≤ numbers
+  pub stop : d.stop ≤ stops
+
+-- there are as many rows as before
+pub record HasSameRoom (old new : Known) : Type 0 where
+  pub held : length new.held ≡ length old.held
+  pub times : length new.openings.times ≡ length old.openings.times
+  pub rides : length new.openings.rides ≡ length old.openings.rides
+  pub aboard : length new.aboard ≡ length old.aboard

@@ -1,15 +1,15 @@
-//! Why a scan of the departures finds the earliest arrival.
+//! Rides, and why every query has an answer.
 
-ghost use Rattle.std.specs.Prelude.{◌≡◌, ◌≤◌, ◌<◌, ◌⊎◌, ℕ, List, [], ◌∷◌, Option, Some, None, true, false, reverse, All, Contains};
+ghost use Rattle.std.specs.Prelude.{◌≡◌, ◌≤◌, ◌⊎◌, ℕ, List, Option, true, Contains, All};
 ghost use Rattle.mt_base.specs.declared.keys.Node.{Node as ANode};
 ghost use Rattle.mt_base.specs.declared.journeys.PlanRide.{PlanRide as APlanRide};
 ghost use Rattle.mt_base.specs.declared.journeys.Query.{Query as AQuery};
-ghost use Rattle.delay_model.specs.Journeys.{is_one_station, IsRide, IsEarliest, HasNoJourney};
+ghost use Rattle.delay_model.specs.AtStops.{AreAtStops};
+ghost use Rattle.delay_model.specs.Journeys.{IsRide, IsEarliest, HasNoJourney};
 ghost use Rattle.delay_model.specs.Valid.{IsValid};
-ghost use Rattle.conn_scan.specs.Reached.{Access, AreExplained, CanBoard, ride_before};
-ghost use Rattle.edge_rules.specs.AtStops.{AreAtStops};
-ghost use Rattle.conn_scan.specs.Rides.{BeginsWith, departure_of_ride, rides_from};
-ghost use Rattle.conn_scan.specs.Scan.{IsAtEnd, IsWayBack};
+ghost use Rattle.journey_laws.specs.Rides.{BeginsWith, departure_of_ride, rides_from};
+ghost use Rattle.conn_scan.specs.Reached.{Access, AreExplained};
+ghost use Rattle.conn_scan.specs.Ways.{LeadsBackwards};
 
 use delay_model::network::Network;
 use delay_model::state::State;
@@ -34,27 +34,8 @@ pub fn rides_are_listed_by_departure(nw: &Network, st: &State)
 /// earlier departures, so it has an end.
 pub fn the_way_back_ends(nw: &Network, st: &State)
     requires { IsValid nw.now st.now }
-    ensures { (q : AQuery) (access : ℕ → Option Access) → AreExplained nw.now st.now q access →
-        (r before : APlanRide) → CanBoard access r → ride_before access r ≡ Some before →
-        IsRide nw.now st.now before × CanBoard access before × (before.board_time < r.board_time) }
-{}
-
-/// What is known at the end of a scan is the answer to the query. If origin and destination are of
-/// one station, that is no ride at all. Else it is the best ride that was found, with the rides on
-/// the way back from it; and where none was found there is no journey.
-pub fn a_scan_finds_the_earliest(nw: &Network, st: &State)
-    requires valid { IsValid nw.now st.now }
-    requires at_stops { AreAtStops nw.now.stops st.now }
-    ensures at_once { (q : AQuery) → is_one_station nw.now q.from_stop q.to_stop ≡ true
-        → IsEarliest nw.now st.now q [] q.time }
-    ensures found { (q : AQuery) (access : ℕ → Option Access) (r : APlanRide)
-        (rides : List APlanRide) →
-        is_one_station nw.now q.from_stop q.to_stop ≡ false
-        → IsAtEnd nw.now st.now q access (Some r) → IsWayBack access r rides →
-        IsEarliest nw.now st.now q (reverse (r ∷ rides)) r.alight_time }
-    ensures none { (q : AQuery) (access : ℕ → Option Access) →
-        is_one_station nw.now q.from_stop q.to_stop ≡ false → IsAtEnd nw.now st.now q access None →
-        HasNoJourney nw.now st.now q }
+    ensures { (q : AQuery) (access : ℕ → Option Access) → AreExplained nw.now st.now q access
+        → LeadsBackwards nw.now st.now access }
 {}
 
 /// Every query has an answer: a journey such that none arrives earlier, or there is none.

@@ -1,13 +1,16 @@
 //! The earliest arrival, by a scan of the departures in the order of their times.
 #![tactic(auto)]
 
-pub mod accesses;
+mod aboard;
+pub mod arrivals;
 pub mod earliest_arrival;
 mod known;
 pub mod laws;
-mod query_table;
+mod openings;
 mod scan;
-mod search;
-mod walk;
+mod stop_rides;
+mod stop_times;
+mod trace;
 
+pub use arrivals::has_arrivals;
 pub use earliest_arrival::{Found, Scratch, earliest};

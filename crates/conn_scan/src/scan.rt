@@ -1,145 +1,134 @@
 //! A scan of the departures in the order of their times.
 
-ghost use Rattle.std.specs.Prelude.{◌≡◌, ◌≤◌, ◌&&◌, IsTrue, length};
-ghost use Rattle.delay_model.specs.Valid.{IsValid};
-ghost use Rattle.train_nodes.specs.Calls.{has_call};
-ghost use Rattle.timetable.specs.Departures.{departures_from, IsDeparture};
-ghost use Rattle.conn_scan.specs.Passed.{is_passed, passed_on, ArePassed, IsPassed};
-ghost use Rattle.conn_scan.specs.Scanned.{departed, is_in_time, scanned};
+ghost use Rattle.std.specs.Prelude.{◌≡◌, ◌≤◌, ◌<◌, ◌^◌, ◌-◌, IfSome, All, length};
+ghost use Rattle.conn_scan.specs.Begun.{begun};
+ghost use Rattle.conn_scan.specs.Scanned.{arrived, boarding, departed, is_first_arrival, rode, scanned, HasRoomFor, HasSameRoom, IsWithin};
 ghost use Rattle.conn_scan.specs.Stations.{HasStations};
+ghost use Rattle.conn_scan.specs.Stretches.{leaving_from};
 
-use crate::accesses::Access;
-use crate::known::{Asked, Known, is_in_time, is_there_by};
-use crate::query_table::QueryTable;
-use crate::walk::take_rides;
-use mt_base::numbers::Label;
-use std::sync::ledger::Ledger;
-use timetable::{Departure, Timetable};
-use train_nodes::Steps;
+use crate::known::{Asked, Ending, Known, begin, ends_there, is_before, is_there_by};
+use crate::openings::lower;
+use crate::stop_rides::Stretch;
+use crate::stop_times::StopTimes;
+use change_times::Changes;
+use dep_order::{DepartureOrder, Leaving};
 
-/// Whether passengers may board a departure, and one of the query can be at its stop in time, as
-/// far as is known.
-#[inline]
-fn can_board(t: &Timetable, asked: &Asked, d: &Departure, accesses: &QueryTable<Access>) -> bool
-    requires stations { HasStations t.now.network asked.now }
-    requires begun { asked.now.query.time ≤ d.now.time }
-    ensures { result ≡ (d.now.board && is_in_time t.now.network asked.now.query accesses.now
-        d.now.stop d.now.time) }
+/// The number of the departure where passengers boarded who ride on this one: those who are aboard
+/// stay aboard, and else they board here if they can. None where nobody rides on it.
+#[inline(always)]
+pub fn boarding(d: &Leaving, known: &Known) -> Option<u32>
+    requires number { d.now.number < length known.now.aboard }
+    requires stop { d.now.stop < length known.now.openings.times }
+    ensures boarded { result ≡ boarding d.now known.now }
+    ensures there { IfSome result (λ b. b < length known.now.aboard) }
+    ensures few { length known.now.aboard ≤ 2 ^ 23 }
 {
-    d.board && is_in_time(t, asked, accesses, d.stop, d.time)
-}
-
-/// Takes the rides that begin with a departure, if passengers may board it and one of the query can
-/// be at its stop in time. Gives whether they were taken.
-#[inline]
-fn board<L: Ledger>(
-    t: &Timetable,
-    asked: &Asked,
-    d: &Departure,
-    known: &mut Known,
-    steps: &mut Steps<L>,
-) -> bool
-    // a valid timetable, and the stations of the query
-    requires valid { IsValid t.now.network t.now.state }
-    requires stations { HasStations t.now.network asked.now }
-
-    // a departure not before the query's time, and room for each stop
-    requires there { IsDeparture t.now.network t.now.state d.now }
-    requires begun { asked.now.query.time ≤ d.now.time }
-    requires room { length t.now.network.stops ≤ length known.old.accesses }
-
-    // what is known afterwards, and when the rides from this call on change nothing
-    ensures departed { known.new ≡ departed t.now.network t.now.state asked.now.query d.now
-        known.old }
-    ensures passed { IsTrue result → IsPassed t.now.network t.now.state asked.now.query known.new
-        d.now.key.train d.now.key.label }
-{
-    if !can_board(t, asked, d, &known.accesses) {
-        return false;
+    let boarded = known.aboard.get(d.number);
+    if boarded.is_some() {
+        return boarded;
     }
-    take_rides(t, asked, d, known, steps);
-    true
-}
-
-/// Whether the call of a departure is the one that is noted of its train.
-#[inline]
-fn is_passed(passed: &QueryTable<Label>, d: &Departure) -> bool
-    ensures { result ≡ is_passed passed.now d.now }
-{
-    match passed.get(d.key.train.get()) {
-        Some(label) => label == d.key.label,
-        None => false,
+    if known.openings.times.is_by(d.stop, d.time) {
+        Some(d.number)
+    } else {
+        None
     }
 }
 
-/// Notes the call after that of a departure.
-fn pass_on(t: &Timetable, d: &Departure, passed: &mut QueryTable<Label>)
-    requires { IsTrue (has_call t.now.state d.now.key.train d.now.key.label) }
-    ensures { passed.new ≡ passed_on t.now.state d.now passed.old }
+/// Whether passengers may alight where the train of a departure arrives next, at one of so many
+/// stops, and none has arrived there by then.
+#[inline(always)]
+fn is_first_arrival(stops: u32, d: &Leaving, known: &Known) -> bool
+    requires { stops ≤ length known.now.held }
+    ensures { result ≡ is_first_arrival stops d.now known.now }
 {
-    if let Some(next) = t.graph().trains().next_call(d.key.train, d.key.label) {
-        passed.set(d.key.train.get(), next);
+    d.to.get() < stops && !known.held.is_by(d.to, d.arrival)
+}
+
+/// Notes the arrival of a ride where the train of a departure arrives next.
+#[inline(never)]
+fn arrive(changes: &Changes, asked: &Asked, d: &Leaving, ride: &Stretch, known: &mut Known)
+    requires stations { HasStations changes.now asked.now }
+    requires room { HasRoomFor (length changes.now.stops) 0 known.old }
+    requires to { d.now.to < length changes.now.stops }
+    requires number { ride.now.first < 2 ^ 32 - 1 }
+    ensures { known.new ≡ arrived changes.now asked.now.query d.now ride.now known.old }
+{
+    known.held.set(d.to, d.arrival);
+    let behind = Some(*ride);
+    lower(&mut known.openings, changes.reach(d.to), d.arrival, &behind);
+    if ends_there(changes, asked, d.to) && is_before(d.arrival, &known.best) {
+        known.best = Some(Ending {
+            time: d.arrival,
+            ride: *ride,
+        });
     }
 }
 
-/// Takes the rides that begin with a departure, if a passenger can be at its stop in time. Where
-/// they were taken on the way from an earlier call of the train it is passed over.
-#[inline]
-fn depart<L: Ledger>(
-    t: &Timetable,
-    asked: &Asked,
-    d: &Departure,
-    known: &mut Known,
-    passed: &mut QueryTable<Label>,
-    steps: &mut Steps<L>,
-)
-    // a valid timetable, and the stations of the query
-    requires valid { IsValid t.now.network t.now.state }
-    requires stations { HasStations t.now.network asked.now }
-
-    // a departure not before the query's time, and room for each stop
-    requires there { IsDeparture t.now.network t.now.state d.now }
-    requires begun { asked.now.query.time ≤ d.now.time }
-    requires room { length t.now.network.stops ≤ length known.old.accesses }
-
-    // what was passed so far
-    requires passed { ArePassed t.now.network t.now.state asked.now.query known.old
-        passed.old }
-
-    // what is known and noted as passed afterwards
-    ensures departed { known.new ≡ departed t.now.network t.now.state asked.now.query d.now
-        known.old }
-    ensures passed { ArePassed t.now.network t.now.state asked.now.query known.new
-        passed.new }
+/// Takes those who boarded at the departure of number `boarded` from this departure to the next
+/// arrival.
+#[inline(always)]
+fn ride(changes: &Changes, asked: &Asked, boarded: u32, d: &Leaving, known: &mut Known)
+    requires stations { HasStations changes.now asked.now }
+    requires room { HasRoomFor (length changes.now.stops) 0 known.old }
+    requires next { d.now.next < length known.old.aboard }
+    requires boarded { boarded < length known.old.aboard }
+    requires few { length known.old.aboard ≤ 2 ^ 23 }
+    ensures { known.new ≡ rode changes.now asked.now.query boarded d.now known.old }
 {
-    if is_passed(passed, d) || board(t, asked, d, known, steps) {
-        pass_on(t, d, passed);
+    known.aboard.set(d.next, boarded);
+    if is_first_arrival(asked.stops, d, known) {
+        let stretch = Stretch {
+            first: boarded,
+            last: d.number,
+        };
+        arrive(changes, asked, d, &stretch, known);
+    }
+}
+
+/// Scans a departure.
+#[inline(always)]
+fn depart(changes: &Changes, asked: &Asked, numbers: u32, d: &Leaving, known: &mut Known)
+    requires stations { HasStations changes.now asked.now }
+    requires room { HasRoomFor (length changes.now.stops) numbers known.old }
+    requires within { IsWithin (length changes.now.stops) numbers d.now }
+    ensures { known.new ≡ departed changes.now asked.now.query d.now known.old }
+{
+    if let Some(boarded) = boarding(d, known) {
+        ride(changes, asked, boarded, d, known);
     }
 }
 
 /// Scans the departures from the query's time on, up to the first that is not before the best
 /// arrival.
-pub(crate) fn scan<L: Ledger>(
-    t: &Timetable,
-    asked: &Asked,
-    known: &mut Known,
-    passed: &mut QueryTable<Label>,
-    steps: &mut Steps<L>,
-)
-    requires valid { IsValid t.now.network t.now.state }
-    requires stations { HasStations t.now.network asked.now }
-    requires room { length t.now.network.stops ≤ length known.old.accesses }
-    requires passed { ArePassed t.now.network t.now.state asked.now.query known.old
-        passed.old }
-    ensures scanned { known.new ≡ scanned t.now.network t.now.state asked.now.query
-        (departures_from t.now.network t.now.state asked.now.query.time) known.old }
-    ensures room { length known.new.accesses ≡ length known.old.accesses }
+fn scan(order: &DepartureOrder, changes: &Changes, asked: &Asked, known: &mut Known)
+    requires stations { HasStations changes.now asked.now }
+    requires room { HasRoomFor (length changes.now.stops) (length order.now.entries) known.old }
+    requires within { All (IsWithin (length changes.now.stops) (length order.now.entries))
+        (leaving_from order.now asked.now.query.time) }
+    ensures scanned { known.new ≡ scanned changes.now asked.now.query
+        (leaving_from order.now asked.now.query.time) known.old }
+    ensures room { HasSameRoom known.old known.new }
 {
-    let departures = t.departures(asked.query.time);
-    for d in departures {
+    let numbers = order.numbers();
+    for d in order.departures_from(asked.query.time) {
         if is_there_by(&known.best, d.time) {
             return;
         }
-        depart(t, asked, &d, known, passed, steps);
+        depart(changes, asked, numbers, &d, known);
     }
+}
+
+/// Searches for the earliest arrival of a query.
+pub(crate) fn search(order: &DepartureOrder, changes: &Changes, asked: &Asked, known: &mut Known)
+    requires stations { HasStations changes.now asked.now }
+    requires room { HasRoomFor (length changes.now.stops) (length order.now.entries) known.old }
+    requires within { All (IsWithin (length changes.now.stops) (length order.now.entries))
+        (leaving_from order.now asked.now.query.time) }
+    ensures scanned { known.new ≡ scanned changes.now asked.now.query
+        (leaving_from order.now asked.now.query.time)
+        (begun changes.now asked.now.query known.old) }
+    ensures room { HasSameRoom known.old known.new }
+{
+    begin(changes, asked, known);
+    scan(order, changes, asked, known);
 }

@@ -14,3 +14,4 @@ pub mod Journeys
 pub mod Windows
 pub mod Messages
 pub mod Names
+pub mod AtStops

@@ -1,8 +1,8 @@
 -- The first departure from a bucket on, and what a walk to it keeps.
-use Rattle.dep_order.proofs.Words.{◌≡◌, ◌≢◌, ◌+◌, ◌-◌, ◌/◌, ◌<◌, ◌≤◌, ℕ, Some, Bool, true, false, sym, ◌∙◌, ap, subst, arith, nat_le, nat_tests, get_or, length, min, Bucket, Departure, Lists, Slot, held, AreKept, IsAhead, IsFirstAt, IsNextIn, IsReached, bucket_count, bucket_of, entries_of, leaves_before, nobody, stored_in}
+use Rattle.dep_order.proofs.Words.{◌≡◌, ◌≢◌, ◌+◌, ◌-◌, ◌/◌, ◌<◌, ◌≤◌, ℕ, Some, Bool, true, false, sym, ◌∙◌, ap, subst, arith, nat_le, nat_tests, inl, inr, cases_Bool, length, min, refl, Bucket, Departure, Hot, Lists, held, AreKept, IsAhead, IsFirst, IsFirstAt, IsFirstPlace, IsNextIn, IsReached, bucket_count, bucket_of, entries_of, hot_part, leaves_before, nobody, number_in, slot_at, stored_in}
 use Rattle.std.specs.Ordering.{is_le, nat_cmp}
 use Rattle.dep_order.proofs.OrderLemmas.{before-strict, before-time, bucket-before}
-use Rattle.dep_order.proofs.ReachLemmas.{bucket-empty, first-found, left, left-falls, reach-first, reach-held, reach-next}
+use Rattle.dep_order.proofs.ReachLemmas.{bucket-empty, first-ahead, first-found, first-later, left, left-falls, reach-first, reach-held, reach-next}
 use Rattle.dep_order.proofs.StoredLemmas.{IsBucket, nobody-none, read, within}
 
 pub late-is : (t u : ℕ) (b c : Bool) → b ≡ is_le (nat_cmp t u) → b ≡ c → nat_le t u ≡ c
@@ -15,12 +15,17 @@ module _ (l : Lists) (k : AreKept l) where
   abbrev AreFrom : ℕ → ℕ → Type 0
   AreFrom from b = (i : ℕ) (d : Departure) → held (entries_of l) i ≡ Some d → from ≤ by d → b ≤ by d
 
-  pub first-here : (from b : ℕ) (x : Bucket) → IsBucket l b x → x.first ≢ nobody → from ≤ b → AreFrom from b → IsFirstAt (entries_of l) (λ d. nat_le from (by d)) x.first
+  -- a first departure as a place
+  place-of : (passes : Departure → Bool) (n : ℕ) → n ≢ nobody → IsFirstAt (entries_of l) passes n → IsFirst (entries_of l) passes (number_in n)
+  place-of passes n some f = let e : number_in n ≡ Some n = grind (arith, nat_tests, some) in rw e f
+
+  pub first-here : (from b : ℕ) (x : Bucket) → IsBucket l b x → x.first ≢ nobody → from ≤ b → AreFrom from b → IsFirstPlace l (λ d. nat_le from (by d)) b x.first
   first-here from b x is some low rest =
       let passes : Departure → Bool = λ d. nat_le from (by d) in
       let reached = reach-first leaves_before before-strict by (entries_of l) b passes x.first is.first in
       let f = reach-held leaves_before before-strict by (entries_of l) b passes x.first reached some in
-      first-found by (entries_of l) (bucket-before (bucket_count l)) b passes x.first f.0 reached f.1 (rw f.2 (grind (arith, nat_tests))) (λ i e at h. rest i e at (grind (arith, nat_tests)))
+      let found = first-found by (entries_of l) (bucket-before (bucket_count l)) b passes x.first f.0 reached f.1 (rw f.2 (grind (arith, nat_tests))) (λ i e at h. rest i e at (grind (arith, nat_tests))) in
+      record { first = place-of passes x.first some found; place = λ _. (f.0, f.1, f.2) }
 
   pub none-here : (from b : ℕ) (x : Bucket) → IsBucket l b x → x.first ≡ nobody → AreFrom from b → AreFrom from (b + 1)
   none-here from b x is end rest = λ i d at low.
@@ -30,19 +35,27 @@ module _ (l : Lists) (k : AreKept l) where
 
   -- a walk along a bucket
   module _ (b : ℕ) (passes : Departure → Bool) (n : ℕ) (r : IsReached leaves_before by (entries_of l) b passes n) where
-    pub walk-within : n ≢ nobody → n < length l.slots.items
+    pub walk-within : n ≢ nobody → n < length l.slots
     walk-within some = let f = reach-held leaves_before before-strict by (entries_of l) b passes n r some in within l n f.0 f.1
 
-    pub walk-further : (s : Slot) → n ≢ nobody → s ≡ get_or l.slots.items n s → passes (stored_in s) ≡ false → IsReached leaves_before by (entries_of l) b passes s.after × (left leaves_before (entries_of l) s.after < left leaves_before (entries_of l) n)
-    walk-further s some at h =
+    pub walk-further : n ≢ nobody → passes (stored_in (slot_at l.slots n)) ≡ false → IsReached leaves_before by (entries_of l) b passes (slot_at l.slots n).after × (left leaves_before (entries_of l) (slot_at l.slots n).after < left leaves_before (entries_of l) n)
+    walk-further some h =
+        let s = slot_at l.slots n in
         let f = reach-held leaves_before before-strict by (entries_of l) b passes n r some in
-        let x = read l n f.0 s k f.1 at in
+        let x = read l n f.0 k f.1 in
         let next = subst (λ c. IsNextIn l c (Some f.0) s.after) f.2 x.next in
         (reach-next leaves_before before-strict by (entries_of l) b passes n s.after f.0 r f.1 (ap passes (sym x.departure) ∙ h) next, left-falls leaves_before before-strict by (entries_of l) b n s.after f.0 f.1 next)
 
+    -- the same with what was read
+    pub further-at : (h : Hot) → h ≡ hot_part (slot_at l.slots n) → n ≢ nobody → passes (stored_in (slot_at l.slots n)) ≡ false → IsReached leaves_before by (entries_of l) b passes h.after × (left leaves_before (entries_of l) h.after < left leaves_before (entries_of l) n)
+    further-at h e some fails =
+        let x = walk-further some fails in
+        let after : (slot_at l.slots n).after ≡ h.after = ap (λ (h : Hot). h.after) (sym e) in
+        (subst (λ m. IsReached leaves_before by (entries_of l) b passes m) after x.0, subst (λ m. left leaves_before (entries_of l) m < left leaves_before (entries_of l) n) after x.1)
+
     -- it ends at one that passes, or at the end of the bucket
-    pub walk-passes : (s : Slot) → n ≢ nobody → s ≡ get_or l.slots.items n s → passes (stored_in s) ≡ true → (d : Departure) → held (entries_of l) n ≡ Some d → passes d ≡ true
-    walk-passes s some at h d is = ap passes (sym (read l n d s k is at).departure) ∙ h
+    pub walk-passes : passes (stored_in (slot_at l.slots n)) ≡ true → (d : Departure) → held (entries_of l) n ≡ Some d → passes d ≡ true
+    walk-passes h d is = ap passes (sym (read l n d k is).departure) ∙ h
 
     pub walk-none : n ≡ nobody → (d : Departure) → held (entries_of l) n ≡ Some d → passes d ≡ true
     walk-none end d is = let none = ap (held (entries_of l)) end ∙ nobody-none l k in absurd (cc)
@@ -58,13 +71,43 @@ module _ (l : Lists) (k : AreKept l) where
       }
 
   -- what comes after a departure
-  pub ahead-next : (i : ℕ) (d : Departure) (s : Slot) → held (entries_of l) i ≡ Some d → s ≡ get_or l.slots.items i s → IsAhead by (entries_of l) (by (stored_in s)) (leaves_before d) s.after
-  ahead-next i d s is at =
-      let x = read l i d s k is at in
-      let u : IsNextIn l (by d) (Some d) s.after = x.next in
-      subst (λ e. IsAhead by (entries_of l) (by e) (leaves_before d) s.after) (sym x.departure) (record {
+  pub ahead-next : (i : ℕ) (d : Departure) → held (entries_of l) i ≡ Some d → IsAhead by (entries_of l) (by d) (leaves_before d) (slot_at l.slots i).after
+  ahead-next i d is =
+      let x = read l i d k is in
+      let u : IsNextIn l (by d) (Some d) (slot_at l.slots i).after = x.next in
+      record {
         reached = record { ends = u.ends; mine = λ e h. (u.there e h).0; rest = u.rest };
         passes_is = λ e h. (u.there e h).1;
         low = λ j e h p. let late = before-time d e p in omega arith;
         high = λ j e h m. bucket-before (bucket_count l) d e m;
-      })
+      }
+
+  -- a walk that has come to a departure, or to the end of its bucket
+  pub ahead-here : (b : ℕ) (passes : Departure → Bool) (n : ℕ) → n ≢ nobody → IsAhead by (entries_of l) b passes n → IsFirstPlace l passes b n
+  ahead-here b passes n some w =
+      let f = reach-held leaves_before before-strict by (entries_of l) b passes n w.reached some in
+      record {
+        first = place-of passes n some (first-ahead by (entries_of l) (bucket-before (bucket_count l)) b passes n some w);
+        place = λ _. (f.0, f.1, f.2);
+      }
+
+  pub ahead-later : (b : ℕ) (passes : Departure → Bool) (n c m : ℕ) → n ≡ nobody → IsAhead by (entries_of l) b passes n → IsFirstPlace l (λ e. nat_le (b + 1) (by e)) c m → IsFirstPlace l passes c m
+  ahead-later b passes n c m end w x = record {
+    first = first-later by (entries_of l) (bucket-before (bucket_count l)) b passes n (number_in m) (nobody-none l k) end w x.first;
+    place = x.place;
+  }
+
+  -- no departure is in any bucket from one on
+  pub none-left : (from c : ℕ) → AreFrom from (bucket_count l) → IsFirstPlace l (λ d. nat_le from (by d)) c nobody
+  none-left from c rest = record {
+    first = λ i d at.
+        elim (cases_Bool (nat_le from (by d))) [
+          | inl t ↦ (let far = rest i d at (grind (arith, nat_tests)) in let some = k.some in absurd (omega arith))
+          | inr f ↦ f
+        ];
+    place = λ some. absurd (some refl);
+  }
+
+  -- the bucket of a departure is one of them
+  pub in-buckets : (d : Departure) → by d < bucket_count l
+  in-buckets d = let some = k.some in omega arith

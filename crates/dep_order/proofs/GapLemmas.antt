@@ -1,5 +1,5 @@
 -- The search from both ends of a bucket for the two departures between which another belongs.
-use Rattle.dep_order.proofs.Words.{◌≡◌, ◌≢◌, ◌<◌, ℕ, Some, true, false, sym, ◌∙◌, ap, subst, get_or, length, refl, Bucket, Departure, Lists, Slot, AreKept, IsNewKey, IsNextIn, IsPreviousIn, IsReached, bucket_count, bucket_of, entries_of, leaves_after, leaves_before, nobody, stored_in}
+use Rattle.dep_order.proofs.Words.{◌≡◌, ◌≢◌, ◌<◌, ℕ, Some, true, false, sym, ◌∙◌, ap, subst, length, refl, Bucket, Cold, Departure, Hot, Lists, cold_part, hot_part, AreKept, IsNewKey, IsNextIn, IsPreviousIn, IsReached, bucket_count, bucket_of, entries_of, leaves_after, leaves_before, nobody, slot_at, stored_in}
 use Rattle.dep_order.proofs.OrderLemmas.{after-strict, before-strict}
 use Rattle.dep_order.proofs.ReachLemmas.{bucket-empty, gap-beside, gap-empty, left, left-falls, reach-first, reach-gap, reach-held, reach-next, reach-some}
 use Rattle.dep_order.proofs.StoredLemmas.{IsBucket, nobody-none, read, within}
@@ -32,42 +32,57 @@ module _ (l : Lists) (b : ℕ) (d : Departure) (k : AreKept l) (new : IsNewKey (
         reach-some leaves_after after-strict by es b (λ e. true) y.last x.first f.0 (nobody-none l k) any f.1 f.2 refl,
       )
 
-  pub front-within : (n : ℕ) → IsFront n → n ≢ nobody → n < length l.slots.items
+  pub front-within : (n : ℕ) → IsFront n → n ≢ nobody → n < length l.slots
   front-within n r some =
       let f = reach-held leaves_before before-strict (bucket_of (bucket_count l)) (entries_of l) b (leaves_before d) n r some in within l n f.0 f.1
 
-  pub back-within : (n : ℕ) → IsBack n → n ≢ nobody → n < length l.slots.items
+  pub back-within : (n : ℕ) → IsBack n → n ≢ nobody → n < length l.slots
   back-within n r some =
       let f = reach-held leaves_after after-strict (bucket_of (bucket_count l)) (entries_of l) b (leaves_after d) n r some in within l n f.0 f.1
 
-  pub front-gap : (n : ℕ) (s : Slot) → IsFront n → n ≢ nobody → s ≡ get_or l.slots.items n s → leaves_before d (stored_in s) ≡ true → IsNextIn l b (Some d) n × IsPreviousIn l b (Some d) s.before
-  front-gap n s r some at h =
+  pub front-gap : (n : ℕ) → IsFront n → n ≢ nobody → leaves_before d (stored_in (slot_at l.slots n)) ≡ true → IsNextIn l b (Some d) n × IsPreviousIn l b (Some d) (slot_at l.slots n).before
+  front-gap n r some h =
+      let s = slot_at l.slots n in
       let by = bucket_of (bucket_count l) in
       let es = entries_of l in
       let f = reach-held leaves_before before-strict by es b (leaves_before d) n r some in
-      let x = read l n f.0 s k f.1 at in
+      let x = read l n f.0 k f.1 in
       let next = reach-gap leaves_before before-strict by es b d f.0 n r f.1 (ap (leaves_before d) (sym x.departure) ∙ h) in
       (next, gap-beside leaves_before before-strict by es b d f.0 n s.before new next f.1 (subst (λ c. IsPreviousIn l c (Some f.0) s.before) f.2 x.previous))
 
-  pub back-gap : (n : ℕ) (s : Slot) → IsBack n → n ≢ nobody → s ≡ get_or l.slots.items n s → leaves_before (stored_in s) d ≡ true → IsNextIn l b (Some d) s.after × IsPreviousIn l b (Some d) n
-  back-gap n s r some at h =
+  pub back-gap : (n : ℕ) → IsBack n → n ≢ nobody → leaves_before (stored_in (slot_at l.slots n)) d ≡ true → IsNextIn l b (Some d) (slot_at l.slots n).after × IsPreviousIn l b (Some d) n
+  back-gap n r some h =
+      let s = slot_at l.slots n in
       let by = bucket_of (bucket_count l) in
       let es = entries_of l in
       let f = reach-held leaves_after after-strict by es b (leaves_after d) n r some in
-      let x = read l n f.0 s k f.1 at in
+      let x = read l n f.0 k f.1 in
       let last = reach-gap leaves_after after-strict by es b d f.0 n r f.1 (ap (leaves_after d) (sym x.departure) ∙ h) in
       (gap-beside leaves_after after-strict by es b d f.0 n s.after new last f.1 (subst (λ c. IsNextIn l c (Some f.0) s.after) f.2 x.next), last)
 
+  -- what is read of the two slots to which the walks have come
+  pub front-at : (n : ℕ) (e : Departure) (c : Cold) → e ≡ stored_in (slot_at l.slots n) → c ≡ cold_part (slot_at l.slots n) → IsFront n → n ≢ nobody → leaves_before d e ≡ true → IsNextIn l b (Some d) n × IsPreviousIn l b (Some d) c.before
+  front-at n e c own its r some h =
+      let x = front-gap n r some (ap (leaves_before d) (sym own) ∙ h) in
+      (x.0, subst (λ (c : Cold). IsPreviousIn l b (Some d) c.before) (sym its) x.1)
+
+  pub back-at : (n : ℕ) (e : Departure) (t : Hot) → e ≡ stored_in (slot_at l.slots n) → t ≡ hot_part (slot_at l.slots n) → IsBack n → n ≢ nobody → leaves_before e d ≡ true → IsNextIn l b (Some d) t.after × IsPreviousIn l b (Some d) n
+  back-at n e t own its r some h =
+      let x = back-gap n r some (ap (leaves_after d) (sym own) ∙ h) in
+      (subst (λ (t : Hot). IsNextIn l b (Some d) t.after) (sym its) x.0, x.1)
+
   -- where neither has come to the gap, both go on
-  pub both-further : (n p : ℕ) (s t : Slot) → IsFront n → n ≢ nobody → IsBack p → p ≢ nobody → s ≡ get_or l.slots.items n s → t ≡ get_or l.slots.items p t → leaves_before d (stored_in s) ≡ false → leaves_before (stored_in t) d ≡ false → IsFront s.after × (s.after ≢ nobody) × IsBack t.before × (t.before ≢ nobody) × (left leaves_before (entries_of l) s.after < left leaves_before (entries_of l) n)
-  both-further n p s t front some back last at there h g =
+  pub both-further : (n p : ℕ) → IsFront n → n ≢ nobody → IsBack p → p ≢ nobody → leaves_before d (stored_in (slot_at l.slots n)) ≡ false → leaves_before (stored_in (slot_at l.slots p)) d ≡ false → IsFront (slot_at l.slots n).after × ((slot_at l.slots n).after ≢ nobody) × IsBack (slot_at l.slots p).before × ((slot_at l.slots p).before ≢ nobody) × (left leaves_before (entries_of l) (slot_at l.slots n).after < left leaves_before (entries_of l) n)
+  both-further n p front some back last h g =
+      let s = slot_at l.slots n in
+      let t = slot_at l.slots p in
       let by = bucket_of (bucket_count l) in
       let es = entries_of l in
       let none = nobody-none l k in
       let f = reach-held leaves_before before-strict by es b (leaves_before d) n front some in
       let e = reach-held leaves_after after-strict by es b (leaves_after d) p back last in
-      let x = read l n f.0 s k f.1 at in
-      let y = read l p e.0 t k e.1 there in
+      let x = read l n f.0 k f.1 in
+      let y = read l p e.0 k e.1 in
       let early = ap (leaves_before d) (sym x.departure) ∙ h in
       let late = ap (leaves_after d) (sym y.departure) ∙ g in
       let next = subst (λ c. IsNextIn l c (Some f.0) s.after) f.2 x.next in
@@ -80,3 +95,10 @@ module _ (l : Lists) (b : ℕ) (d : Departure) (k : AreKept l) (new : IsNewKey (
         reach-some leaves_after after-strict by es b (leaves_after d) t.before n f.0 none off f.1 f.2 (after-strict.either f.0 d (new n f.0 f.1) early),
         left-falls leaves_before before-strict by es b n s.after f.0 f.1 next,
       )
+
+  pub further-at : (n p : ℕ) (e f : Departure) (t : Hot) (c : Cold) → e ≡ stored_in (slot_at l.slots n) → f ≡ stored_in (slot_at l.slots p) → t ≡ hot_part (slot_at l.slots n) → c ≡ cold_part (slot_at l.slots p) → IsFront n → n ≢ nobody → IsBack p → p ≢ nobody → leaves_before d e ≡ false → leaves_before f d ≡ false → IsFront t.after × (t.after ≢ nobody) × IsBack c.before × (c.before ≢ nobody) × (left leaves_before (entries_of l) t.after < left leaves_before (entries_of l) n)
+  further-at n p e f t c own its hot cold front some back last h g =
+      let x = both-further n p front some back last (ap (leaves_before d) (sym own) ∙ h) (ap (leaves_after d) (sym its) ∙ g) in
+      let after : (slot_at l.slots n).after ≡ t.after = ap (λ (t : Hot). t.after) (sym hot) in
+      let before : (slot_at l.slots p).before ≡ c.before = ap (λ (c : Cold). c.before) (sym cold) in
+      (subst IsFront after x.0, subst (λ n. n ≢ nobody) after x.1, subst IsBack before x.2, subst (λ n. n ≢ nobody) before x.3, subst (λ m. left leaves_before (entries_of l) m < left leaves_before (entries_of l) n) after x.4)

@@ -1,6 +1,6 @@
-pub mod AddLemmas
 pub mod AheadLemmas
 pub mod BuildLemmas
+pub mod CallLemmas
 pub mod ChangeLemmas
 pub mod GapLemmas
 pub mod InsideLemmas
@@ -8,10 +8,14 @@ pub mod LinkLemmas
 pub mod LoadLemmas
 pub mod NumberLemmas
 pub mod OneOrder
+pub mod OnwardLemmas
 pub mod OrderLemmas
 pub mod PlaceLemmas
 pub mod ReachLemmas
+pub mod ScanLemmas
 pub mod SlotLemmas
 pub mod SortedLemmas
+pub mod StepLemmas
 pub mod StoredLemmas
+pub mod TableLemmas
 pub mod Words

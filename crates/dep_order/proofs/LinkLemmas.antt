@@ -219,16 +219,16 @@ module _ (lt : Departure → Departure → Bool) (strict : IsStrict lt) (bucket 
           ]
 
       -- each leads to the next once the two beside it were joined
-      pub take-linked : (next next' : ℕ → ℕ → ℕ) → AreLinked lt bucket count more next → next' b before ≡ after → ((c i : ℕ) → (i ≡ before → (i ≡ nobody) × (c ≢ b)) → next' c i ≡ next c i) → AreLinked lt bucket count less next'
+      pub take-linked : (next next' : ℕ → ℕ → ℕ) → AreLinked lt bucket count more next → next' b before ≡ after → ((c i : ℕ) → (i ≡ before → (i ≡ nobody) × (c ≢ b)) → i ≢ m → next' c i ≡ next c i) → AreLinked lt bucket count less next'
       take-linked next next' w first rest c i l of =
           let was = of-more c i of in
           let x = rw (p.others i was.0) at (w c i l was.1) in
           elim (cases_eq i before) [
             | inl is ↦ elim (cases_eq c b) [
               | inl e ↦ rw (is, e, first) joined
-              | inr other ↦ rw (rest c i (λ k. nobody-else c i is other of)) (take-next c (next c i) (held less i) x (not-it c i (next c i) of x (λ k. other)))
+              | inr other ↦ rw (rest c i (λ k. nobody-else c i is other of) was.0) (take-next c (next c i) (held less i) x (not-it c i (next c i) of x (λ k. other)))
             ]
-            | inr far ↦ rw (rest c i (λ k. absurd (far k))) (take-next c (next c i) (held less i) x (not-it c i (next c i) of x (λ k. absurd (far k))))
+            | inr far ↦ rw (rest c i (λ k. absurd (far k)) was.0) (take-next c (next c i) (held less i) x (not-it c i (next c i) of x (λ k. absurd (far k))))
           ]
 
 -- the links without what is between two
@@ -256,7 +256,7 @@ module _ (lt : Departure → Departure → Bool) (strict : IsStrict lt) (bucket 
       let turned = turn lt strict in
       let u₁ = take-gap lt strict bucket less more m d p b after u in
       let g₁ = take-gap back turned bucket less more m d p b before g in
-      let without = take-linked lt strict bucket less more m d p count b before after mine g₁ u₁ next (bridged next b before after) w (bridged-at next b before after) (bridged-else next b before after) in
+      let without = take-linked lt strict bucket less more m d p count b before after mine g₁ u₁ next (bridged next b before after) w (bridged-at next b before after) (λ c i h n. bridged-else next b before after c i h) in
       let u₂ = between lt strict bucket less b before after d' (joined lt strict bucket less more m d p count b before after mine g₁ u₁) above below in
       let g₂ = between back turned bucket less b after before d' (joined back turned bucket less more m d p count b after before mine u₁ g₁) below above in
       let first = leads-to lt strict bucket more b before d g (next b before) m (w b before low (link-of back turned bucket more b before (Some d) g)) p.is mine in

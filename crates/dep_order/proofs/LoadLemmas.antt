@@ -1,13 +1,11 @@
 -- Departures that get their places as numbers, one after another.
-use Rattle.dep_order.proofs.Words.{◌≡◌, ℕ, zero, suc, ◌+◌, ◌<◌, List, [], ◌∷◌, Option, None, Some, true, refl, ap, arith, get_or, length, set, slice_get, Departure, Key, departures_of, held, IsNewKey, map, sym, take, ◌∙◌}
-use Rattle.std.proofs.Math.ListN.{replicate}
+use Rattle.dep_order.proofs.Words.{◌≡◌, ℕ, zero, suc, ◌+◌, ◌<◌, List, [], ◌∷◌, ◌++◌, Option, None, Some, false, refl, sym, ap, arith, All, inl, inr, cases_Bool, slice_get_within, is_of_call, departures_in_order, get_or, length, map, set, replicate, slice_get, Departure, departures_of, held, length-replicate}
 use Rattle.std.specs.List.{AllPairs}
-use Rattle.std.proofs.Common.{◌++◌}
-use Rattle.std.proofs.lemmas.List.{length-replicate, map_more, take_more_set}
-use Rattle.mt_base.specs.Order.{is_before}
 use Rattle.dep_order.specs.Loaded.{first_loaded}
 use Rattle.dep_order.proofs.BuildLemmas.{none-held}
-use Rattle.dep_order.proofs.NumberLemmas.{before-apart, has-at}
+use Rattle.dep_order.proofs.NumberLemmas.{call-is, of-call}
+use Rattle.dep_order.proofs.OneOrder.{in-at}
+use Rattle.dep_order.proofs.PlaceLemmas.{found}
 
 pub load-start : (ds : List Departure) (spare : ℕ) → replicate (length ds + spare) None ≡ first_loaded zero ds spare
 load-start [] spare = let e : zero + spare ≡ spare = omega arith in rw e refl
@@ -19,11 +17,6 @@ pub load-length : (i : ℕ) (ds : List Departure) (spare : ℕ) → length (firs
 load-length i [] spare = let none : Option Departure = None in let e = length-replicate spare none in omega arith
 load-length zero (d ∷ ds) spare = let rest = load-length zero ds spare in omega arith
 load-length (suc i) (d ∷ ds) spare = let rest = load-length i ds spare in omega arith
-
-pub load-free : (i : ℕ) (ds : List Departure) (spare : ℕ) → i < length ds → slice_get (first_loaded i ds spare) i ≡ Some None
-load-free i [] spare l = absurd (omega arith)
-load-free zero (d ∷ ds) spare l = refl
-load-free (suc i) (d ∷ ds) spare l = load-free i ds spare (omega arith)
 
 pub load-next : (i : ℕ) (ds : List Departure) (spare : ℕ) (d : Departure) → i < length ds → d ≡ get_or ds i d → set (first_loaded i ds spare) i (Some d) ≡ first_loaded (suc i) ds spare
 load-next i [] spare e l at = absurd (omega arith)
@@ -37,13 +30,6 @@ load-held zero (e ∷ ds) spare (suc j) d h = let r = load-held zero ds spare j 
 load-held (suc i) (e ∷ ds) spare zero d h = (omega arith, h)
 load-held (suc i) (e ∷ ds) spare (suc j) d h = let r = load-held i ds spare j d h in (omega (arith, r.0), r.1)
 
-pub load-new : (i : ℕ) (ds : List Departure) (spare : ℕ) (d : Departure) → i < length ds → d ≡ get_or ds i d → AllPairs (λ a b. is_before a.key b.key ≡ true) ds → IsNewKey (first_loaded i ds spare) d.key
-load-new i ds spare d l at up j e h same =
-    let r = load-held i ds spare j e h in
-    let s = has-at ds j d e r.1 in
-    let sooner = rw (s.1, ← at) at (up j i d r.0 l) in
-    before-apart e.key d.key sooner same
-
 none-of : (n : ℕ) → departures_of (replicate n None) ≡ []
 none-of zero = refl
 none-of (suc n) = none-of n
@@ -52,8 +38,37 @@ pub load-all : (ds : List Departure) (spare : ℕ) → departures_of (first_load
 load-all [] spare = none-of spare
 load-all (d ∷ ds) spare = ap (λ es. d ∷ es) (load-all ds spare)
 
--- the keys that are kept for them
-pub load-keys : (ks : List Key) (ds : List Departure) (i : ℕ) (d : Departure) → i < length ks → i < length ds → d ≡ get_or ds i d → take i ks ≡ map (λ (d : Departure). d.key) (take i ds) → take (i + 1) (set ks i d.key) ≡ map (λ (d : Departure). d.key) (take (i + 1) ds)
-load-keys ks ds i d l m at e =
-    let key : Departure → Key = λ d. d.key in
-    take_more_set ks i d.key l ∙ ap (λ xs. xs ++ d.key ∷ []) e ∙ ap (λ (x : Departure). map key (take i ds) ++ key x ∷ []) at ∙ sym (map_more key ds i d m)
+-- all of them, with the numbers that are left behind them
+pub load-end : (ds : List Departure) (spare : ℕ) → first_loaded (length ds) ds spare ≡ map (λ d. Some d) ds ++ replicate spare None
+load-end [] spare = refl
+load-end (d ∷ ds) spare = ap (λ es. Some d ∷ es) (load-end ds spare)
+
+get-or : (ds : List Departure) (i : ℕ) (f d : Departure) → slice_get ds i ≡ Some f → get_or ds i d ≡ f
+get-or [] i f d h = absurd (cc)
+get-or (x ∷ ds) zero f d h = cc
+get-or (x ∷ ds) (suc i) f d h = get-or ds i f d h
+
+other-call : (a b : Departure) → is_of_call a.key.train a.key.label b ≡ false → is_of_call b.key.train b.key.label a ≡ false
+other-call a b h =
+    elim (cases_Bool (is_of_call b.key.train b.key.label a)) [
+      | inl t ↦ (
+          let c = call-is b.key.train b.key.label a t in
+          let own = of-call a.key.train a.key.label b (sym c.0) (sym c.1) in
+          absurd (cc))
+      | inr f ↦ f
+    ]
+
+-- the next of them is of another call than those before
+pub load-new : (ds : List Departure) (spare i : ℕ) (d : Departure) → i < length ds → d ≡ get_or ds i d → AllPairs (λ a b. is_of_call a.key.train a.key.label b ≡ false) ds → All (λ e. is_of_call d.key.train d.key.label e ≡ false) (departures_in_order (first_loaded i ds spare))
+load-new ds spare i d l at apart = λ k e low.
+    let es = first_loaded i ds spare in
+    let f = get_or (departures_in_order es) k e in
+    let r = found es f (in-at (departures_in_order es) k e low) in
+    let s = load-held i ds spare r.0 f r.1 in
+    let there = slice_get_within ds r.0 f s.1 in
+    let own : get_or ds r.0 d ≡ f = get-or ds r.0 f d s.1 in
+    other-call f d (rw (own, ← at) at (apart r.0 i d s.0 l))
+
+-- as many as there are numbers for
+pub load-room : (ds : List Departure) (spare i : ℕ) (es : List (Option Departure)) → es ≡ first_loaded i ds spare → i < length ds → i < length es
+load-room ds spare i es e l = rw e (omega (arith, load-length i ds spare))

@@ -2,7 +2,7 @@
 use Rattle.dep_order.proofs.Words.{◌≡◌, ◌≢◌, ◌<◌, ◌≤◌, ℕ, Bool, true, false, refl, sym, ap, arith, inl, inr, cases_Bool, Departure, leaves_before, leaves_after, departure_cmp, bucket_of, nat_tests, nat_le}
 use Rattle.std.proofs.Common.{Ordering}
 use Rattle.std.specs.declared.cmp.Ordering.TheVariants.{Less, Equal, Greater}
-use Rattle.std.specs.Cmp.{IsTotalOrder, bool_cmp_total}
+use Rattle.std.specs.Cmp.{IsTotalOrder}
 use Rattle.std.specs.Ordering.{is_lt, nat_cmp, ordering_reverse, ordering_then}
 use Rattle.std.proofs.lemmas.Cmp.{nat_cmp_total, on_total, then_total, tied_itself}
 use Rattle.mt_base.specs.Order.{key_cmp}
@@ -11,7 +11,7 @@ use Rattle.mt_base.proofs.KeyLemmas.{exact_keys, keys_total}
 pub departures_total : IsTotalOrder departure_cmp
 departures_total =
     then_total (on_total (λ d. d.time) nat_cmp_total)
-    (then_total (on_total (λ d. d.key) keys_total) (then_total (on_total (λ d. d.stop) nat_cmp_total) (on_total (λ d. d.board) bool_cmp_total)))
+    (then_total (on_total (λ d. d.key) keys_total) (on_total (λ d. d.stop) nat_cmp_total))
 
 -- of two departures with different keys one is before the other, and none is before itself
 pub record IsStrict (lt : Departure → Departure → Bool) : Type 0 where

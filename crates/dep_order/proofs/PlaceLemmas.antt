@@ -1,10 +1,10 @@
 -- Departures by number, put in, taken out and moved: what becomes of the list of them in order.
-use Rattle.dep_order.proofs.Words.{◌≡◌, ◌≢◌, ℕ, inl, inr, ◌<◌, List, Option, None, Some, Bool, false, not, refl, sym, ◌∙◌, ap, subst, arith, cases_Bool, cases_eq, get_or, length, map, set, Departure, Key, HaveDistinctKeys, IsNewKey, departures_of, departures_in_order, held, in_order, leaves_before, placed}
+use Rattle.dep_order.proofs.Words.{◌≡◌, ◌≢◌, ℕ, inl, inr, ◌<◌, List, Option, None, Some, Bool, false, not, refl, sym, ◌∙◌, ap, subst, arith, cases_Bool, cases_eq, get_or, length, map, option_map, set, zero, suc, [], ◌∷◌, Departure, Key, HaveDistinctKeys, IsNewKey, departures_of, departures_in_order, held, in_order, leaves_before, placed}
 use Rattle.std.proofs.Common.{filter}
 use Rattle.std.specs.List.{AllPairs, list_any}
 use Rattle.mt_base.specs.Order.{is_same}
 use Rattle.mt_base.proofs.KeyLemmas.{same-is, same-itself}
-use Rattle.dep_order.specs.Ordered.{at_time, moved}
+use Rattle.dep_order.specs.Ordered.{at_time, moved, without}
 use Rattle.dep_order.proofs.ChangeLemmas.{held-else, held-set}
 use Rattle.dep_order.proofs.OneOrder.{any-none, ascends-pairs, in-at, filter-all, filter-ascends, filter-in, in-filter, in-map, keys-of, map-all, map-in, map-keys, one-order, order-stays}
 use Rattle.dep_order.proofs.OrderLemmas.{before-strict}
@@ -22,6 +22,60 @@ listed es i d h = in-ordered d (departures_of es) (there-in es i d h)
 
 not-same : (a b : Key) → a ≢ b → is_same a b ≡ false
 not-same a b n = elim (cases_Bool (is_same a b)) [ inl t ↦ absurd (n (same-is a b t)) | inr f ↦ f ]
+
+-- the departures by number, once one was taken out or moved
+later-keys : (e : Option Departure) (es : List (Option Departure)) → HaveDistinctKeys (e ∷ es) → HaveDistinctKeys es
+later-keys e es h = λ i j d f a b k. let r = h (suc i) (suc j) d f a b k in omega arith
+
+later-new : (e : Option Departure) (es : List (Option Departure)) (k : Key) → IsNewKey (e ∷ es) k → IsNewKey es k
+later-new e es k h = λ i d at. h (suc i) d at
+
+pub without-none : (es : List (Option Departure)) (k : Key) → IsNewKey es k → map (without k) es ≡ es
+without-none [] k h = refl
+without-none (None ∷ es) k h = ap (λ es. None ∷ es) (without-none es k (later-new None es k h))
+without-none (Some e ∷ es) k h =
+    let rest = without-none es k (later-new (Some e) es k h) in
+    let other = not-same e.key k (h 0 e refl) in
+    rw (other, rest) refl
+
+pub moved-none : (es : List (Option Departure)) (k : Key) (time : ℕ) → IsNewKey es k → map (option_map (at_time k time)) es ≡ es
+moved-none [] k time h = refl
+moved-none (None ∷ es) k time h = ap (λ es. None ∷ es) (moved-none es k time (later-new None es k h))
+moved-none (Some e ∷ es) k time h =
+    let rest = moved-none es k time (later-new (Some e) es k h) in
+    let other = not-same e.key k (h 0 e refl) in
+    rw (other, rest) refl
+
+-- behind the departure of a key there is none of it
+none-later : (e : Departure) (es : List (Option Departure)) (k : Key) → e.key ≡ k → HaveDistinctKeys (Some e ∷ es) → IsNewKey es k
+none-later e es k own h = λ i d at same. let r = h 0 (suc i) e d refl at (own ∙ sym same) in omega arith
+
+other-later : (e : Departure) (es : List (Option Departure)) (k : Key) (n : ℕ) (d : Departure) → HaveDistinctKeys (Some e ∷ es) → held es n ≡ Some d → d.key ≡ k → is_same e.key k ≡ false
+other-later e es k n d h at own = not-same e.key k (λ same. let r = h 0 (suc n) e d refl at (same ∙ sym own) in omega arith)
+
+pub without-one : (es : List (Option Departure)) (k : Key) (n : ℕ) (d : Departure) → HaveDistinctKeys es → held es n ≡ Some d → d.key ≡ k → map (without k) es ≡ set es n None
+without-one [] k n d h at own = refl
+without-one (None ∷ es) k zero d h at own = absurd (cc)
+without-one (Some e ∷ es) k zero d h at own =
+    let is : e ≡ d = cc in
+    let mine : e.key ≡ k = rw is own in
+    rw (mine, same-itself k, without-none es k (none-later e es k mine h)) refl
+without-one (None ∷ es) k (suc n) d h at own = ap (λ es. None ∷ es) (without-one es k n d (later-keys None es h) at own)
+without-one (Some e ∷ es) k (suc n) d h at own =
+    rw (other-later e es k n d h at own, without-one es k n d (later-keys (Some e) es h) at own) refl
+
+pub moved-one : (es : List (Option Departure)) (k : Key) (time n : ℕ) (d : Departure) → HaveDistinctKeys es → held es n ≡ Some d → d.key ≡ k → map (option_map (at_time k time)) es ≡ set es n (Some (record d { time = time }))
+moved-one [] k time n d h at own = refl
+moved-one (None ∷ es) k time zero d h at own = absurd (cc)
+moved-one (Some e ∷ es) k time zero d h at own =
+    let is : e ≡ d = cc in
+    let mine : e.key ≡ k = rw is own in
+    let change : at_time k time e ≡ record d { time = time } = rw (is, own, same-itself k) refl in
+    rw (change, moved-none es k time (none-later e es k mine h)) refl
+moved-one (None ∷ es) k time (suc n) d h at own = ap (λ es. None ∷ es) (moved-one es k time n d (later-keys None es h) at own)
+moved-one (Some e ∷ es) k time (suc n) d h at own =
+    let stays : at_time k time e ≡ e = rw (other-later e es k n d h at own) refl in
+    rw (stays, moved-one es k time n d (later-keys (Some e) es h) at own) refl
 
 module _ (es : List (Option Departure)) (distinct : HaveDistinctKeys es) where
   pub one-of-key : (d e : Departure) → IsIn d (departures_in_order es) → IsIn e (departures_in_order es) → d.key ≡ e.key → d ≡ e

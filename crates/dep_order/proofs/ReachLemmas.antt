@@ -20,7 +20,7 @@ fewer p q [] i x h at fails passes = absurd (cc)
 fewer p q (y ∷ ys) zero x h at fails passes = let is : y ≡ x = cc in let rest = no-more p q ys h in grind (arith, count-cons p y ys, count-cons q y ys)
 fewer p q (y ∷ ys) (suc i) x h at fails passes = let rest = fewer p q ys i x h at fails passes in grind (arith, h y, count-cons p y ys, count-cons q y ys)
 
-held-get : (es : List (Option Departure)) (i : ℕ) (d : Departure) → held es i ≡ Some d → slice_get es i ≡ Some (Some d)
+pub held-get : (es : List (Option Departure)) (i : ℕ) (d : Departure) → held es i ≡ Some d → slice_get es i ≡ Some (Some d)
 held-get [] i d h = absurd (cc)
 held-get (e ∷ es) zero d h = ap Some h
 held-get (e ∷ es) (suc i) d h = held-get es i d h

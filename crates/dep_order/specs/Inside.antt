@@ -1,23 +1,25 @@
 -- How the departures in their order are seen, and what holds of what is stored.
-use Rattle.std.specs.Prelude.{◌≡◌, ℕ, ◌+◌, ◌-◌, Some, length}
+use Rattle.std.specs.Prelude.{◌≡◌, ℕ, ◌≤◌, None, Some, length}
 use Rattle.dep_order.specs.declared.departure.Departure.{Departure}
 use Rattle.dep_order.specs.declared.order.DepartureOrder.TheInside.{Inside}
+use Rattle.dep_order.specs.CallNumbering.{labels_of, number_at}
 use Rattle.dep_order.specs.Departing.{departures_in_order, held}
-use Rattle.dep_order.specs.Numbering.{AreNumbers, HasNumber, loaded_keys}
 use Rattle.dep_order.specs.Ordered.{Ordered}
 
 abbrev pub seen : Inside → Ordered
 seen a = record {
   departures = departures_in_order a.numbered.entries;
-  spare = a.numbers.room - length a.numbers.added.items;
+  entries = a.numbered.entries;
+  onwards = a.numbered.onwards;
+  used = a.used;
+  labels = labels_of a.numbers;
+  spare_trains = a.numbers.spare_trains;
+  spare_calls = a.numbers.spare_calls;
 }
 
--- departures by number go with the numbers of their keys
+-- the number of each departure is noted at its call
 pub record IsOrdered (a : Inside) : Type 0 where
-  -- what holds of the numbers
-  pub numbers : AreNumbers (loaded_keys a.numbered a.numbers) a.numbers
-  -- a departure that is there has the number of its key
-  pub keys : (i : ℕ) (d : Departure) → held a.numbered.entries i ≡ Some d
-      → HasNumber (loaded_keys a.numbered a.numbers) a.numbers d.key i
-  -- there is a slot for each number that was given or can be given
-  pub slots : length a.numbered.entries ≡ a.numbers.loaded + a.numbers.room
+  pub noted : (i : ℕ) (d : Departure) → held a.numbered.entries i ≡ Some d
+      → number_at a.numbers d.key.train d.key.label ≡ Some i
+  pub within : a.used ≤ length a.numbered.entries
+  pub unused : (n : ℕ) → a.used ≤ n → held a.numbered.entries n ≡ None

@@ -1,9 +1,13 @@
+pub mod CallNumbering
 pub mod Departing
+pub mod Held
 pub mod Inside
 pub mod Linked
 pub mod Loaded
 pub mod Numbered
-pub mod Numbering
 pub mod Ordered
 pub mod Scanned
+pub mod Slots
 pub mod Stored
+pub mod StoredCalls
+pub mod Tables

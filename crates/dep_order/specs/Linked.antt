@@ -5,10 +5,7 @@ use Rattle.std.specs.Prelude.{Some}
 use Rattle.std.specs.Option.{option_map_or}
 use Rattle.dep_order.specs.declared.departure.Departure.{Departure}
 use Rattle.dep_order.specs.Departing.{held, leaves_before}
-
--- what stands for no departure in a link
-abbrev pub nobody : ℕ
-nobody = 4294967295
+use Rattle.dep_order.specs.Slots.{nobody}
 
 abbrev pub leaves_after : Departure → Departure → Bool
 leaves_after a b = leaves_before b a

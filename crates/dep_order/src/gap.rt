@@ -1,7 +1,7 @@
 //! Where a departure belongs among those of its bucket.
 
 ghost use Rattle.std.specs.Prelude.{◌≡◌, ◌<◌, Some};
-ghost use Rattle.dep_order.specs.Departing.{IsNewKey};
+ghost use Rattle.dep_order.specs.Held.{IsNewKey};
 ghost use Rattle.dep_order.specs.Stored.{AreKept, IsNextIn, IsPreviousIn, bucket_count};
 ghost use Rattle.dep_order.specs.Stored.{entries_of};
 
@@ -27,22 +27,24 @@ impl Lists {
             };
         }
         'search: loop {
-            let front = &self.slots[after as usize];
-            if departure.leaves_before(&front.departure()) {
+            let front = self.slots.departure(after);
+            let front_before = self.slots.cold(after).before;
+            if departure.leaves_before(&front) {
                 return Gap {
-                    before: front.before,
+                    before: front_before,
                     after,
                 };
             }
-            let back = &self.slots[before as usize];
-            if back.departure().leaves_before(departure) {
+            let back = self.slots.departure(before);
+            let back_after = self.slots.hot(before).after;
+            if back.leaves_before(departure) {
                 return Gap {
                     before,
-                    after: back.after,
+                    after: back_after,
                 };
             }
-            after = front.after;
-            before = back.before;
+            after = self.slots.hot(after).after;
+            before = self.slots.cold(before).before;
         }
     }
 }

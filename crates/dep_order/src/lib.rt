@@ -1,19 +1,19 @@
-//! The departures in the order in which they take place now.
+//! The departures in the order in which they take place now, each with what its train does next.
 #![tactic(auto)]
 
 mod ahead;
+pub mod call_numbers;
 mod changes;
 pub mod departure;
 mod gap;
 mod links;
 mod lists;
 mod numbered;
-mod numbers;
 pub mod order;
 pub mod scan;
-mod search;
-mod slot;
+mod slot_table;
 
-pub use departure::Departure;
+pub use call_numbers::CallNumbers;
+pub use departure::{Departure, Leaving, Onward};
 pub use order::DepartureOrder;
 pub use scan::Departures;

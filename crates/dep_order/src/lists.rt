@@ -1,11 +1,13 @@
 //! Departures in slots by number, and the lists of those of each bucket.
 
-ghost use Rattle.std.specs.Prelude.{◌≡◌, ◌<◌, ◌≤◌, ◌^◌, IfOk, IsSome, None, false, length};
-ghost use Rattle.std.specs.Prelude.{replicate, true};
+ghost use Rattle.std.specs.Prelude.{◌≡◌, ◌<◌, ◌≤◌, ◌^◌, IfOk, None, get_or, length, replicate};
+ghost use Rattle.std.specs.Prelude.{slice_set};
 ghost use Rattle.dep_order.specs.Departing.{held};
-ghost use Rattle.dep_order.specs.Stored.{AreKept, entries_of, keys_of};
+ghost use Rattle.dep_order.specs.Ordered.{blank_onward};
+ghost use Rattle.dep_order.specs.Stored.{AreKept, entries_of, onwards_of};
 
-use crate::slot::Slot;
+use crate::departure::{Departure, Onward};
+use crate::slot_table::{NO_DEPARTURE, SlotTable};
 use mt_base::memory::OutOfMemory;
 use std::alloc::Global;
 
@@ -26,7 +28,7 @@ pub(crate) struct Bucket {
 /// last is for all later times too.
 #[derive(Drop)]
 pub(crate) struct Lists {
-    pub(crate) slots: Vec<Slot>,
+    pub(crate) slots: SlotTable,
     pub(crate) buckets: Vec<Bucket>,
 }
 
@@ -44,7 +46,6 @@ impl Lists {
         requires { room ≤ 2 ^ 22 }
         ensures kept { IfOk result (λ lists. AreKept lists) }
         ensures entries { IfOk result (λ lists. entries_of lists ≡ replicate room None) }
-        ensures keys { IfOk result (λ lists. length (keys_of lists) ≡ room) }
     {
         let buckets = (latest / BUCKET_SECONDS) as usize + 1;
         let bucket = Bucket {
@@ -52,7 +53,7 @@ impl Lists {
             last: NOBODY,
         };
         Ok(Lists {
-            slots: vec![in alloc; Slot::free(); room as usize]?,
+            slots: SlotTable::fresh(alloc, room)?,
             buckets: vec![in alloc; bucket; buckets]?,
         })
     }
@@ -61,21 +62,50 @@ impl Lists {
     pub(crate) fn copy(&self, alloc: Global) -> Result<Lists, OutOfMemory>
         ensures kept { AreKept self.now → IfOk result (λ copy. AreKept copy) }
         ensures entries { IfOk result (λ copy. entries_of copy ≡ entries_of self.now) }
-        ensures keys { IfOk result (λ copy. keys_of copy ≡ keys_of self.now) }
+        ensures onwards { IfOk result (λ copy. onwards_of copy ≡ onwards_of self.now) }
     {
         Ok(Lists {
-            slots: Vec::from_slice(alloc, &self.slots)?,
+            slots: self.slots.copy(alloc)?,
             buckets: Vec::from_slice(alloc, &self.buckets)?,
         })
     }
 
-    /// Whether a departure has a number.
-    #[inline(always)]
-    pub(crate) fn has(&self, number: u32) -> bool
-        requires { number < length (entries_of self.now) }
-        ensures yes { result ≡ true → IsSome (held (entries_of self.now) number) }
-        ensures no { result ≡ false → held (entries_of self.now) number ≡ None }
+    /// The departure that has a number, if there is one.
+    #[inline]
+    pub(crate) fn departure(&self, number: u32) -> Option<Departure>
+        ensures { result ≡ held (entries_of self.now) number }
     {
-        self.slots[number as usize].there
+        if number as usize >= self.slots.len() || self.slots.cold(number).before == NO_DEPARTURE {
+            return None;
+        }
+        Some(self.slots.departure(number))
+    }
+
+    /// What the train of the departure of a number does next.
+    #[inline]
+    pub(crate) fn onward(&self, number: u32) -> Onward
+        requires { number < length (onwards_of self.now) }
+        ensures { result ≡ get_or (onwards_of self.now) number blank_onward }
+    {
+        let hot = self.slots.hot(number);
+        Onward {
+            arrival: hot.arrival,
+            to: hot.to,
+            next: hot.next,
+        }
+    }
+
+    /// Lets the train of the departure of a number do something else next.
+    #[inline]
+    pub(crate) fn set_onward(&mut self, number: u32, onward: &Onward)
+        requires kept { AreKept self.old }
+        requires there { number < length (onwards_of self.old) }
+        requires next { onward.now.next ≤ length (onwards_of self.old) }
+        ensures kept { AreKept self.new }
+        ensures entries { entries_of self.new ≡ entries_of self.old }
+        ensures onwards { onwards_of self.new
+            ≡ slice_set (onwards_of self.old) number onward.now }
+    {
+        self.slots.set_onward(number, onward);
     }
 }

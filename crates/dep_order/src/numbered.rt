@@ -1,33 +1,31 @@
 //! Departures by number.
 
-ghost use Rattle.std.specs.Prelude.{◌≡◌, ℕ, ◌<◌, ◌≤◌, ◌^◌, IfNone, IfOk, IfSome, IsSome, None, Some};
-ghost use Rattle.std.specs.Prelude.{false, filter, length, nat_le, replicate, slice_get, slice_set};
-ghost use Rattle.std.specs.Prelude.{take, true};
-ghost use Rattle.std.specs.List.{AllPairs};
-ghost use Rattle.mt_base.specs.Order.{is_before};
-ghost use Rattle.dep_order.specs.Departing.{HaveDistinctKeys, IsFirst, IsNewKey, held};
-ghost use Rattle.dep_order.specs.Departing.{departures_in_order, leaves_before, with_time};
+ghost use Rattle.std.specs.Prelude.{◌≡◌, ℕ, ◌<◌, ◌≤◌, ◌^◌, All, IfOk, IsSome, None, Some, filter};
+ghost use Rattle.std.specs.Prelude.{get_or, length, map, nat_le, replicate, slice_get, slice_set};
+ghost use Rattle.std.specs.Prelude.{true};
+ghost use Rattle.dep_order.specs.declared.departure.Departure.{Departure as ADeparture};
+ghost use Rattle.dep_order.specs.Departing.{departures_in_order, held};
+ghost use Rattle.dep_order.specs.Held.{HaveDistinctCalls, IsNewCall, leaving_among, with_time};
+ghost use Rattle.dep_order.specs.Ordered.{blank_onward};
 
-use crate::ahead::Step;
-use crate::departure::Departure;
+use crate::departure::{Departure, Onward};
 use crate::lists::Lists;
 use crate::scan::Departures;
-use mt_base::keys::Key;
 use mt_base::memory::OutOfMemory;
 use mt_base::numbers::Time;
 use std::alloc::Global;
 use std::marker::Model;
 
-/// Departures by number, in the order of their times and then of their keys, which all differ. It
-/// is seen as the list, by number, of the departures that are there, and that of the keys of those
-/// that had the number last.
+/// Departures by number, in the order of their times and then of their keys, of which no two are
+/// of the same call. It is seen as the list, by number, of the departures that are there, and that
+/// of what their trains do next.
 #[derive(Drop)]
 pub(crate) struct NumberedDepartures {
     lists: Lists,
 }
 
 impl Model for NumberedDepartures {
-    ghost use Rattle.dep_order.specs.Departing.{Numbered, coded_numbered};
+    ghost use Rattle.dep_order.specs.Held.{Numbered, coded_numbered};
 
     ghost Value = { Numbered };
 
@@ -50,8 +48,7 @@ impl NumberedDepartures {
         latest: u32,
     ) -> Result<NumberedDepartures, OutOfMemory>
         requires { room ≤ 2 ^ 22 }
-        ensures entries { IfOk result (λ order. order.entries ≡ replicate room None) }
-        ensures keys { IfOk result (λ order. length order.keys ≡ room) }
+        ensures { IfOk result (λ order. order.entries ≡ replicate room None) }
     {
         Ok(NumberedDepartures {
             lists: Lists::empty(alloc, room, latest)?,
@@ -67,35 +64,48 @@ impl NumberedDepartures {
         })
     }
 
-    /// Whether a departure has a number.
-    #[inline(always)]
-    pub(crate) fn has(&self, number: u32) -> bool
-        requires { number < length self.now.entries }
-        ensures yes { result ≡ true → IsSome (held self.now.entries number) }
-        ensures no { result ≡ false → held self.now.entries number ≡ None }
+    /// How many numbers there are.
+    pub(crate) fn numbers(&self) -> u32
+        ensures { result ≡ length self.now.entries }
     {
-        self.lists.has(number)
+        self.lists.slots.len() as u32
     }
 
-    /// The number of a key among the first so many, which ascend. A number keeps the key of the
-    /// departure that had it last.
+    /// The departure that has a number, if there is one.
     #[inline]
-    pub(crate) fn find(&self, count: u32, key: &Key) -> Option<u32>
-        requires within { count ≤ length self.now.keys }
-        requires ascends { AllPairs (λ a b. is_before a b ≡ true) (take count self.now.keys) }
-        ensures some { IfSome result (λ n. slice_get (take count self.now.keys) n ≡ Some key.now) }
-        ensures none { IfNone result ((n : ℕ) → slice_get (take count self.now.keys) n
-            ≡ Some key.now → ⊥) }
+    pub(crate) fn departure(&self, number: u32) -> Option<Departure>
+        ensures { result ≡ held self.now.entries number }
     {
-        self.lists.find(count, key)
+        self.lists.departure(number)
+    }
+
+    /// What the train of the departure of a number does next.
+    #[inline]
+    pub(crate) fn onward(&self, number: u32) -> Onward
+        requires { number < length self.now.onwards }
+        ensures { result ≡ get_or self.now.onwards number blank_onward }
+    {
+        self.lists.onward(number)
+    }
+
+    /// Lets the train of the departure of a number do something else next.
+    #[inline]
+    pub(crate) fn set_onward(&mut self, number: u32, onward: &Onward)
+        requires there { number < length self.old.onwards }
+        requires next { onward.now.next ≤ length self.old.onwards }
+        ensures entries { self.new.entries ≡ self.old.entries }
+        ensures onwards { self.new.onwards ≡ slice_set self.old.onwards number onward.now }
+    {
+        self.lists.set_onward(number, onward);
     }
 
     /// Gives a departure a number that no departure has. It takes no memory.
     pub(crate) fn put(&mut self, number: u32, departure: Departure)
         requires free { slice_get self.old.entries number ≡ Some None }
-        requires new_key { IsNewKey self.old.entries departure.key }
+        requires new_call { IsNewCall self.old.entries departure.key }
+        requires departs { departure.key.dep ≡ true }
         ensures entries { self.new.entries ≡ slice_set self.old.entries number (Some departure) }
-        ensures keys { self.new.keys ≡ slice_set self.old.keys number departure.key }
+        ensures onwards { self.new.onwards ≡ self.old.onwards }
     {
         self.lists.insert(number, departure);
     }
@@ -104,7 +114,7 @@ impl NumberedDepartures {
     pub(crate) fn take(&mut self, number: u32)
         requires { IsSome (held self.old.entries number) }
         ensures entries { self.new.entries ≡ slice_set self.old.entries number None }
-        ensures keys { self.new.keys ≡ self.old.keys }
+        ensures onwards { self.new.onwards ≡ self.old.onwards }
     {
         self.lists.remove(number);
     }
@@ -115,45 +125,33 @@ impl NumberedDepartures {
     pub(crate) fn move_to(&mut self, number: u32, time: Time)
         requires { IsSome (held self.old.entries number) }
         ensures entries { self.new.entries ≡ with_time number time self.old.entries }
-        ensures keys { self.new.keys ≡ self.old.keys }
+        ensures onwards { self.new.onwards ≡ self.old.onwards }
     {
         self.lists.retime(number, time);
     }
 
-    /// The number of the first departure that does not take place before a time, or none where
-    /// all take place before it.
-    pub(crate) fn first_from(&self, time: Time) -> Option<u32>
-        ensures { IsFirst self.now.entries (λ d. nat_le time d.time) result }
-    {
-        self.lists.first_from(time)
-    }
-
-    /// The departure of a number, and the number of the departure after it.
-    #[inline(always)]
-    pub(crate) fn step(&self, number: u32) -> Step
-        requires { IsSome (held self.now.entries number) }
-        ensures departure { held self.now.entries number ≡ Some result.departure }
-        ensures next { IsFirst self.now.entries (leaves_before result.departure) result.next }
-    {
-        self.lists.step(number)
-    }
-
     /// The departures that do not take place before a time, one after another in their order.
     pub(crate) fn departures_from(&self, time: Time) -> Departures<'_>
-        ensures { result ≡ filter (λ d. nat_le time d.time)
-            (departures_in_order self.now.entries) }
+        ensures { result ≡ map (leaving_among self.now.entries self.now.onwards)
+            (filter (λ d. nat_le time d.time) (departures_in_order self.now.entries)) }
     {
-        self.keys_are_distinct();
+        let first = self.lists.first_from(time);
         Departures {
-            numbered: self,
-            number: self.first_from(time),
+            lists: &self.lists,
+            bucket: first.bucket,
+            number: first.number,
         }
     }
 
-    /// A law: no two departures have the same key.
+    /// A law: no two departures are of the same call; what holds of numbers.
     #[inline(always)]
-    pub(crate) fn keys_are_distinct(&self)
-        ensures { HaveDistinctKeys self.now.entries }
+    pub(crate) fn numbers_are_lawful(&self)
+        ensures calls { HaveDistinctCalls self.now.entries }
+        ensures departs { (i : ℕ) (d : ADeparture) → held self.now.entries i ≡ Some d
+            → d.key.dep ≡ true }
+        ensures onwards { length self.now.onwards ≡ length self.now.entries }
+        ensures few { length self.now.entries ≤ 2 ^ 22 }
+        ensures past { All (λ o. o.next ≤ length self.now.entries) self.now.onwards }
     {
         let _ = &self.lists;
     }

@@ -14,7 +14,9 @@ seen s = record {
   names = s.directory;
 }
 
--- there is room for answers over all its stops, and its names and its trains are in step
+-- there is room for a search over all its stops and departures, and its names and its trains are in
+-- step
 pub record IsReady (s : Inside) : Type 0 where
-  pub stops : length s.timetable.network.stops ≤ s.scratch.stops
+  pub stops : length s.timetable.network.stops ≤ s.scratch.room.stops
+  pub numbers : s.timetable.numbers ≤ s.scratch.room.numbers
   pub in_step : AreInStep s.directory s.timetable.state

@@ -13,10 +13,7 @@ use mt_base::memory::OutOfMemory;
 use mt_base::rows::Rows;
 use schedule_build::{Directory, ExtraName};
 use std::alloc::Global;
-use std::marker::Brand;
-use std::sync::ledger::{Blank, Ledger};
 use timetable::Timetable;
-use train_nodes::Steps;
 
 /// The name of the train that a message adds, if it adds one. `OutOfMemory` where there is no
 /// memory.
@@ -82,31 +79,26 @@ fn copy_rides(alloc: Global, rides: &[PlanRide]) -> Result<Rows<PlanRide>, OutOf
     Ok(Rows::build(copy))
 }
 
-/// The reply to a query by number, after so many accepted messages. The steps that it counts are
-/// not used.
-fn reply_to_query<L: Ledger>(
+/// The reply to a query by number, which stands in the line of this number and is answered after so
+/// many accepted messages. `OutOfMemory` where there is no memory.
+pub fn reply_to_asked(
     alloc: Global,
     timetable: &Timetable,
     scratch: &mut Scratch,
     number: u64,
     after: u64,
     asked: &AskedQuery,
-    blank: Blank,
 ) -> Result<Reply, OutOfMemory>
-    requires stops { length timetable.now.network.stops ≤ scratch.old.stops }
-
-    // the blank has the name and the parts of the ledger
-    requires name { blank.name ≡ L.name }
-    requires parts { blank.parts ≡ L.parts }
-    requires some { 0 < blank.parts }
+    // there is room for the search
+    requires stops { length timetable.now.network.stops ≤ scratch.old.room.stops }
+    requires numbers { timetable.now.numbers ≤ scratch.old.room.numbers }
 
     // the reply, and the room that stays
     ensures reply { IfOk result (IsReplyToQuery timetable.now.network timetable.now.state
         after number asked.now.day asked.now.query) }
-    ensures room { scratch.new.stops ≡ scratch.old.stops }
+    ensures room { scratch.new.room ≡ scratch.old.room }
 {
-    let mut steps = Steps::<L>::open(blank);
-    match earliest(timetable, &asked.query, scratch, &mut steps) {
+    match earliest(timetable, &asked.query, scratch) {
         Found::Arrives { at } => Ok(Reply::Journey {
             line: number,
             after,
@@ -119,30 +111,4 @@ fn reply_to_query<L: Ledger>(
             after,
         }),
     }
-}
-
-/// The reply to a query by number, which stands in the line of this number and is answered after so
-/// many accepted messages. `OutOfMemory` where there is no memory.
-pub fn reply_to_asked(
-    alloc: Global,
-    timetable: &Timetable,
-    scratch: &mut Scratch,
-    number: u64,
-    after: u64,
-    asked: &AskedQuery,
-) -> Result<Reply, OutOfMemory>
-    requires stops { length timetable.now.network.stops ≤ scratch.old.stops }
-    ensures reply { IfOk result (IsReplyToQuery timetable.now.network timetable.now.state
-        after number asked.now.day asked.now.query) }
-    ensures room { scratch.new.stops ≡ scratch.old.stops }
-{
-    reply_to_query::<Brand>(
-        alloc,
-        timetable,
-        scratch,
-        number,
-        after,
-        asked,
-        Blank::new(1),
-    )
 }

@@ -35,14 +35,11 @@ impl Model for InformationService {
 }
 
 impl InformationService {
-    /// A timetable with its names. The search for journeys remembers where it has been of trains
-    /// below the number `trains`; for others it only takes longer. `OutOfMemory` where there is no
-    /// memory.
+    /// A timetable with its names. `OutOfMemory` where there is no memory.
     pub fn build(
         alloc: Global,
         timetable: Timetable,
         directory: Directory,
-        trains: u32,
     ) -> Result<InformationService, OutOfMemory>
         requires in_step { AreInStep directory timetable.state }
         ensures { IfOk result (λ s. s ≡ record {
@@ -53,7 +50,7 @@ impl InformationService {
         }) }
     {
         let stops = timetable.graph().changes().stops();
-        let scratch = Scratch::build(alloc, stops, trains)?;
+        let scratch = Scratch::build(alloc, stops, timetable.numbers())?;
         Ok(InformationService {
             timetable,
             directory,

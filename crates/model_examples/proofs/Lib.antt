@@ -1,3 +1,4 @@
 pub mod Words
 pub mod Compute
 pub mod Rides
+mod TwoTrainRides

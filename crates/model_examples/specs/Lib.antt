@@ -1,1 +1,2 @@
 pub mod TwoTrains
+pub mod Claims

@@ -4,6 +4,7 @@
 //! the train 0 calls at A, B and C, the train 1 at B and D.
 #![tactic(auto)]
 
+pub mod certificates;
 pub mod changes;
 pub mod corrections;
 pub mod feed;

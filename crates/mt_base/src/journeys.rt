@@ -1,6 +1,7 @@
 //! Queries, and the rides of the journeys that answer them.
 
 use crate::numbers::{Label, StopNo, Time, TrainNo};
+use crate::rows::Rows;
 
 /// A passenger's wish to travel: from where, to where, and from what time on.
 #[derive(Clone, Copy, Debug, PartialEq, Eq)]
@@ -38,4 +39,14 @@ pub struct PlanRide {
 
     /// When the train arrives there.
     pub alight_time: Time,
+}
+
+/// A journey, and when it arrives.
+#[derive(Drop)]
+pub struct Plan {
+    /// When it arrives, in seconds from the base of day 0.
+    pub arrives: Time,
+
+    /// Its rides, in their order.
+    pub rides: Rows<PlanRide>,
 }

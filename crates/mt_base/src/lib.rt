@@ -3,6 +3,7 @@
 #![tactic(auto)]
 
 pub mod calendar;
+pub mod certificates;
 pub mod index_entries;
 pub mod journeys;
 pub mod keys;
@@ -17,8 +18,9 @@ pub mod tables;
 pub mod texts;
 
 pub use calendar::civil;
+pub use certificates::{Cert, CertRide, Reach};
 pub use index_entries::Entry;
-pub use journeys::{PlanRide, Query};
+pub use journeys::{Plan, PlanRide, Query};
 pub use keys::{Key, Node};
 pub use memory::OutOfMemory;
 pub use names::Name;

@@ -1,5 +1,5 @@
 -- Entries that are taken place by place.
-use Rattle.query_crew.proofs.Words.{◌≡◌, ◌<◌, ◌≤◌, ◌%◌, ◌⊎◌, ⊎_elim, ℕ, zero, suc, ◌+◌, List, [], ◌∷◌, ◌++◌, length, slice_get, set, Option, Some, None, IsSome, refl, sym, ap, subst, ◌∙◌, arith, length-set, get_or-set_other, same_Some, sum, Reply, WindowLine, answer_for, chosen, reply_for, AreJoined}
+use Rattle.query_crew.proofs.Words.{◌≡◌, ◌<◌, ◌≤◌, ◌%◌, ⊎_elim, ℕ, zero, suc, ◌+◌, List, [], ◌∷◌, ◌++◌, length, slice_get, set, Option, Some, None, IsSome, refl, sym, ap, ◌∙◌, arith, length-set, get_or-set_other, same_Some, sum, Reply, WindowLine, answer_for, chosen, reply_for, AreJoined}
 use Rattle.std.proofs.Common.{get_or}
 use Rattle.query_crew.specs.declared.window_line.WindowLine.TheVariants as shown
 use Rattle.query_crew.specs.Joining.{IsSameBehind}

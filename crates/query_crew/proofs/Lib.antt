@@ -10,6 +10,7 @@ pub mod WorkLemmas
 pub mod Taking
 pub mod PostingLemmas
 pub mod Putting
+pub mod Keeping
 pub mod PostedStates
 pub mod Joined
 pub mod Joins

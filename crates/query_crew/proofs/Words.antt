@@ -23,7 +23,7 @@ pub use Rattle.message_reader.specs.declared.wire.WireQuery.{WireQuery}
 pub use Rattle.mt_io.specs.Lines.{Line}
 pub use Rattle.mt_io.specs.Reader.{GivesNext, Reader}
 pub use Rattle.query_crew.specs.Joining.{AreJoined, answer_for, chosen, reply_for}
-pub use Rattle.query_crew.specs.Posted.{HasFewStops, IsAnswerAt, timetable_after}
+pub use Rattle.query_crew.specs.Posted.{HasSearchRoom, IsAnswerAt, IsRoomFor, timetable_after}
 pub use Rattle.query_crew.specs.Posting.{ArePosted, IsTaken, StandsAt, after_lines, after_shown, message_shown, publisher_replies, publisher_reply}
 pub use Rattle.query_crew.specs.Served.{AreRepliesFrom, AreServed, AreWindowReplies, IsQueryReply, IsReplyAt, shown_count, text_from, text_of_replies}
 pub use Rattle.query_crew.specs.WindowLines.{is_flush_line, window_line, window_lines}

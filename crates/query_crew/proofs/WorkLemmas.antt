@@ -1,8 +1,9 @@
 -- Answers of a worker, one line more at a time.
-use Rattle.query_crew.proofs.Words.{◌≡◌, ℕ, zero, suc, ◌+◌, ◌<◌, ◌≤◌, List, [], ◌∷◌, ◌++◌, length, take, Option, Some, None, Result, Ok, Err, refl, sym, ap, subst, ◌∙◌, ◌⊎◌, ⊎_elim, inl, inr, arith, length-append, slice_get, IfOk, Bool, true, false, is_none, fold, append-nil, slice_get-get_or, same_Some, take-append-le, IsPrefix, Message, Reply, BadLine, AskedQuery, Network, refusal, IsReplyToQuery, TimetableState, taken, stepped, WindowLine, HasFewStops, IsAnswerAt, timetable_after, shown_count, asked_of, IsEntry, HasAnswered, HasAnsweredAll}
+use Rattle.query_crew.proofs.Words.{◌≡◌, ℕ, zero, suc, ◌+◌, ◌<◌, ◌≤◌, List, [], ◌∷◌, ◌++◌, length, take, Option, Some, None, Result, Ok, Err, refl, sym, ap, subst, ◌∙◌, ◌⊎◌, ⊎_elim, inl, inr, arith, length-append, slice_get, IfOk, Bool, true, false, is_none, fold, append-nil, slice_get-get_or, same_Some, take-append-le, IsPrefix, Message, Reply, AskedQuery, Network, refusal, IsReplyToQuery, TimetableState, taken, stepped, WindowLine, HasSearchRoom, IsRoomFor, IsAnswerAt, timetable_after, shown_count, asked_of, IsEntry, HasAnswered, HasAnsweredAll}
 use Rattle.std.proofs.Common.{get_or, if◌then◌else◌, take_all}
 use Rattle.query_crew.specs.Working.{IsNewEntry, IsPushed, CountsRise}
 use Rattle.query_crew.proofs.ServedLemmas.{count-of}
+use Rattle.conn_scan.specs.ScratchState.{ScratchRoom}
 use Rattle.snapshot_board.specs.Knowledge.{Knowledge}
 use Rattle.query_crew.specs.Working.{HasWorked, IsWithin}
 
@@ -131,11 +132,22 @@ pub network-kept : (list : List Message) (t : TimetableState) → (fold taken t 
 network-kept [] t = refl
 network-kept (m ∷ list) t = network-kept list (taken t m) ∙ network-if (is_none (refusal t.network t.state m)) (stepped t m) t refl
 
-pub few-stops : (o : Option TimetableState) (stops : ℕ) (list : List Message) (t : TimetableState) → HasFewStops o stops → timetable_after o list ≡ Some t → length t.network.stops ≤ stops
-few-stops None stops list t few is = absurd cc
-few-stops (Some s) stops list t few is =
-    let same : t.network ≡ s.network = ap (λ (u : TimetableState). u.network) (sym (same_Some (fold taken s list) t is)) ∙ network-kept list s in
-    subst (λ (nw : Network). length nw.stops ≤ stops) (sym same) (few s refl)
+-- nor how many numbers departures can have
+numbers-if : (b : Bool) (t u : TimetableState) → t.numbers ≡ u.numbers → (if b then t else u).numbers ≡ u.numbers
+numbers-if true t u same = same
+numbers-if false t u same = refl
+
+numbers-kept : (list : List Message) (t : TimetableState) → (fold taken t list).numbers ≡ t.numbers
+numbers-kept [] t = refl
+numbers-kept (m ∷ list) t = numbers-kept list (taken t m) ∙ numbers-if (is_none (refusal t.network t.state m)) (stepped t m) t refl
+
+pub search-room : (o : Option TimetableState) (room : ScratchRoom) (list : List Message) (t : TimetableState) → HasSearchRoom o room → timetable_after o list ≡ Some t → IsRoomFor t room
+search-room None room list t fits is = absurd cc
+search-room (Some s) room list t fits is =
+    let network : t.network ≡ s.network = ap (λ (u : TimetableState). u.network) (sym (same_Some (fold taken s list) t is)) ∙ network-kept list s in
+    let numbers : t.numbers ≡ s.numbers = ap (λ (u : TimetableState). u.numbers) (sym (same_Some (fold taken s list) t is)) ∙ numbers-kept list s in
+    let own = fits s refl in
+    record { stops = subst (λ (nw : Network). length nw.stops ≤ room.stops) (sym network) own.stops; numbers = subst (λ n. n ≤ room.numbers) (sym numbers) own.numbers }
 
 -- a reply in the timetable after the whole list
 pub whole-answer : (o : Option TimetableState) (list : List Message) (number : ℕ) (asked : AskedQuery) (t : TimetableState) (r : Reply) → timetable_after o list ≡ Some t → IsReplyToQuery t.network t.state (length list) number asked.day asked.query r

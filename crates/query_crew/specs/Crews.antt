@@ -11,7 +11,7 @@ use Rattle.schedule_build.specs.Directory.{Names}
 use Rattle.snapshot_board.specs.Knowledge.{Knowledge}
 use Rattle.timetable.specs.TimetableState.{TimetableState}
 use Rattle.query_crew.specs.declared.crew.Crew.{Crew}
-use Rattle.query_crew.specs.Posted.{HasFewStops}
+use Rattle.query_crew.specs.Posted.{HasSearchRoom}
 use Rattle.query_crew.specs.Posting.{HasService, StandsAt}
 use Rattle.query_crew.specs.Served.{AreWindowReplies}
 use Rattle.query_crew.specs.WindowLines.{window_lines}
@@ -24,7 +24,7 @@ pub record IsReady (o : Option TimetableState)
   pub board : HasService o crew.publisher crew.directory
   pub some : 1 ≤ vec_len crew.workers
   pub few : vec_len crew.workers < 2 ^ 32
-  pub room : All (λ w. HasFewStops o w.scratch.stops) crew.workers.items
+  pub room : All (λ w. HasSearchRoom o w.scratch.room) crew.workers.items
 
 -- these are replies to the lines of a window, of which `first` lines of the input stand before it:
 -- whatever timetable, names and lines before the window the board stands at

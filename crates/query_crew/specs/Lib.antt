@@ -8,3 +8,4 @@ pub mod Posting
 pub mod Working
 pub mod Joining
 pub mod Crews
+pub mod Keeping

@@ -1,9 +1,10 @@
 //! How the queries of a window are answered: by workers, each in a thread of its own, or by the
 //! publisher.
 
-ghost use Rattle.std.specs.Prelude.{◌≡◌, ℕ, ◌+◌, ◌^◌, ◌<◌, ◌≤◌, true, IfOk, length, slice_index_or};
+ghost use Rattle.std.specs.Prelude.{◌≡◌, ℕ, ◌+◌, ◌^◌, ◌<◌, ◌≤◌, true, IfOk, is_some, length, slice_index_or};
 ghost use mathlib.Core.List.{IsPrefix};
-ghost use Rattle.query_crew.specs.Posted.{HasFewStops};
+ghost use Rattle.query_crew.specs.Keeping.{IsKept, AreKept};
+ghost use Rattle.query_crew.specs.Posted.{HasSearchRoom};
 ghost use Rattle.query_crew.specs.Working.{IsNewEntry, HasAnswered, HasAnsweredAll, HasWorked, IsWithin};
 
 use crate::window_line::WindowLine;
@@ -37,10 +38,10 @@ fn work_on<H: Opening<Timetable>, R: Wait, G: Gate>(
 )
     requires some { 1 ≤ workers }
     requires numbers { first + length lines.now < 2 ^ 64 }
-    requires room { HasFewStops H.opening worker.old.scratch.stops }
+    requires room { HasSearchRoom H.opening worker.old.scratch.room }
     ensures worked { worker.new.is_whole ≡ true → HasWorked H.opening note.now worker.new.viewer
         first me workers lines.now worker.new.answers.items }
-    ensures room { worker.new.scratch.stops ≡ worker.old.scratch.stops }
+    ensures kept { IsKept worker.old worker.new }
 {
     replace_with(worker, (), |worker, _nothing| {
         (
@@ -67,14 +68,12 @@ pub(crate) fn answer_all<
     requires few { length all.old < 2 ^ 32 }
     requires numbers { first + length lines.now < 2 ^ 64 }
     requires room { (i : ℕ) (d : _) → i < length all.old
-        → HasFewStops H.opening (slice_index_or all.old i d).scratch.stops }
+        → HasSearchRoom H.opening (slice_index_or all.old i d).scratch.room }
     ensures worked { (i : ℕ) (d : _) → i < length all.old
         → (slice_index_or all.new i d).is_whole ≡ true
         → HasWorked H.opening note.now (slice_index_or all.new i d).viewer first i
         (length all.old) lines.now (slice_index_or all.new i d).answers.items }
-    ensures room { (i : ℕ) (d : _) → i < length all.old
-        → HasFewStops H.opening (slice_index_or all.new i d).scratch.stops }
-    ensures same { length all.new ≡ length all.old }
+    ensures kept { AreKept all.old all.new }
 {
     if all.is_empty() {
         return;
@@ -86,11 +85,11 @@ pub(crate) fn answer_all<
         all.len(),
         &|i: usize, worker: &mut Worker<Viewer<Timetable, H>>|
             requires { (1 ≤ workers) × (i < 2 ^ 32) × (first + length lines.now < 2 ^ 64)
-                × HasFewStops H.opening worker.now.scratch.stops }
+                × HasSearchRoom H.opening worker.now.scratch.room }
             ensures { (worker.exit.now.is_whole ≡ true → HasWorked H.opening note.entry.now
                 worker.exit.now.viewer first i workers lines.entry.now
                 worker.exit.now.answers.items)
-                × HasFewStops H.opening worker.exit.now.scratch.stops }
+                × IsKept worker.entry.now worker.exit.now }
         {
             work_on(
                 rt, alloc, worker, lines, first, note, i as u32, workers, gate,
@@ -107,10 +106,10 @@ fn answer_here<H: Opening<Timetable>>(
     number: u64,
     asked: &Option<AskedQuery>,
 ) -> Result<Option<Reply>, OutOfMemory>
-    requires room { HasFewStops H.opening scratch.old.stops }
+    requires room { HasSearchRoom H.opening scratch.old.room }
     ensures entry { IfOk result (IsNewEntry H.opening publisher.now publisher.now number
         asked.now) }
-    ensures room { scratch.new.stops ≡ scratch.old.stops }
+    ensures room { scratch.new.room ≡ scratch.old.room }
 {
     if let Some(query) = asked {
         let after = publisher.count();
@@ -134,10 +133,10 @@ fn answer_own<H: Opening<Timetable>>(
 ) -> bool
     requires some { 1 ≤ workers }
     requires numbers { first + length lines.now < 2 ^ 64 }
-    requires room { HasFewStops H.opening scratch.old.stops }
+    requires room { HasSearchRoom H.opening scratch.old.room }
     ensures answered { result ≡ true → HasAnsweredAll H.opening publisher.now
         (length publisher.now) first me workers lines.now answers.new.items }
-    ensures room { scratch.new.stops ≡ scratch.old.stops }
+    ensures room { scratch.new.room ≡ scratch.old.room }
 {
     answers.clear();
     for (i, line) in lines.iter().enumerate() {
@@ -157,7 +156,8 @@ fn is_within<H: Opening<Timetable>>(
     publisher: &Publisher<Timetable, H>,
     viewer: &mut Option<Viewer<Timetable, H>>,
 ) -> bool
-    ensures { IsWithin result viewer.old publisher.now }
+    ensures within { IsWithin result viewer.old publisher.now }
+    ensures kept { is_some viewer.new ≡ is_some viewer.old }
 {
     if let Some(viewer) = viewer {
         return matches!(
@@ -188,12 +188,12 @@ pub(crate) fn settle<H: Opening<Timetable>>(
     // room for the answers
     requires some { 1 ≤ workers }
     requires numbers { first + length lines.now < 2 ^ 64 }
-    requires room { HasFewStops H.opening worker.old.scratch.stops }
+    requires room { HasSearchRoom H.opening worker.old.scratch.room }
 
     // the answers over what was posted
     ensures answered { result ≡ true → HasAnsweredAll H.opening publisher.now (length start.now)
         first me workers lines.now worker.new.answers.items }
-    ensures room { worker.new.scratch.stops ≡ worker.old.scratch.stops }
+    ensures kept { IsKept worker.old worker.new }
 {
     if is_within(publisher, &mut worker.viewer) {
         return worker.is_whole;

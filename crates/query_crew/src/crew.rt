@@ -1,9 +1,10 @@
 //! A crew: a publisher of messages, and workers that answer queries beside it.
 
-ghost use Rattle.std.specs.Prelude.{◌≡◌, ◌≤◌, [], All, Some, IfOk, OnOk, vec_len};
+ghost use Rattle.std.specs.Prelude.{◌≡◌, ◌≤◌, [], All, Some, IfOk, IsSome, OnOk, vec_len};
 ghost use mathlib.Core.List.{IsPrefix};
 ghost use Rattle.schedule_build.specs.InStep.{AreInStep};
 ghost use Rattle.query_crew.specs.Crews.{IsReady, AreRepliesTo, StandsBehind};
+ghost use Rattle.query_crew.specs.Keeping.{AreKept, HaveViewers};
 ghost use Rattle.query_crew.specs.Posting.{CanBeRun};
 
 use crate::window_line::WindowLine;
@@ -40,22 +41,23 @@ fn build_workers<V: Drop>(
     viewers: &mut Vec<V>,
     workers: u32,
     stops: u32,
-    trains: u32,
+    numbers: u32,
 ) -> Result<Vec<Worker<V>>, OutOfMemory>
     ensures count { IfOk result (λ all. vec_len all ≡ workers) }
-    ensures room { IfOk result (λ all. All (λ w. w.scratch.stops ≡ stops) all.items) }
+    ensures viewers { IfOk result (λ all. HaveViewers (vec_len viewers.old) all.items) }
+    ensures room { IfOk result (λ all. All (λ w. w.scratch.room
+        ≡ record { stops = stops; numbers = numbers }) all.items) }
 {
     let mut all = Vec::with_capacity(alloc, workers as usize)?;
     for _ in 0..workers {
-        all.push(Worker::build(alloc, viewers.pop(), stops, trains)?)?;
+        all.push(Worker::build(alloc, viewers.pop(), stops, numbers)?)?;
     }
     Ok(all)
 }
 
 impl<H: Opening<Timetable> + Send + Sync> Crew<Publisher<Timetable, H>, Viewer<Timetable, H>> {
-    /// A crew of so many workers, each with a viewer of its own. No message was posted yet. The
-    /// search for journeys remembers where it has been of trains below the number `trains`; for
-    /// others it only takes longer. `OutOfMemory` where there is no memory.
+    /// A crew of so many workers, each with a viewer of its own. No message was posted yet.
+    /// `OutOfMemory` where there is no memory.
     pub fn build<R: Wait>(
         rt: &R,
         alloc: Global,
@@ -63,7 +65,6 @@ impl<H: Opening<Timetable> + Send + Sync> Crew<Publisher<Timetable, H>, Viewer<T
         timetable: Timetable,
         directory: Directory,
         workers: u32,
-        trains: u32,
     ) -> Result<Crew<Publisher<Timetable, H>, Viewer<Timetable, H>>, OutOfMemory>
         // the history of the board, and how it opens
         requires book { history ≡ H.book }
@@ -74,15 +75,15 @@ impl<H: Opening<Timetable> + Send + Sync> Crew<Publisher<Timetable, H>, Viewer<T
         requires some { 1 ≤ workers }
         requires few { workers ≤ 16 }
 
-        // nothing was posted, these names are known, and so many workers are ready
+        // nothing was posted, these names are known, and so many workers are ready, each of which
+        // has a viewer
         ensures posted { IfOk result (λ crew. crew.publisher ≡ []) }
         ensures names { IfOk result (λ crew. crew.directory ≡ directory) }
         ensures workers { IfOk result (λ crew. vec_len crew.workers ≡ workers) }
+        ensures viewers { IfOk result (λ crew. All (λ w. IsSome w.viewer) crew.workers.items) }
         ensures ready { IfOk result (IsReady H.opening) }
     {
-        Crew::build_limited(
-            rt, alloc, history, timetable, directory, workers, workers, trains,
-        )
+        Crew::build_limited(rt, alloc, history, timetable, directory, workers, workers)
     }
 
     /// The same, but only the first workers have a viewer: as many as `viewers`. The publisher
@@ -95,7 +96,6 @@ impl<H: Opening<Timetable> + Send + Sync> Crew<Publisher<Timetable, H>, Viewer<T
         directory: Directory,
         workers: u32,
         viewers: u32,
-        trains: u32,
     ) -> Result<Crew<Publisher<Timetable, H>, Viewer<Timetable, H>>, OutOfMemory>
         // the history of the board, and how it opens
         requires book { history ≡ H.book }
@@ -106,21 +106,22 @@ impl<H: Opening<Timetable> + Send + Sync> Crew<Publisher<Timetable, H>, Viewer<T
         requires some { 1 ≤ workers }
         requires few { workers ≤ 16 }
 
-        // nothing was posted, these names are known, and so many workers are ready
+        // nothing was posted, these names are known, so many workers are ready, and so many of them
+        // have a viewer
         ensures posted { IfOk result (λ crew. crew.publisher ≡ []) }
         ensures names { IfOk result (λ crew. crew.directory ≡ directory) }
         ensures workers { IfOk result (λ crew. vec_len crew.workers ≡ workers) }
+        ensures viewers { IfOk result (λ crew. HaveViewers viewers crew.workers.items) }
         ensures ready { IfOk result (IsReady H.opening) }
     {
         let stops = timetable.graph().changes().stops();
+        let numbers = timetable.numbers();
         let copy = timetable.copy(alloc)?;
         // a board has one viewer at least, and nobody looks with one that is not given to a worker
         let seats = viewers.min(workers).max(1);
         let (publisher, mut all) = open_board(rt, alloc, history, timetable, copy, seats)?;
-        if viewers == 0 {
-            all.clear();
-        }
-        match build_workers(alloc, &mut all, workers, stops, trains) {
+        all.truncate(viewers as usize);
+        match build_workers(alloc, &mut all, workers, stops, numbers) {
             Ok(workers) => Ok(Crew {
                 publisher,
                 directory,
@@ -137,8 +138,8 @@ impl<H: Opening<Timetable> + Send + Sync> Crew<Publisher<Timetable, H>, Viewer<T
     /// number of lines before the window. Each message that is accepted is posted, in line order;
     /// beside it each worker with a viewer answers the queries of its clients, in line order, each
     /// by a look of its own. The publisher answers the other queries when the messages are posted.
-    /// The gate is called after each post and before each look. `OutOfMemory` where there is no
-    /// memory; then the crew can only be closed.
+    /// The gate is called behind each message that was posted and before each look of a worker, and
+    /// nowhere else. `OutOfMemory` where there is no memory; then the crew can only be closed.
     pub fn run_window<R: Threads + Wait + Sync, G: Gate + Sync>(
         &mut self,
         rt: &R,
@@ -156,10 +157,11 @@ impl<H: Opening<Timetable> + Send + Sync> Crew<Publisher<Timetable, H>, Viewer<T
         ensures stands { OnOk result (StandsBehind H.opening self.old.publisher self.new.publisher
             self.old.directory self.new.directory first lines.now) }
 
-        // nothing that was posted is taken back, and the crew is ready for the next window
+        // nothing that was posted is taken back, the same workers have a viewer, and the crew is
+        // ready for the next window
         ensures later { IsPrefix self.old.publisher self.new.publisher }
+        ensures kept { AreKept self.old.workers.items self.new.workers.items }
         ensures ready { OnOk result (IsReady H.opening self.new) }
-        ensures workers { OnOk result (vec_len self.new.workers ≡ vec_len self.old.workers) }
     {
         run_lines(
             rt,

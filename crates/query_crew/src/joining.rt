@@ -3,6 +3,7 @@
 ghost use Rattle.std.specs.Prelude.{◌≡◌, ℕ, ◌^◌, ◌<◌, ◌≤◌, List, None, Some, IfOk, IsSome, length, get_or, slice_get, slice_index_or};
 ghost use Rattle.query_crew.specs.declared.window_line.WindowLine.{WindowLine as ALine};
 ghost use Rattle.query_crew.specs.Joining.{answer_for, chosen, reply_for, IsSameBehind, AreJoined};
+ghost use Rattle.query_crew.specs.Keeping.{IsKept, AreKept};
 
 use crate::clients::worker_of;
 use crate::window_line::WindowLine;
@@ -16,7 +17,7 @@ fn take_entry<V: Drop>(worker: &mut Worker<V>, place: usize) -> Option<Reply>
     requires { place < length worker.old.answers.items }
     ensures taken { result ≡ get_or worker.old.answers.items place None }
     ensures others { IsSameBehind place worker.old.answers.items worker.new.answers.items }
-    ensures scratch { worker.new.scratch ≡ worker.old.scratch }
+    ensures kept { IsKept worker.old worker.new }
 {
     worker.answers[place].take()
 }
@@ -31,9 +32,7 @@ fn take_answer<V: Drop>(all: &mut [Worker<V>], line: &WindowLine, place: usize) 
         (λ k. (slice_index_or all.old k d).answers.items) (length all.old) line.now place }
     ensures others { (k : ℕ) (d : _) → k < length all.old → IsSameBehind place
         (slice_index_or all.old k d).answers.items (slice_index_or all.new k d).answers.items }
-    ensures scratch { (k : ℕ) (d : _) → k < length all.old
-        → (slice_index_or all.new k d).scratch ≡ (slice_index_or all.old k d).scratch }
-    ensures same { length all.new ≡ length all.old }
+    ensures kept { AreKept all.old all.new }
 {
     if let WindowLine::Query(query) = line {
         let me = worker_of(query.client.text(), all.len() as u32) as usize;
@@ -57,9 +56,7 @@ fn take_reply<V: Drop>(
         (λ k. (slice_index_or all.old k d).answers.items) (length all.old) line.now place) }
     ensures others { (k : ℕ) (d : _) → k < length all.old → IsSameBehind place
         (slice_index_or all.old k d).answers.items (slice_index_or all.new k d).answers.items }
-    ensures scratch { (k : ℕ) (d : _) → k < length all.old
-        → (slice_index_or all.new k d).scratch ≡ (slice_index_or all.old k d).scratch }
-    ensures same { length all.new ≡ length all.old }
+    ensures kept { AreKept all.old all.new }
 {
     match own {
         Some(reply) => Some(reply),
@@ -90,9 +87,7 @@ pub(crate) fn join_replies<V: Drop>(
     ensures one_each { IfOk result (λ replies. length replies.items ≡ length lines.now) }
     ensures each { IfOk result (λ replies. (d : _) → AreJoined lines.now own.old.items
         (λ k. (slice_index_or all.old k d).answers.items) (length all.old) replies.items) }
-    ensures scratch { (k : ℕ) (d : _) → k < length all.old
-        → (slice_index_or all.new k d).scratch ≡ (slice_index_or all.old k d).scratch }
-    ensures same { length all.new ≡ length all.old }
+    ensures kept { AreKept all.old all.new }
 {
     let mut replies = Vec::with_capacity(alloc, lines.len())?;
     for (i, line) in lines.iter().enumerate() {

@@ -4,7 +4,8 @@
 ghost use Rattle.std.specs.Prelude.{◌≡◌, ℕ, ◌+◌, ◌^◌, ◌<◌, ◌≤◌, true, IfOk, OnOk, length, slice_index_or};
 ghost use mathlib.Core.List.{IsPrefix};
 ghost use Rattle.query_crew.specs.Crews.{AreRepliesTo, StandsBehind};
-ghost use Rattle.query_crew.specs.Posted.{HasFewStops};
+ghost use Rattle.query_crew.specs.Keeping.{AreKept};
+ghost use Rattle.query_crew.specs.Posted.{HasSearchRoom};
 ghost use Rattle.query_crew.specs.Posting.{HasService, CanBeRun, AreLinesPosted};
 ghost use Rattle.query_crew.specs.Working.{HasAnsweredAll, HasWorked};
 
@@ -40,7 +41,7 @@ fn run_beside<H: Opening<Timetable> + Send + Sync, R: Threads + Wait + Sync, G: 
     requires ready { CanBeRun H.opening publisher.old directory.old first lines.now }
     requires few { length all.old < 2 ^ 32 }
     requires room { (i : ℕ) (d : _) → i < length all.old
-        → HasFewStops H.opening (slice_index_or all.old i d).scratch.stops }
+        → HasSearchRoom H.opening (slice_index_or all.old i d).scratch.room }
 
     // what was posted and replied
     ensures posted { OnOk result (AreLinesPosted H.opening first lines.now publisher.old
@@ -52,9 +53,7 @@ fn run_beside<H: Opening<Timetable> + Send + Sync, R: Threads + Wait + Sync, G: 
         → (slice_index_or all.new i d).is_whole ≡ true
         → HasWorked H.opening publisher.old (slice_index_or all.new i d).viewer first i
         (length all.old) lines.now (slice_index_or all.new i d).answers.items }
-    ensures room { (i : ℕ) (d : _) → i < length all.old
-        → HasFewStops H.opening (slice_index_or all.new i d).scratch.stops }
-    ensures same { length all.new ≡ length all.old }
+    ensures kept { AreKept all.old all.new }
 {
     let note = publisher.tell();
     let (_, posted) = join_mut(
@@ -62,15 +61,13 @@ fn run_beside<H: Opening<Timetable> + Send + Sync, R: Threads + Wait + Sync, G: 
         &mut ||
             requires { (length all.now < 2 ^ 32) × (first + length lines.now < 2 ^ 64)
                 × ((i : ℕ) (d : _) → i < length all.now
-                → HasFewStops H.opening (slice_index_or all.now i d).scratch.stops) }
+                → HasSearchRoom H.opening (slice_index_or all.now i d).scratch.room) }
             ensures { ((i : ℕ) (d : _) → i < length all.entry.now
                 → (slice_index_or all.exit.now i d).is_whole ≡ true
                 → HasWorked H.opening note (slice_index_or all.exit.now i d).viewer first i
                 (length all.entry.now) lines.entry.now
                 (slice_index_or all.exit.now i d).answers.items)
-                × ((i : ℕ) (d : _) → i < length all.entry.now
-                → HasFewStops H.opening (slice_index_or all.exit.now i d).scratch.stops)
-                × (length all.exit.now ≡ length all.entry.now) }
+                × AreKept all.entry.now all.exit.now }
         { answer_all(rt, alloc, all, lines, first, &note, gate) },
         &mut || -> Result<(), OutOfMemory>
             requires { CanBeRun H.opening publisher.now directory.now first lines.now }
@@ -100,13 +97,11 @@ fn settle_all<H: Opening<Timetable>>(
     requires numbers { first + length lines.now < 2 ^ 64 }
     requires few { length all.old < 2 ^ 32 }
     requires room { (i : ℕ) (d : _) → i < length all.old
-        → HasFewStops H.opening (slice_index_or all.old i d).scratch.stops }
+        → HasSearchRoom H.opening (slice_index_or all.old i d).scratch.room }
     ensures answered { result ≡ true → ((i : ℕ) (d : _) → i < length all.old
         → HasAnsweredAll H.opening publisher.now (length start.now) first i (length all.old)
         lines.now (slice_index_or all.new i d).answers.items) }
-    ensures room { (i : ℕ) (d : _) → i < length all.old
-        → HasFewStops H.opening (slice_index_or all.new i d).scratch.stops }
-    ensures same { length all.new ≡ length all.old }
+    ensures kept { AreKept all.old all.new }
 {
     let workers = all.len() as u32;
     for i in 0..all.len() {
@@ -144,7 +139,7 @@ fn post_and_answer<H: Opening<Timetable> + Send + Sync, R: Threads + Wait + Sync
     requires ready { CanBeRun H.opening publisher.old directory.old first lines.now }
     requires few { length all.old < 2 ^ 32 }
     requires room { (i : ℕ) (d : _) → i < length all.old
-        → HasFewStops H.opening (slice_index_or all.old i d).scratch.stops }
+        → HasSearchRoom H.opening (slice_index_or all.old i d).scratch.room }
 
     // what was posted and replied
     ensures posted { OnOk result (AreLinesPosted H.opening first lines.now publisher.old
@@ -155,9 +150,7 @@ fn post_and_answer<H: Opening<Timetable> + Send + Sync, R: Threads + Wait + Sync
     ensures answered { IfOk result (λ _. (i : ℕ) (d : _) → i < length all.old
         → HasAnsweredAll H.opening publisher.new (length publisher.old) first i (length all.old)
         lines.now (slice_index_or all.new i d).answers.items) }
-    ensures room { (i : ℕ) (d : _) → i < length all.old
-        → HasFewStops H.opening (slice_index_or all.new i d).scratch.stops }
-    ensures same { length all.new ≡ length all.old }
+    ensures kept { AreKept all.old all.new }
 {
     let start = publisher.tell();
     run_beside(
@@ -190,7 +183,7 @@ pub(crate) fn run_lines<
     requires some { 1 ≤ length all.old }
     requires few { length all.old < 2 ^ 32 }
     requires room { (i : ℕ) (d : _) → i < length all.old
-        → HasFewStops H.opening (slice_index_or all.old i d).scratch.stops }
+        → HasSearchRoom H.opening (slice_index_or all.old i d).scratch.room }
 
     // the replies, and how the board stands then
     ensures replies { IfOk result (λ replies. AreRepliesTo H.opening publisher.old directory.old
@@ -198,12 +191,10 @@ pub(crate) fn run_lines<
     ensures stands { OnOk result (StandsBehind H.opening publisher.old publisher.new directory.old
         directory.new first lines.now) }
 
-    // nothing that was posted is taken back, and names and trains and room stay as they have to be
+    // nothing that was posted is taken back, names and trains are in step, and the workers stay
     ensures board { OnOk result (HasService H.opening publisher.new directory.new) }
     ensures later { IsPrefix publisher.old publisher.new }
-    ensures room { (i : ℕ) (d : _) → i < length all.old
-        → HasFewStops H.opening (slice_index_or all.new i d).scratch.stops }
-    ensures same { length all.new ≡ length all.old }
+    ensures kept { AreKept all.old all.new }
 {
     let mut own = Vec::new(alloc);
     post_and_answer(

@@ -4,7 +4,8 @@ ghost use Rattle.std.specs.Prelude.{◌≡◌, ◌+◌, ◌^◌, ◌<◌, ◌≤
 ghost use mathlib.Core.List.{IsPrefix};
 ghost use Rattle.information_service.specs.Output.{IsReplyToQuery};
 ghost use Rattle.snapshot_board.specs.Knowledge.{IsLook};
-ghost use Rattle.query_crew.specs.Posted.{HasFewStops, IsAnswerAt};
+ghost use Rattle.query_crew.specs.Keeping.{IsKept};
+ghost use Rattle.query_crew.specs.Posted.{HasSearchRoom, IsAnswerAt, IsRoomFor};
 ghost use Rattle.query_crew.specs.Working.{asked_of, IsNewEntry, IsPushed, HasWorked};
 
 use crate::clients::worker_of;
@@ -37,21 +38,21 @@ pub struct Worker<V: Drop> {
 }
 
 impl<V: Drop> Worker<V> {
-    /// A worker that has answered nothing, with room for a search between so many stops, which
-    /// remembers where it has been of trains below the number `trains`; of others it only takes
-    /// longer. `OutOfMemory` where there is no memory.
+    /// A worker that has answered nothing, with room for a search between so many stops over
+    /// departures with so many numbers. `OutOfMemory` where there is no memory.
     pub fn build(
         alloc: Global,
         viewer: Option<V>,
         stops: u32,
-        trains: u32,
+        numbers: u32,
     ) -> Result<Worker<V>, OutOfMemory>
         ensures viewer { IfOk result (λ w. w.viewer ≡ viewer) }
-        ensures room { IfOk result (λ w. w.scratch.stops ≡ stops) }
+        ensures room { IfOk result (λ w. w.scratch.room
+            ≡ record { stops = stops; numbers = numbers }) }
     {
         Ok(Worker {
             viewer,
-            scratch: Scratch::build(alloc, stops, trains)?,
+            scratch: Scratch::build(alloc, stops, numbers)?,
             answers: Vec::new(alloc),
             is_whole: false,
         })
@@ -81,19 +82,19 @@ fn look_for<H: Opening<Timetable>, R: Wait>(
     number: u64,
     asked: &AskedQuery,
 ) -> (Scratch, Result<Reply, OutOfMemory>)
-    requires room { HasFewStops H.opening scratch.stops }
+    requires room { HasSearchRoom H.opening scratch.room }
     ensures look { IsLook viewer.old viewer.new }
     ensures answer { IfOk result.1 (IsAnswerAt H.opening viewer.new.seen (length viewer.new.seen)
         number asked.now) }
-    ensures room { result.0.stops ≡ scratch.stops }
+    ensures room { result.0.room ≡ scratch.room }
 {
     viewer.look(
         rt,
         move |timetable: &Timetable, after: u64| -> (Scratch, Result<Reply, OutOfMemory>)
-            requires { length timetable.now.network.stops ≤ scratch.stops }
+            requires { IsRoomFor timetable.now scratch.room }
             ensures reply { IfOk result.1 (IsReplyToQuery timetable.now.network timetable.now.state
                 after number asked.entry.now.day asked.entry.now.query) }
-            ensures room { result.0.stops ≡ scratch.stops }
+            ensures room { result.0.room ≡ scratch.room }
         {
             let mut scratch = scratch;
             let reply = reply_to_asked(alloc, timetable, &mut scratch, number, after, asked);
@@ -112,12 +113,12 @@ fn answer_line<H: Opening<Timetable>, R: Wait, G: Gate>(
     asked: &Option<AskedQuery>,
     gate: &G,
 ) -> (Scratch, Result<Option<Reply>, OutOfMemory>)
-    requires room { HasFewStops H.opening scratch.stops }
+    requires room { HasSearchRoom H.opening scratch.room }
     ensures entry { IfOk result.1 (IsNewEntry H.opening viewer.old.learnt viewer.new.seen number
         asked.now) }
     ensures later { IsPrefix viewer.old.seen viewer.new.seen }
     ensures learnt { viewer.new.learnt ≡ viewer.old.learnt }
-    ensures room { result.0.stops ≡ scratch.stops }
+    ensures room { result.0.room ≡ scratch.room }
 {
     if let Some(query) = asked {
         gate.at(Point::BeforeLook { line: number });
@@ -155,10 +156,10 @@ pub(crate) fn work<H: Opening<Timetable>, R: Wait, G: Gate>(
 ) -> Worker<Viewer<Timetable, H>>
     requires some { 1 ≤ workers }
     requires numbers { first + length lines.now < 2 ^ 64 }
-    requires room { HasFewStops H.opening worker.scratch.stops }
+    requires room { HasSearchRoom H.opening worker.scratch.room }
     ensures worked { result.is_whole ≡ true → HasWorked H.opening note.now result.viewer first me
         workers lines.now result.answers.items }
-    ensures room { result.scratch.stops ≡ worker.scratch.stops }
+    ensures kept { IsKept worker result }
 {
     let Worker {
         viewer,

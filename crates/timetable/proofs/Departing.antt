@@ -7,8 +7,6 @@ use Rattle.timetable.proofs.Words.{Network, State, Event, events, live_events, e
 use Rattle.timetable.proofs.Words.{departure_cmp, leaves_before, departing, stored_departure, is_departure, live_departures, departures_from, AreListed, IsDeparture, live_keys, IsSettled}
 use Rattle.timetable.proofs.Words.{HasItsTime}
 use Rattle.std.proofs.lemmas.Cmp.{then_total, on_total, nat_cmp_total}
-use Rattle.std.specs.Cmp.{bool_cmp_total}
-use Rattle.mt_base.proofs.KeyLemmas.{exact_bools}
 use Rattle.timetable.proofs.Words.{before-itself, departing_at, has_call, in_order, is_before}
 use Rattle.std.proofs.lemmas.Map.Lookups.{exact_unsigned}
 use Rattle.edge_rules.proofs.Neighbours.{named-there}
@@ -20,7 +18,7 @@ use Rattle.std.proofs.lemmas.List.{get_or-map}
 use Rattle.timetable.proofs.Words.{IsPermutation, IsPermutation-map, count_by-le-length, length-filter, length-map, length_permutation}
 
 pub departures_total : IsTotalOrder departure_cmp
-departures_total = then_total (on_total (λ d. d.time) nat_cmp_total) (then_total (on_total (λ d. d.key) keys_total) (then_total (on_total (λ d. d.stop) nat_cmp_total) (on_total (λ d. d.board) bool_cmp_total)))
+departures_total = then_total (on_total (λ d. d.time) nat_cmp_total) (then_total (on_total (λ d. d.key) keys_total) (on_total (λ d. d.stop) nat_cmp_total))
 
 tied : (a b : Ordering) → ordering_then a b ≡ Equal → (a ≡ Equal) × (b ≡ Equal)
 tied Less b h = absurd (cc)
@@ -31,11 +29,9 @@ pub exact_departures : (a b : Departure) → departure_cmp a b ≡ Equal → a �
 exact_departures a b h =
     let at = tied (nat_cmp a.time b.time) _ h in
     let key = tied (key_cmp a.key b.key) _ at.1 in
-    let stop = tied (nat_cmp a.stop b.stop) _ key.1 in
     let time = exact_unsigned a.time b.time at.0 in
     let same = exact_keys a.key b.key key.0 in
-    let there = exact_unsigned a.stop b.stop stop.0 in
-    let may = exact_bools a.board b.board stop.1 in
+    let there = exact_unsigned a.stop b.stop key.1 in
     grind arith
 
 -- departures put in order are in it, and are any list in order of the same departures
@@ -67,18 +63,18 @@ differ g own ks h =
     AllPairs-map (λ a b. a ≢ b) g (filter is_departure ks)
     (λ i j d l m e. AllPairs-filter (λ a b. a ≢ b) is_departure ks h i j d l m (sym (own (get_or (filter is_departure ks) i d)) ∙ ap (λ (x : Departure). x.key) e ∙ own (get_or (filter is_departure ks) j d)))
 
-pub stored-differ : (st : State) (times : StoredTimes) → All IsTrain st.trains → AllPairs (λ a b. a ≢ b) (map (stored_departure st times) (filter is_departure (live_keys (events st))))
-stored-differ st times trains = differ (stored_departure st times) (λ k. refl) (live_keys (events st)) (keys-differ st trains)
+pub stored-differ : (nw : Network) (st : State) (times : StoredTimes) → All IsTrain st.trains → AllPairs (λ a b. a ≢ b) (map (stored_departure nw st times) (filter is_departure (live_keys (events st))))
+stored-differ nw st times trains = differ (stored_departure nw st times) (λ k. refl) (live_keys (events st)) (keys-differ st trains)
 
 -- the times kept for settled events are their times
-kept-are : (nw : Network) (st : State) (times : StoredTimes) (ks : List Key) → All (HasItsTime nw st times) ks → map (stored_departure st times) (filter is_departure ks) ≡ map (departing nw st) (filter is_departure ks)
+kept-are : (nw : Network) (st : State) (times : StoredTimes) (ks : List Key) → All (HasItsTime nw st times) ks → map (stored_departure nw st times) (filter is_departure ks) ≡ map (departing nw st) (filter is_departure ks)
 kept-are nw st times [] h = refl
 kept-are nw st times (k ∷ ks) h =
-    let own : stored_departure st times k ≡ departing nw st k = rw (h 0 k (omega arith)) refl in
+    let own : stored_departure nw st times k ≡ departing nw st k = rw (h 0 k (omega arith)) refl in
     grind (arith, own, kept-are nw st times ks (λ i d l. h (suc i) d (omega arith)))
 
 -- the departures of settled events, put in order, are the live ones
-pub listed-are : (nw : Network) (st : State) (times : StoredTimes) (list : List Departure) → IsSettled nw st times → AreListed st times (live_keys (events st)) list → in_order leaves_before list ≡ live_departures nw st
+pub listed-are : (nw : Network) (st : State) (times : StoredTimes) (list : List Departure) → IsSettled nw st times → AreListed nw st times (live_keys (events st)) list → in_order leaves_before list ≡ live_departures nw st
 unfolding live_departures
 listed-are nw st times list is listed =
     let keys = live_keys (events st) in
@@ -92,9 +88,9 @@ listed-are nw st times list is listed =
     (All-permutation (Contains list) xs (in_order leaves_before xs) (in_order-moves leaves_before xs) (All-permutation (Contains list) list xs (IsPermutation-sym xs list own) (All-contains_itself list)))
 
 -- no more are listed than events are live
-pub listed-few : {st : State} {times : StoredTimes} {keys : List Key} {ds : List Departure} → AreListed st times keys ds → length ds ≤ length keys
-listed-few {st = st} {times = times} {keys = keys} {ds = ds} h =
-    omega (arith, length_permutation (map (stored_departure st times) (filter is_departure keys)) ds h.moved, length-map (filter is_departure keys) (stored_departure st times), length-filter is_departure keys, count_by-le-length is_departure keys)
+pub listed-few : {nw : Network} {st : State} {times : StoredTimes} {keys : List Key} {ds : List Departure} → AreListed nw st times keys ds → length ds ≤ length keys
+listed-few {nw = nw} {st = st} {times = times} {keys = keys} {ds = ds} h =
+    omega (arith, length_permutation (map (stored_departure nw st times) (filter is_departure keys)) ds h.moved, length-map (filter is_departure keys) (stored_departure nw st times), length-filter is_departure keys, count_by-le-length is_departure keys)
 
 -- every live departure of the state is listed
 pub departs-in : (nw : Network) (st : State) (v : Event) → Contains (events st) v → v.live ≡ true → v.key.dep ≡ true → Contains (live_departures nw st) (departing nw st v.key)
@@ -116,7 +112,7 @@ departs-each nw st =
     let k = filtered is_departure keys r.0 r.1 in
     let w = contains-unmap (λ (v : Event). v.key) (live_events (events st)) r.0 k.0 in
     let v = filtered (λ (v : Event). v.live) (events st) w.0 w.1 in
-    subst (IsDeparture nw st) r.2 (record { event = w.0; there = v.0; live = v.1; key = w.2; departs = k.1; time = refl; stop = refl; board = refl }))
+    subst (IsDeparture nw st) r.2 (record { event = w.0; there = v.0; live = v.1; key = w.2; departs = k.1; time = refl; stop = refl }))
 
 -- each leaves before those after it
 pub departs-rise : (nw : Network) (st : State) → All IsTrain st.trains → AllPairs (λ a b. leaves_before a b ≡ true) (live_departures nw st)
@@ -148,26 +144,26 @@ unfolding leaves_before
 times-rise ds h = λ i j d l m. grind (arith, λ (lt : i < j). not-later _ (get_or ds i d).time (get_or ds j d).time (h i j d lt m))
 
 -- departures sorted by their keys, which differ
-stored-keys : (st : State) (times : StoredTimes) (ks : List Key) → map (λ (d : Departure). d.key) (map (stored_departure st times) ks) ≡ ks
-stored-keys st times [] = refl
-stored-keys st times (k ∷ ks) = ap (λ ks. k ∷ ks) (stored-keys st times ks)
+stored-keys : (nw : Network) (st : State) (times : StoredTimes) (ks : List Key) → map (λ (d : Departure). d.key) (map (stored_departure nw st times) ks) ≡ ks
+stored-keys nw st times [] = refl
+stored-keys nw st times (k ∷ ks) = ap (λ ks. k ∷ ks) (stored-keys nw st times ks)
 
-pub keys-rise : (st : State) (times : StoredTimes) (list : List Departure) → All IsTrain st.trains → IsPermutation (map (stored_departure st times) (filter is_departure (live_keys (events st)))) list → IsSortedByKey (λ (d : Departure). d.key) key_cmp list → AllPairs (λ a b. is_before a.key b.key ≡ true) list
+pub keys-rise : (nw : Network) (st : State) (times : StoredTimes) (list : List Departure) → All IsTrain st.trains → IsPermutation (map (stored_departure nw st times) (filter is_departure (live_keys (events st)))) list → IsSortedByKey (λ (d : Departure). d.key) key_cmp list → AllPairs (λ a b. is_before a.key b.key ≡ true) list
 unfolding is_before
-keys-rise st times list trains moved sorted =
+keys-rise nw st times list trains moved sorted =
     let key : Departure → Key = λ d. d.key in
     let ks = filter is_departure (live_keys (events st)) in
     let long = length-map list key in
-    let same : IsPermutation ks (map key list) = rw (stored-keys st times ks) at (IsPermutation-map key (map (stored_departure st times) ks) list moved) in
+    let same : IsPermutation ks (map key list) = rw (stored-keys nw st times ks) at (IsPermutation-map key (map (stored_departure nw st times) ks) list moved) in
     let differ_keys = AllPairs-filter (λ a b. a ≢ b) is_departure (live_keys (events st)) (keys-differ st trains) in
     let up = sorted-ascends keys_total exact_keys ks (map key list) differ_keys same (λ k d lo hi.
-    let x = departing_at st 0 d in
+    let x = departing_at nw st 0 d in
     rw (get_or-map key list (k + 1) x d (omega arith), get_or-map key list k x d (omega arith)) (sorted k x lo (omega arith))) in
     λ i j d l m. rw (get_or-map key list i d d.key (omega arith), get_or-map key list j d d.key (omega arith)) at (up i j d.key l (omega arith))
 
 -- part of a listing: with the events that are left all departures are listed
-pub record IsListedTo (st : State) (times : StoredTimes) (all left : List Key) (now : List Departure) : Type 0 where
-  pub whole : now ++ map (stored_departure st times) (filter is_departure left) ≡ map (stored_departure st times) (filter is_departure all)
+pub record IsListedTo (nw : Network) (st : State) (times : StoredTimes) (all left : List Key) (now : List Departure) : Type 0 where
+  pub whole : now ++ map (stored_departure nw st times) (filter is_departure left) ≡ map (stored_departure nw st times) (filter is_departure all)
   pub held : All (λ k. has_time times (node_of k) ≡ true) left
   pub there : All (λ (k : Key). has_call st k.train k.label ≡ true) left
 
@@ -177,25 +173,25 @@ filter-first p x xs h = rw h refl
 filter-next : {X : Type 0} (p : X → Bool) (x : X) (xs : List X) → p x ≡ false → filter p (x ∷ xs) ≡ filter p xs
 filter-next p x xs h = rw h refl
 
-pub none-listed : (st : State) (times : StoredTimes) → All IsTrain st.trains → All (λ k. has_time times (node_of k) ≡ true) (live_keys (events st)) → (left : List Key) → left ≡ live_keys (events st) → IsListedTo st times (live_keys (events st)) left []
-none-listed st times trains held left is = rw is (record { whole = refl; held = held; there = calls-there st trains })
+pub none-listed : (nw : Network) (st : State) (times : StoredTimes) → All IsTrain st.trains → All (λ k. has_time times (node_of k) ≡ true) (live_keys (events st)) → (left : List Key) → left ≡ live_keys (events st) → IsListedTo nw st times (live_keys (events st)) left []
+none-listed nw st times trains held left is = rw is (record { whole = refl; held = held; there = calls-there st trains })
 
-module _ {st : State} {times : StoredTimes} {all left : List Key} {now : List Departure} {k : Key} (h : IsListedTo st times all (k ∷ left) now) where
-  pub listed-one : k.dep ≡ true → (time : ℕ) → time_of times (node_of k) ≡ Some time → (next : List Departure) → next ≡ now ++ departing_at st time k ∷ [] → IsListedTo st times all left next
+module _ {nw : Network} {st : State} {times : StoredTimes} {all left : List Key} {now : List Departure} {k : Key} (h : IsListedTo nw st times all (k ∷ left) now) where
+  pub listed-one : k.dep ≡ true → (time : ℕ) → time_of times (node_of k) ≡ Some time → (next : List Departure) → next ≡ now ++ departing_at nw st time k ∷ [] → IsListedTo nw st times all left next
   listed-one departs time stored next pushed =
-      let is : stored_departure st times k ≡ departing_at st time k = rw stored refl in
+      let is : stored_departure nw st times k ≡ departing_at nw st time k = rw stored refl in
       record {
         whole = rw (pushed, append_assoc) (rw (filter-first is_departure k left departs, is) at h.whole);
         held = All-tail (λ k. has_time times (node_of k) ≡ true) k left h.held;
         there = All-tail (λ (k : Key). has_call st k.train k.label ≡ true) k left h.there;
       }
 
-  pub listed-pass : k.dep ≡ false → IsListedTo st times all left now
+  pub listed-pass : k.dep ≡ false → IsListedTo nw st times all left now
   listed-pass arrives = record {
     whole = rw (filter-next is_departure k left arrives) at h.whole;
     held = All-tail (λ k. has_time times (node_of k) ≡ true) k left h.held;
     there = All-tail (λ (k : Key). has_call st k.train k.label ≡ true) k left h.there;
   }
 
-pub listed-all : {st : State} {times : StoredTimes} {all : List Key} {now : List Departure} → IsListedTo st times all [] now → now ≡ map (stored_departure st times) (filter is_departure all)
+pub listed-all : {nw : Network} {st : State} {times : StoredTimes} {all : List Key} {now : List Departure} → IsListedTo nw st times all [] now → now ≡ map (stored_departure nw st times) (filter is_departure all)
 listed-all {now = now} h = sym (append-nil now) ∙ h.whole

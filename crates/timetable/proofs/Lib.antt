@@ -8,10 +8,13 @@ pub mod Changed
 pub mod Shapes
 pub mod CallsKept
 pub mod Prepared
+pub mod Numbers
+pub mod LabelPlaces
 pub mod Moved
 pub mod TakenOut
 pub mod Followed
 pub mod Moving
+pub mod Carrying
 pub mod AllMarked
 pub mod Stepping
 pub mod Marked
@@ -19,3 +22,13 @@ pub mod Since
 pub mod Turns
 pub mod Feeds
 pub mod Renewed
+pub mod Lines
+pub mod HeldLemmas
+pub mod LinkLemmas
+pub mod LiveCalls
+pub mod CarriedLemmas
+pub mod GoneOn
+pub mod ShapeLinks
+pub mod Noted
+pub mod Onwards
+pub mod ListedLemmas

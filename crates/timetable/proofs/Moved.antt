@@ -8,10 +8,14 @@ use Rattle.std.proofs.lemmas.List.Sorted.{IsPermutation-append}
 use Rattle.delay_model.proofs.Lists.{AllPairs-append}
 use Rattle.timetable.specs.Departures.{AreInOrder}
 use Rattle.propagate.proofs.{Named.any-from, Ordered.filtered}
-use Rattle.dep_order.specs.Ordered.{Ordered, at_time, moved}
-use Rattle.timetable.specs.Moved.{HasCall}
+use Rattle.dep_order.specs.Ordered.{Ordered, at_time, is_of_call, moved, spare}
+use Rattle.timetable.specs.Numbers.{AreMoved}
+use Rattle.timetable.proofs.Numbers.{moved-on, none-moved}
+use Rattle.timetable.proofs.Words.{Event, has_call, IsTrain, Network, and_parts, events, events-unique, live_keys, nat_eq, node_of, eqb-true}
+use Rattle.propagate.proofs.{Ordered.keyed-live}
+use Rattle.timetable.specs.Moved.{IsOfLive}
 use Rattle.timetable.proofs.Words.{◌&&◌, Contains-filter, Contains-map, Contains-there, IsAtCall, State, any-there, count_new, is_new_to}
-use Rattle.timetable.proofs.{Departing.filter-first, Departing.none-before-itself, Departing.one-in-order, Departing.put-in-order}
+use Rattle.timetable.proofs.{Departing.call-there, Departing.filter-first, Departing.none-before-itself, Departing.one-in-order, Departing.put-in-order}
 use Rattle.propagate.proofs.{Sorted.AllPairs-map, Sorted.in_order-moves}
 
 -- ---- lists
@@ -80,102 +84,112 @@ count-few : (ds : List Departure) (r : TimeChange) → count_new ds (r ∷ []) �
 count-few ds r = elim (cases_Bool (is_new_to ds r)) [ inl new ↦ rw new (omega arith) | inr known ↦ rw known (omega arith) ]
 
 -- the departures at their new times, and the others
-abbrev pub parts : State → List TimeChange → List Departure → List Departure
-parts st rs ds = map (departing_then st) (filter departs rs) ++ filter (stays (filter departs rs)) ds
+abbrev pub parts : Network → State → List TimeChange → List Departure → List Departure
+parts nw st rs ds = map (departing_then nw st) (filter departs rs) ++ filter (stays (filter departs rs)) ds
 
 filter-both : (r : TimeChange) (moved : List TimeChange) (ds : List Departure) → filter (stays (r ∷ moved)) ds ≡ filter (stays moved) (filter (stays (r ∷ [])) ds)
 filter-both r moved [] = refl
 filter-both r moved (d ∷ ds) = grind (arith, filter-both r moved ds)
 
-module _ (st : State) where
-  pub parts-differ : (rs : List TimeChange) (ds : List Departure) → AreInOrder ds → AreTimeChanges st rs ds → AllPairs (λ a b. a ≢ b) (parts st rs ds)
+abbrev IsLiveOne : State → Departure → Type 0
+IsLiveOne st d = Contains (live_keys (events st)) d.key × (d.key.dep ≡ true)
+
+module _ (nw : Network) (st : State) where
+  pub parts-differ : (rs : List TimeChange) (ds : List Departure) → AreInOrder ds → AreTimeChanges nw st rs ds → AllPairs (λ a b. a ≢ b) (parts nw st rs ds)
   parts-differ rs ds up h =
       let moved = filter departs rs in
       let others = filter (stays moved) ds in
-      AllPairs-append (λ a b. a ≢ b) (map (departing_then st) moved) others
-      (AllPairs-map (λ a b. a ≢ b) (departing_then st) moved (λ i j d l m e. AllPairs-filter (λ (a b : TimeChange). a.key ≢ b.key) departs rs h.once i j d l m (ap (λ (x : Departure). x.key) e)))
+      AllPairs-append (λ a b. a ≢ b) (map (departing_then nw st) moved) others
+      (AllPairs-map (λ a b. a ≢ b) (departing_then nw st) moved (λ i j d l m e. AllPairs-filter (λ (a b : TimeChange). a.key ≢ b.key) departs rs h.once i j d l m (ap (λ (x : Departure). x.key) e)))
       (AllPairs-filter (λ a b. a ≢ b) (stays moved) ds (rise-differ ds up))
-      (All-map (λ x. All (λ y. x ≢ y) others) (departing_then st) moved (λ i d l. λ j e m same.
+      (All-map (λ x. All (λ y. x ≢ y) others) (departing_then nw st) moved (λ i d l. λ j e m same.
       let r = get_or moved i d in
       let y = get_or others j e in
       let passes = filter_passes (stays moved) ds j e m in
       let there = any-from (λ s. is_same s.key y.key) moved r (All-contains_itself moved i d l) (ap (λ (x : Departure). is_same r.key x.key) (sym same) ∙ same-itself r.key) in
       absurd (cc)))
 
-  with-moves : (rs : List TimeChange) (ds : List Departure) → IsPermutation (parts st rs ds) (with_times st rs ds)
+  with-moves : (rs : List TimeChange) (ds : List Departure) → IsPermutation (parts nw st rs ds) (with_times nw st rs ds)
   unfolding with_times
-  with-moves rs ds = in_order-moves leaves_before (parts st rs ds)
+  with-moves rs ds = in_order-moves leaves_before (parts nw st rs ds)
 
-  with-rises : (rs : List TimeChange) (ds : List Departure) → AreInOrder ds → AreTimeChanges st rs ds → AreInOrder (with_times st rs ds)
+  with-rises : (rs : List TimeChange) (ds : List Departure) → AreInOrder ds → AreTimeChanges nw st rs ds → AreInOrder (with_times nw st rs ds)
   unfolding with_times
-  with-rises rs ds up h = put-in-order (parts st rs ds) (parts-differ rs ds up h)
+  with-rises rs ds up h = put-in-order (parts nw st rs ds) (parts-differ rs ds up h)
 
   -- and they are any list in order of those
-  pub with-is : (rs : List TimeChange) (ds : List Departure) → AreInOrder ds → AreTimeChanges st rs ds → (ys : List Departure) → IsPermutation (parts st rs ds) ys → AreInOrder ys → with_times st rs ds ≡ ys
+  pub with-is : (rs : List TimeChange) (ds : List Departure) → AreInOrder ds → AreTimeChanges nw st rs ds → (ys : List Departure) → IsPermutation (parts nw st rs ds) ys → AreInOrder ys → with_times nw st rs ds ≡ ys
   unfolding with_times
-  with-is rs ds up h ys moved rise = in_order-is (parts st rs ds) ys (parts-differ rs ds up h) moved rise
+  with-is rs ds up h ys moved rise = in_order-is (parts nw st rs ds) ys (parts-differ rs ds up h) moved rise
 
   -- where no event gets another time they stay
-  pub with-none : (ds : List Departure) → AreInOrder ds → with_times st [] ds ≡ ds
+  pub with-none : (ds : List Departure) → AreInOrder ds → with_times nw st [] ds ≡ ds
   unfolding with_times
   with-none ds up =
       rw (filter-all (stays []) ds (λ i d l. refl)) (in_order-is ds ds (rise-differ ds up) (IsPermutation-refl ds) up)
 
   -- an arrival moves none
-  pub with-less : (r : TimeChange) (rs : List TimeChange) (ds : List Departure) → departs r ≡ false → with_times st (r ∷ rs) ds ≡ with_times st rs ds
+  pub with-less : (r : TimeChange) (rs : List TimeChange) (ds : List Departure) → departs r ≡ false → with_times nw st (r ∷ rs) ds ≡ with_times nw st rs ds
   unfolding with_times
   with-less r rs ds arrives = rw arrives refl
 
   -- one of these events, and then the others
-  module _ (r : TimeChange) (rs : List TimeChange) (ds : List Departure) (up : AreInOrder ds) (h : AreTimeChanges st (r ∷ rs) ds) where
-    pub one-time-changes : AreTimeChanges st (r ∷ []) ds
+  module _ (r : TimeChange) (rs : List TimeChange) (ds : List Departure) (up : AreInOrder ds) (h : AreTimeChanges nw st (r ∷ rs) ds) where
+    pub one-time-changes : AreTimeChanges nw st (r ∷ []) ds
     one-time-changes = record {
+      live = h.live;
       at_calls = h.at_calls;
       once = AllPairs-cons (λ a b. a.key ≢ b.key) r [] (All-nil (λ b. r.key ≢ b.key)) (AllPairs-nil (λ a b. a.key ≢ b.key));
-      there = All-cons (HasCall st) r [] (h.there 0 r (omega arith)) (All-nil (HasCall st));
+      there = All-cons (IsOfLive st) r [] (h.there 0 r (omega arith)) (All-nil (IsOfLive st));
     }
 
-    pub rest-time-changes : AreTimeChanges st rs (with_times st (r ∷ []) ds)
+    pub rest-time-changes : AreTimeChanges nw st rs (with_times nw st (r ∷ []) ds)
     rest-time-changes =
         let moved = filter departs (r ∷ []) in
         record {
-          at_calls = All-permutation (IsAtCall st) (parts st (r ∷ []) ds) (with_times st (r ∷ []) ds) (with-moves (r ∷ []) ds)
-              (All-append (IsAtCall st) (map (departing_then st) moved) (filter (stays moved) ds)
-              (All-map (IsAtCall st) (departing_then st) moved (λ i d l. refl)) (All-filter (stays moved) (IsAtCall st) ds h.at_calls));
+          live = All-permutation (IsLiveOne st) (parts nw st (r ∷ []) ds) (with_times nw st (r ∷ []) ds) (with-moves (r ∷ []) ds)
+              (All-append (IsLiveOne st) (map (departing_then nw st) moved) (filter (stays moved) ds)
+              (All-map (IsLiveOne st) (departing_then nw st) moved (λ i d l.
+              let w = filtered departs (r ∷ []) (get_or moved i d) (All-contains_itself moved i d l) in
+              (All-contains (IsOfLive st) (r ∷ []) (get_or moved i d) (All-cons (IsOfLive st) r [] (h.there 0 r (omega arith)) (All-nil (IsOfLive st))) w.0, w.1)))
+              (All-filter (stays moved) (IsLiveOne st) ds h.live));
+          at_calls = All-permutation (IsAtCall nw st) (parts nw st (r ∷ []) ds) (with_times nw st (r ∷ []) ds) (with-moves (r ∷ []) ds)
+              (All-append (IsAtCall nw st) (map (departing_then nw st) moved) (filter (stays moved) ds)
+              (All-map (IsAtCall nw st) (departing_then nw st) moved (λ i d l. refl)) (All-filter (stays moved) (IsAtCall nw st) ds h.at_calls));
           once = AllPairs-tail (λ a b. a.key ≢ b.key) r rs h.once;
-          there = All-tail (HasCall st) r rs h.there;
+          there = All-tail (IsOfLive st) r rs h.there;
         }
 
-    own-stays : stays (filter departs rs) (departing_then st r) ≡ true
+    own-stays : stays (filter departs rs) (departing_then nw st r) ≡ true
     own-stays =
         ap not (false_from_ne_true _ (λ e.
         let w = any-there (λ s. is_same s.key r.key) (filter departs rs) e in
         let there = filtered departs rs w.0 w.1 in
         absurd (All-contains (λ (s : TimeChange). r.key ≢ s.key) rs w.0 (AllPairs-after (λ (a b : TimeChange). a.key ≢ b.key) [] r rs h.once) there.0 (sym (same-is w.0.key r.key w.2)))))
 
-    departs-parts : departs r ≡ true → IsPermutation (parts st (r ∷ rs) ds) (parts st rs (with_times st (r ∷ []) ds))
+    departs-parts : departs r ≡ true → IsPermutation (parts nw st (r ∷ rs) ds) (parts nw st rs (with_times nw st (r ∷ []) ds))
     unfolding with_times
     departs-parts leaves =
         let moved = filter departs rs in
-        let at = departing_then st r in
+        let at = departing_then nw st r in
         let first = filter (stays (r ∷ [])) ds in
         let both : filter (stays (r ∷ moved)) ds ≡ filter (stays moved) first = filter-both r moved ds in
         let own : stays moved at ≡ true = own-stays in
         let kept : IsPermutation (at ∷ filter (stays moved) first) (filter (stays moved) (in_order leaves_before (at ∷ first))) = rw own at (filter-in_order leaves_before (stays moved) (at ∷ first)) in
         rw (filter-first departs r rs leaves, filter-first departs r [] leaves, both)
-        (IsPermutation-trans _ _ _ (IsPermutation-sym _ _ (IsPermutation-middle (map (departing_then st) moved) at (filter (stays moved) first)))
-        (IsPermutation-append (map (departing_then st) moved) (map (departing_then st) moved) _ _ (IsPermutation-refl _) kept))
+        (IsPermutation-trans _ _ _ (IsPermutation-sym _ _ (IsPermutation-middle (map (departing_then nw st) moved) at (filter (stays moved) first)))
+        (IsPermutation-append (map (departing_then nw st) moved) (map (departing_then nw st) moved) _ _ (IsPermutation-refl _) kept))
 
     -- the others may follow later
-    pub with-more : departs r ≡ true → with_times st (r ∷ rs) ds ≡ with_times st rs (with_times st (r ∷ []) ds)
+    pub with-more : departs r ≡ true → with_times nw st (r ∷ rs) ds ≡ with_times nw st rs (with_times nw st (r ∷ []) ds)
     with-more leaves =
-        let once = with_times st (r ∷ []) ds in
+        let once = with_times nw st (r ∷ []) ds in
         let risen = with-rises (r ∷ []) ds up one-time-changes in
-        with-is (r ∷ rs) ds up h (with_times st rs once) (IsPermutation-trans _ _ _ (departs-parts leaves) (with-moves rs once)) (with-rises rs once risen rest-time-changes)
+        with-is (r ∷ rs) ds up h (with_times nw st rs once) (IsPermutation-trans _ _ _ (departs-parts leaves) (with-moves rs once)) (with-rises rs once risen rest-time-changes)
 
   -- ---- the departure of one event
 
-  module _ (r : TimeChange) (ds : List Departure) (leaves : departs r ≡ true) (up : AreInOrder ds) (h : AreTimeChanges st (r ∷ []) ds) where
+  module _ (r : TimeChange) (ds : List Departure) (leaves : departs r ≡ true) (up : AreInOrder ds) (h : AreTimeChanges nw st (r ∷ []) ds) where
     -- one that is of another event stays
     other-stays : (d : Departure) → is_same d.key r.key ≡ false → stays (r ∷ []) d ≡ true
     other-stays d other =
@@ -192,17 +206,17 @@ module _ (st : State) where
         ]
 
     -- one that was there takes place at another time
-    pub moved-there : AllPairs (λ (a b : Departure). a.key ≢ b.key) ds → list_any (λ (d : Departure). is_same d.key r.key) ds ≡ true → moved r.key r.is ds ≡ with_times st (r ∷ []) ds
+    pub moved-there : AllPairs (λ (a b : Departure). a.key ≢ b.key) ds → list_any (λ (d : Departure). is_same d.key r.key) ds ≡ true → moved r.key r.is ds ≡ with_times nw st (r ∷ []) ds
     moved-there keys there =
         let at = at_time r.key r.is in
         let own : (d : Departure) → (at d).key ≡ d.key = λ d. grind arith in
         let apart : AllPairs (λ a b. a ≢ b) (map at ds) = AllPairs-map (λ a b. a ≢ b) at ds (λ i j d l m e. keys i j d l m (sym (own (get_or ds i d)) ∙ ap (λ (x : Departure). x.key) e ∙ own (get_or ds j d))) in
-        let ps = parts st (r ∷ []) ds in
-        let then : (d : Departure) → Contains ds d → is_same d.key r.key ≡ true → at d ≡ departing_then st r = λ d in_ds same.
-        let is = All-contains (IsAtCall st) ds d h.at_calls in_ds in
+        let ps = parts nw st (r ∷ []) ds in
+        let then : (d : Departure) → Contains ds d → is_same d.key r.key ≡ true → at d ≡ departing_then nw st r = λ d in_ds same.
+        let is = All-contains (IsAtCall nw st) ds d h.at_calls in_ds in
         let key = same-is d.key r.key same in
         grind arith in
-        let first : Contains ps (departing_then st r) = rw (filter-first departs r [] leaves) (0, omega arith, refl) in
+        let first : Contains ps (departing_then nw st r) = rw (filter-first departs r [] leaves) (0, omega arith, refl) in
         let into : All (Contains ps) (map at ds) = All-map (Contains ps) at ds (λ i d l.
         let y = get_or ds i d in
         let in_ds = All-contains_itself ds i d l in
@@ -210,10 +224,10 @@ module _ (st : State) where
           | inl same ↦ rw (then y in_ds same) first
           | inr differs ↦
               let same : at y ≡ y = rw differs refl in
-              rw (same, filter-first departs r [] leaves) (Contains-there (departing_then st r) _ y (Contains-filter (stays (r ∷ [])) ds y in_ds (other-stays y differs)))
+              rw (same, filter-first departs r [] leaves) (Contains-there (departing_then nw st r) _ y (Contains-filter (stays (r ∷ [])) ds y in_ds (other-stays y differs)))
         ]) in
         let one = any-there (λ (d : Departure). is_same d.key r.key) ds there in
-        let back : All (Contains (map at ds)) ps = rw (filter-first departs r [] leaves) (All-cons (Contains (map at ds)) (departing_then st r) _
+        let back : All (Contains (map at ds)) ps = rw (filter-first departs r [] leaves) (All-cons (Contains (map at ds)) (departing_then nw st r) _
         (subst (Contains (map at ds)) (then one.0 one.1 one.2) (Contains-map at ds one.0 one.1))
         (λ i d l.
         let y = get_or (filter (stays (r ∷ [])) ds) i d in
@@ -221,9 +235,9 @@ module _ (st : State) where
         let same : at y ≡ y = rw (stays-other y f.1) refl in
         subst (Contains (map at ds)) same (Contains-map at ds y f.0))) in
         let all = with-moves (r ∷ []) ds in
-        one-in-order (map at ds) (with_times st (r ∷ []) ds) apart (with-rises (r ∷ []) ds up h)
-        (All-weaker (Contains ps) (Contains (with_times st (r ∷ []) ds)) (λ d in_ps. Contains-permutation ps (with_times st (r ∷ []) ds) d all in_ps) (map at ds) into)
-        (All-permutation (Contains (map at ds)) ps (with_times st (r ∷ []) ds) all back)
+        one-in-order (map at ds) (with_times nw st (r ∷ []) ds) apart (with-rises (r ∷ []) ds up h)
+        (All-weaker (Contains ps) (Contains (with_times nw st (r ∷ []) ds)) (λ d in_ps. Contains-permutation ps (with_times nw st (r ∷ []) ds) d all in_ps) (map at ds) into)
+        (All-permutation (Contains (map at ds)) ps (with_times nw st (r ∷ []) ds) all back)
 
     -- one that was not is put in
     none-there : list_any (λ (d : Departure). is_same d.key r.key) ds ≡ false → All (λ (d : Departure). is_same d.key r.key ≡ false) ds
@@ -236,7 +250,7 @@ module _ (st : State) where
     pub moved-none : list_any (λ (d : Departure). is_same d.key r.key) ds ≡ false → moved r.key r.is ds ≡ ds
     moved-none none = rw (unmoved ds (none-there none)) (in_order-is ds ds (rise-differ ds up) (IsPermutation-refl ds) up)
 
-    pub put-new : list_any (λ (d : Departure). is_same d.key r.key) ds ≡ false → placed leaves_before (departing_then st r) ds ≡ with_times st (r ∷ []) ds
+    pub put-new : list_any (λ (d : Departure). is_same d.key r.key) ds ≡ false → placed leaves_before (departing_then nw st r) ds ≡ with_times nw st (r ∷ []) ds
     unfolding with_times
     put-new none =
         let all = filter-all (stays (r ∷ [])) ds (λ i d l. other-stays (get_or ds i d) (none-there none i d l)) in
@@ -245,24 +259,39 @@ module _ (st : State) where
     pub new-key : list_any (λ (d : Departure). is_same d.key r.key) ds ≡ false → All (λ (d : Departure). d.key ≢ r.key) ds
     new-key none = λ i d l e. let own = same-itself r.key in let no = none-there none i d l in let same = rw e at no in absurd (cc)
 
+    -- no departure is of its call, since events are told apart by their names
+    pub new-call : All IsTrain st.trains → list_any (λ (d : Departure). is_same d.key r.key) ds ≡ false → All (λ d. is_of_call r.key.train r.key.label d ≡ false) ds
+    new-call trains none = λ i d l. false_from_ne_true _ (λ same.
+        let e = get_or ds i d in
+        let both = and_parts (nat_eq e.key.train r.key.train) _ same in
+        let own = h.live i d l in
+        let u = keyed-live (events st) e.key own.0 in
+        let v = keyed-live (events st) r.key (h.there 0 r (omega arith)) in
+        let train = eqb-true e.key.train r.key.train both.0 in
+        let label = eqb-true e.key.label r.key.label both.1 in
+        let dep : e.key.dep ≡ r.key.dep = own.1 ∙ sym leaves in
+        let name : node_of e.key ≡ node_of r.key = grind arith in
+        let one = events-unique st trains u.0 v.0 u.1 v.1 (ap node_of u.2 ∙ name ∙ sym (ap node_of v.2)) in
+        new-key none i d l (sym u.2 ∙ ap (λ (w : Event). w.key) one ∙ v.2))
+
     -- its departure is there afterwards, and so are those that were there
-    pub key-stays : (k : Key) → list_any (λ (d : Departure). is_same d.key k) ds ≡ true → list_any (λ (d : Departure). is_same d.key k) (with_times st (r ∷ []) ds) ≡ true
+    pub key-stays : (k : Key) → list_any (λ (d : Departure). is_same d.key k) ds ≡ true → list_any (λ (d : Departure). is_same d.key k) (with_times nw st (r ∷ []) ds) ≡ true
     key-stays k there =
         let one = any-there (λ (d : Departure). is_same d.key k) ds there in
-        let ps = parts st (r ∷ []) ds in
-        let found : (x : Departure) → Contains ps x → x.key ≡ one.0.key → list_any (λ (d : Departure). is_same d.key k) (with_times st (r ∷ []) ds) ≡ true = λ x in_ps e.
-        any-from (λ (d : Departure). is_same d.key k) (with_times st (r ∷ []) ds) x (Contains-permutation ps (with_times st (r ∷ []) ds) x (with-moves (r ∷ []) ds) in_ps) (rw e one.2) in
+        let ps = parts nw st (r ∷ []) ds in
+        let found : (x : Departure) → Contains ps x → x.key ≡ one.0.key → list_any (λ (d : Departure). is_same d.key k) (with_times nw st (r ∷ []) ds) ≡ true = λ x in_ps e.
+        any-from (λ (d : Departure). is_same d.key k) (with_times nw st (r ∷ []) ds) x (Contains-permutation ps (with_times nw st (r ∷ []) ds) x (with-moves (r ∷ []) ds) in_ps) (rw e one.2) in
         elim (cases_Bool (is_same one.0.key r.key)) [
-          | inl same ↦ found (departing_then st r) (rw (filter-first departs r [] leaves) (0, omega arith, refl)) (sym (same-is one.0.key r.key same))
+          | inl same ↦ found (departing_then nw st r) (rw (filter-first departs r [] leaves) (0, omega arith, refl)) (sym (same-is one.0.key r.key same))
           | inr differs ↦
-              found one.0 (rw (filter-first departs r [] leaves) (Contains-there (departing_then st r) _ one.0 (Contains-filter (stays (r ∷ [])) ds one.0 one.1 (other-stays one.0 differs)))) refl
+              found one.0 (rw (filter-first departs r [] leaves) (Contains-there (departing_then nw st r) _ one.0 (Contains-filter (stays (r ∷ [])) ds one.0 one.1 (other-stays one.0 differs)))) refl
         ]
 
-    pub count-falls : (rs : List TimeChange) → count_new (with_times st (r ∷ []) ds) rs ≤ count_new ds rs
+    pub count-falls : (rs : List TimeChange) → count_new (with_times nw st (r ∷ []) ds) rs ≤ count_new ds rs
     count-falls [] = omega arith
     count-falls (s ∷ rs) =
         let rest = count-falls rs in
-        let more = with_times st (r ∷ []) ds in
+        let more = with_times nw st (r ∷ []) ds in
         let one = count-cons ds s rs in
         let other = count-cons more s rs in
         elim (cases_Bool (list_any (λ (d : Departure). is_same d.key s.key) ds)) [
@@ -275,39 +304,56 @@ module _ (st : State) where
               ])
         ]
 
--- part of the moves: with the events that are left the departures become what they become with all,
--- and there is room for those that are new
-pub record AreMovedTo (st : State) (rs : List TimeChange) (before : Ordered) (left : List TimeChange) (now : Ordered) : Type 0 where
-  pub changes : AreTimeChanges st left now.departures
-  pub whole : with_times st left now.departures ≡ with_times st rs before.departures
-  pub room : before.spare + count_new now.departures left ≤ now.spare + count_new before.departures rs
+-- the call of an event that gets another time is there
+pub call-of : {nw : Network} {st : State} {r : TimeChange} {ds : List Departure} → All IsTrain st.trains → AreTimeChanges nw st (r ∷ []) ds → has_call st r.key.train r.key.label ≡ true
+call-of {st = st} {r = r} trains h =
+    let at = keyed-live (events st) r.key (h.there 0 r (omega arith)) in
+    rw at.2 at (call-there st at.0 at.1 trains)
 
-module _ (st : State) (rs : List TimeChange) (before now : Ordered) (r : TimeChange) (left : List TimeChange) (m : AreMovedTo st rs before (r ∷ left) now) where
-  pub part-room : count_new before.departures rs ≤ before.spare → count_new now.departures (r ∷ []) ≤ now.spare
+-- part of the moves: with the events that are left the departures become what they become with all,
+-- there is room for those that are new, and each has its number still or got one
+pub record AreMovedTo (nw : Network) (st : State) (rs : List TimeChange) (before : Ordered) (left : List TimeChange) (now : Ordered) : Type 0 where
+  pub changes : AreTimeChanges nw st left now.departures
+  pub whole : with_times nw st left now.departures ≡ with_times nw st rs before.departures
+  pub room : spare before + count_new now.departures left ≤ spare now + count_new before.departures rs
+  pub numbers : AreMoved before now
+
+pub none-moved-to : {nw : Network} {st : State} {rs : List TimeChange} {before : Ordered} → AreTimeChanges nw st rs before.departures → AreMovedTo nw st rs before rs before
+none-moved-to {before = before} h = record { changes = h; whole = refl; room = omega arith; numbers = none-moved before }
+
+module _ (nw : Network) (st : State) (rs : List TimeChange) (before now : Ordered) (r : TimeChange) (left : List TimeChange) (m : AreMovedTo nw st rs before (r ∷ left) now) where
+  pub part-room : count_new before.departures rs ≤ spare before → count_new now.departures (r ∷ []) ≤ spare now
   part-room enough = let room = m.room in let both = count-cons now.departures r left in omega arith
 
   module _ (up : AreInOrder now.departures) (leaves : departs r ≡ true) where
-    pub part-changes : AreTimeChanges st (r ∷ []) now.departures
-    part-changes = one-time-changes st r left now.departures up m.changes
+    pub part-changes : AreTimeChanges nw st (r ∷ []) now.departures
+    part-changes = one-time-changes nw st r left now.departures up m.changes
 
-    pub part-moved : (next : Ordered) → next.departures ≡ with_times st (r ∷ []) now.departures → now.spare ≤ next.spare + count_new now.departures (r ∷ []) → AreMovedTo st rs before left next
-    part-moved next is more =
-        let falls = count-falls st r now.departures leaves up part-changes left in
+    pub part-moved : (next : Ordered) → next.departures ≡ with_times nw st (r ∷ []) now.departures → spare now ≤ spare next + count_new now.departures (r ∷ []) → AreMoved now next → AreMovedTo nw st rs before left next
+    part-moved next is more numbers =
+        let falls = count-falls nw st r now.departures leaves up part-changes left in
         let room = m.room in
         record {
-          changes = rw is (rest-time-changes st r left now.departures up m.changes);
-          whole = rw is (sym (with-more st r left now.departures up m.changes leaves) ∙ m.whole);
+          changes = rw is (rest-time-changes nw st r left now.departures up m.changes);
+          whole = rw is (sym (with-more nw st r left now.departures up m.changes leaves) ∙ m.whole);
           room = let both = count-cons now.departures r left in rw is (omega arith);
+          numbers = moved-on m.numbers numbers;
         }
 
-  pub part-arrives : departs r ≡ false → AreMovedTo st rs before left now
+  pub part-arrives : departs r ≡ false → AreMovedTo nw st rs before left now
   part-arrives arrives =
       let room = m.room in
       record {
-        changes = record { at_calls = m.changes.at_calls; once = AllPairs-tail (λ a b. a.key ≢ b.key) r left m.changes.once; there = All-tail (HasCall st) r left m.changes.there };
-        whole = sym (with-less st r left now.departures arrives) ∙ m.whole;
+        changes = record {
+          live = m.changes.live;
+          at_calls = m.changes.at_calls;
+          once = AllPairs-tail (λ a b. a.key ≢ b.key) r left m.changes.once;
+          there = All-tail (IsOfLive st) r left m.changes.there;
+        };
+        whole = sym (with-less nw st r left now.departures arrives) ∙ m.whole;
         room = rw arrives at room;
+        numbers = m.numbers;
       }
 
-pub all-moved : (st : State) (rs : List TimeChange) (before now : Ordered) → AreInOrder now.departures → AreMovedTo st rs before [] now → now.departures ≡ with_times st rs before.departures
-all-moved st rs before now up m = sym (with-none st now.departures up) ∙ m.whole
+pub all-moved : (nw : Network) (st : State) (rs : List TimeChange) (before now : Ordered) → AreInOrder now.departures → AreMovedTo nw st rs before [] now → now.departures ≡ with_times nw st rs before.departures
+all-moved nw st rs before now up m = sym (with-none nw st now.departures up) ∙ m.whole

@@ -7,10 +7,10 @@ use Rattle.timetable.proofs.Words.{HasItsTime, has_another, live_keys, key_order
 use Rattle.timetable.proofs.Words.{with_times, IsPrepared, IsDeparture, All-append, ◌&&◌, and_parts, or_parts, not-false, eqb-true, same-itself, stored_time, IsOrderOf}
 use Rattle.propagate.proofs.StepListed.{another-is}
 use Rattle.timetable.proofs.{Departing.call-there, Departing.departs-each, Departing.one-in-order, Departing.departs-in, Departing.departs-rise, Moved.parts, Moved.parts-differ}
-use Rattle.propagate.proofs.{Named.any-from, Ordered.filtered, Ordered.key-live, Ordered.live-ordered, Sorted.keys-ordered, Sorted.AllPairs-map}
+use Rattle.propagate.proofs.{Named.any-from, Ordered.filtered, Ordered.key-live, Ordered.live-keyed, Ordered.live-ordered, Sorted.keys-ordered, Sorted.AllPairs-map}
 use Rattle.timetable.proofs.{Changed.filter-map, Changed.filter-same, Changed.live-key}
 use Rattle.timetable.specs.Shapes.{IsCallKept}
-use Rattle.timetable.proofs.Words.{suc, AreLiveDepartures, IsPermutation, Node, Option, None, Call, None, cond, call_named, has_call, count_new, departing_at, events-unique, is_new_to, is_of_none, is_same_node, may_board, option_map, option_map_or, same_node-is, same_node-itself, stop_of, sum_by-IsPermutation}
+use Rattle.timetable.proofs.Words.{suc, AreLiveDepartures, IsPermutation, Node, Option, None, Call, None, cond, call_named, has_call, count_new, departing_at, events-unique, is_new_to, is_of_none, boarding_stop, is_same_node, may_board, option_map, option_map_or, same_node-is, same_node-itself, stop_of, sum_by-IsPermutation}
 
 -- no more events leave than were live
 pub gone-fit : (es fs : List Event) → length (names_of (live_only es fs)) ≤ length (live_keys es)
@@ -56,6 +56,9 @@ stop-kept old new k kept = mapped-or (λ (c : Call). c.stop) 0 (call_named new k
 board-kept : (old new : State) (k : Key) → IsCallKept old new k.train k.label → may_board new k ≡ may_board old k
 board-kept old new k kept = mapped-or (λ (c : Call). c.board) false (call_named new k.train k.label) (call_named old k.train k.label) kept.board
 
+boarding-kept : (nw : Network) (old new : State) (k : Key) → IsCallKept old new k.train k.label → boarding_stop nw new k ≡ boarding_stop nw old k
+boarding-kept nw old new k kept = rw (board-kept old new k kept, stop-kept old new k kept) refl
+
 -- the departures but those among some events that are live no longer, are those that are live still
 module _ (nw : Network) (old new : State) (trains : All IsTrain old.trains) where
   abbrev pub lives_still : Departure → Bool
@@ -64,7 +67,7 @@ module _ (nw : Network) (old new : State) (trains : All IsTrain old.trains) wher
   abbrev gone : List Node
   gone = names_of (live_only (events old) (events new))
 
-  left-live : (d : Departure) → Contains (live_departures nw old) d → is_of_none gone d ≡ lives_still d
+  pub left-live : (d : Departure) → Contains (live_departures nw old) d → is_of_none gone d ≡ lives_still d
   left-live d there =
       let h = All-contains (IsDeparture nw old) (live_departures nw old) d (departs-each nw old) there in
       elim (cases_Bool (lives_still d)) [
@@ -123,7 +126,7 @@ module _ {nw : Network} {old new : State} {times : StoredTimes} (trains : All Is
     at : IsLiveAt (events new) d.key
     departs : d.key.dep ≡ true
     stored : stored_time times d.key ≡ d.time
-    same : d ≡ departing_at new d.time d.key
+    same : d ≡ departing_at nw new d.time d.key
 
   still : (d : Departure) → Contains ds d → IsStill d
   still d there =
@@ -140,8 +143,7 @@ module _ {nw : Network} {old new : State} {times : StoredTimes} (trains : All Is
         departs = h.departs;
         stored = ap (λ o. unwrap_or o 0) stored ∙ sym h.time;
         same =
-            let stop = h.stop ∙ sym (stop-kept old new d.key kept) in
-            let board = h.board ∙ sym (board-kept old new d.key kept) in
+            let stop = h.stop ∙ sym (boarding-kept nw old new d.key kept) in
             grind arith;
       }
 
@@ -157,14 +159,17 @@ module _ {nw : Network} {old new : State} {times : StoredTimes} (trains : All Is
   keys-apart : AllPairs (λ a b. a ≢ b) keys
   keys-apart = λ i j d l m e. let less = order.ascends i j d l m in let none = before-itself (get_or keys j d) in let same = ap (λ k. is_before k (get_or keys j d)) e in absurd (cc)
 
-  pub time-changes-are : AreTimeChanges new rs ds
+  pub time-changes-are : AreTimeChanges nw new rs ds
   time-changes-are = record {
+    live = λ i d l.
+        let s = still (get_or ds i d) (All-contains_itself ds i d l) in
+        (live-keyed (events new) (get_or ds i d).key s.at, s.departs);
     at_calls = λ i d l. (still (get_or ds i d) (All-contains_itself ds i d l)).same;
     once = AllPairs-map (λ (a b : TimeChange). a.key ≢ b.key) (time_change_at nw new times) (filter another keys) (AllPairs-filter (λ a b. a ≢ b) another keys keys-apart);
     there = λ i d l.
         let w = of-rs (get_or rs i d) (All-contains_itself rs i d l) in
         let at = key-live (events new) keys order w.0 w.1 in
-        rw (← w.3, ← at.2) (call-there new at.0 at.1 p.valid.trains);
+        rw (← w.3) (live-keyed (events new) w.0 at);
   }
 
   pub still-rise : AllPairs (λ a b. leaves_before a b ≡ true) ds
@@ -174,10 +179,10 @@ module _ {nw : Network} {old new : State} {times : StoredTimes} (trains : All Is
   moved = filter departs rs
 
   -- each of them is a live departure of the new state
-  parts-live : All (Contains (live_departures nw new)) (parts new rs ds)
+  parts-live : All (Contains (live_departures nw new)) (parts nw new rs ds)
   parts-live =
-      All-append (Contains (live_departures nw new)) (map (departing_then new) moved) (filter (λ d. not (is_of_one moved d)) ds)
-      (All-map (Contains (live_departures nw new)) (departing_then new) moved (λ i d l.
+      All-append (Contains (live_departures nw new)) (map (departing_then nw new) moved) (filter (λ d. not (is_of_one moved d)) ds)
+      (All-map (Contains (live_departures nw new)) (departing_then nw new) moved (λ i d l.
       let r = get_or moved i d in
       let own = filtered departs rs r (All-contains_itself moved i d l) in
       let w = of-rs r own.0 in
@@ -196,12 +201,12 @@ module _ {nw : Network} {old new : State} {times : StoredTimes} (trains : All Is
             absurd (cc)
         | inr same ↦
             let time = sym s.stored ∙ eqb-true _ _ (not-false _ same) in
-            let is : departing nw new s.at.0.key ≡ y = rw s.at.2 (ap (λ t. departing_at new t y.key) (sym time) ∙ sym s.same) in
+            let is : departing nw new s.at.0.key ≡ y = rw s.at.2 (ap (λ t. departing_at nw new t y.key) (sym time) ∙ sym s.same) in
             rw (← is) (departs-in nw new s.at.0 s.at.1 s.at.3 (rw s.at.2 s.departs))
       ])
 
   -- and each of those is one of them
-  live-parts : All (Contains (parts new rs ds)) (live_departures nw new)
+  live-parts : All (Contains (parts nw new rs ds)) (live_departures nw new)
   live-parts = λ i e l.
       let d = get_or (live_departures nw new) i e in
       let h = departs-each nw new i e l in
@@ -210,8 +215,8 @@ module _ {nw : Network} {old new : State} {times : StoredTimes} (trains : All Is
         | inl differs ↦
             let r = time_change_at nw new times d.key in
             let there = Contains-filter departs rs r (in-rs d.key (live-ordered (events new) keys order d.key at) differs) h.departs in
-            let is : departing_then new r ≡ d = let time = h.time in let stop = h.stop in let board = h.board in grind arith in
-            Contains-append_left (map (departing_then new) moved) _ d (rw is at (Contains-map (departing_then new) moved r there))
+            let is : departing_then nw new r ≡ d = let time = h.time in let stop = h.stop in grind arith in
+            Contains-append_left (map (departing_then nw new) moved) _ d (rw is at (Contains-map (departing_then nw new) moved r there))
         | inr same ↦
             let unchanged = sym (another-is nw old new p.valid times p.stored d.key at) ∙ same in
             let both = or_parts _ _ unchanged in
@@ -222,8 +227,7 @@ module _ {nw : Network} {old new : State} {times : StoredTimes} (trains : All Is
             let is : departing nw old was.0.key ≡ d =
             let time = h.time in
             let times_same = eqb-true _ _ (not-false _ both.1) in
-            let stop = h.stop ∙ stop-kept old new d.key kept in
-            let board = h.board ∙ board-kept old new d.key kept in
+            let stop = h.stop ∙ boarding-kept nw old new d.key kept in
             rw key (grind arith) in
             let there = rw is at (departs-in nw old was.0 was.1 own.0 (rw key h.departs)) in
             let live = live-key (events new) d.key at in
@@ -232,12 +236,12 @@ module _ {nw : Network} {old new : State} {times : StoredTimes} (trains : All Is
             let w = of-rs q.0 (filtered departs rs q.0 q.1).0 in
             let differs = rw (ap (λ (r : TimeChange). r.key) w.3 ∙ same-is q.0.key d.key q.2) at w.2 in
             absurd (cc)) in
-            Contains-append_right (map (departing_then new) moved) _ d (Contains-filter (λ d. not (is_of_one moved d)) ds d (Contains-filter (lives_still nw old new trains) (live_departures nw old) d there live) (rw none refl))
+            Contains-append_right (map (departing_then nw new) moved) _ d (Contains-filter (λ d. not (is_of_one moved d)) ds d (Contains-filter (lives_still nw old new trains) (live_departures nw old) d there live) (rw none refl))
       ]
 
-  pub moved-live : with_times new rs ds ≡ live_departures nw new
+  pub moved-live : with_times nw new rs ds ≡ live_departures nw new
   unfolding with_times
-  moved-live = one-in-order (parts new rs ds) (live_departures nw new) (parts-differ new rs ds still-rise time-changes-are) (departs-rise nw new p.valid.trains) parts-live live-parts
+  moved-live = one-in-order (parts nw new rs ds) (live_departures nw new) (parts-differ nw new rs ds still-rise time-changes-are) (departs-rise nw new p.valid.trains) parts-live live-parts
 
   -- no more events get other times than are live
   pub time-changes-fit : length rs ≤ length (live_keys (events new))

@@ -5,7 +5,7 @@ use Rattle.timetable.proofs.Words.{trains-each, events_at-each, StoredTimes, has
 use Rattle.std.proofs.lemmas.Option.{slice_get-map}
 use Rattle.train_nodes.proofs.TimeLemmas.{held}
 
-abbrev twice : ℕ → ℕ
+abbrev pub twice : ℕ → ℕ
 twice n = 2 * n
 
 abbrev pub next_of : Train → ℕ
@@ -27,7 +27,7 @@ sized-at st k n t sized got = grind (arith, slice_get-map length k.trains n, sli
 pub sized-push : (labels : List ℕ) (k : StoredTimes) (more : ℕ) → AreSized labels k → AreSized (labels ++ more ∷ []) (with_train_times more k)
 sized-push labels k more sized = rw (map-append, sized, length-blank, map-append) refl
 
-lengths-more : (n more : ℕ) (xss : List (List ℕ)) → map length (change_at n (λ xs. xs ++ blank_times more) xss) ≡ change_at n (λ l. l + 2 * more) (map length xss)
+pub lengths-more : (n more : ℕ) (xss : List (List ℕ)) → map length (change_at n (λ xs. xs ++ blank_times more) xss) ≡ change_at n (λ l. l + 2 * more) (map length xss)
 lengths-more n more [] = refl
 lengths-more zero more (xs ∷ xss) = rw (length-append, length-blank) refl
 lengths-more (suc n) more (xs ∷ xss) = rw (lengths-more n more xss) refl

@@ -2,7 +2,10 @@
 use Rattle.timetable.proofs.Words.{◌≡◌, true, false, not, List, [], ◌∷◌, Bool, filter, get_or, refl, sym, ◌∙◌, ap, arith, inl, inr, All, All-contains, All-contains_itself, All-filter, All-tail, Contains, cases_Bool, false_from_ne_true}
 use Rattle.timetable.proofs.Words.{Key, Node, State, IsTrain, Departure, AreLiveDepartures, events, has_call, is_of_none, is_same, is_same_node, live_keys, node_of, same-is, same-itself, same_node-is, same_node-itself, Event, events-unique}
 use Rattle.timetable.proofs.Words.{Contains-there, None, Option, Some, event_named, find, is_event, option_map, train_events, train_events-there}
-use Rattle.dep_order.specs.Ordered.{Ordered}
+use Rattle.dep_order.specs.Ordered.{KeepsRoom, Ordered, without}
+use Rattle.timetable.specs.Numbers.{AreLeft}
+use Rattle.timetable.proofs.Numbers.{none-left, one-left, rooms, same-room}
+use Rattle.timetable.proofs.Words.{map}
 use Rattle.propagate.proofs.{Ordered.keyed-live}
 use Rattle.timetable.proofs.Changed.{filter-same}
 use Rattle.timetable.proofs.Moved.{filter-all}
@@ -12,7 +15,12 @@ pub record AreTakenTo (st : State) (gone : List Node) (before : Ordered) (left :
   pub live : AreLiveDepartures st now.departures
   pub there : All (λ n. has_call st n.train n.label ≡ true) left
   pub whole : filter (is_of_none left) now.departures ≡ filter (is_of_none gone) before.departures
-  pub room : now.spare ≡ before.spare
+  pub among : All (Contains gone) left
+  pub numbers : AreLeft gone before now
+  pub room : KeepsRoom before now
+
+pub all-there : {st : State} {gone : List Node} {before : Ordered} → AreLiveDepartures st before.departures → All (λ n. has_call st n.train n.label ≡ true) gone → AreTakenTo st gone before gone before
+all-there {gone = gone} {before = before} live there = record { live = live; there = there; whole = refl; among = All-contains_itself gone; numbers = none-left gone before; room = same-room before }
 
 Contains-here : {X : Type 0} (y : X) (ys : List X) (x : X) → y ≡ x → Contains (y ∷ ys) x
 Contains-here y ys x is = (0, omega arith, is)
@@ -64,8 +72,8 @@ module _ (st : State) (trains : All IsTrain st.trains) (gone : List Node) (befor
             rw (differs, other) refl
       ]
 
-  pub one-taken : (v : Event) → Contains (events st) v → node_of v.key ≡ n → (k : Key) → v.key ≡ k → (next : Ordered) → next.departures ≡ filter (is_other_than k) now.departures → next.spare ≡ now.spare → AreTakenTo st gone before left next
-  one-taken v there named k key next is same =
+  pub one-taken : (v : Event) → Contains (events st) v → node_of v.key ≡ n → (k : Key) → v.key ≡ k → (next : Ordered) → next.departures ≡ filter (is_other_than k) now.departures → next.entries ≡ map (without k) now.entries → next.used ≡ now.used → next.onwards ≡ now.onwards → KeepsRoom now next → AreTakenTo st gone before left next
+  one-taken v there named k key next is entries used onwards room =
       let ds = now.departures in
       let split = filter-both n left ds in
       let by_key = filter-same (λ d. not (is_same_node (node_of d.key) n)) (is_other_than k) ds (λ i e l. rw key at (same-by-name v there named (get_or ds i e) (All-contains_itself ds i e l))) in
@@ -73,7 +81,9 @@ module _ (st : State) (trains : All IsTrain st.trains) (gone : List Node) (befor
         live = rw is (All-filter (is_other_than k) (λ (d : Departure). Contains (live_keys (events st)) d.key × (d.key.dep ≡ true)) ds h.live);
         there = All-tail (λ n. has_call st n.train n.label ≡ true) n left h.there;
         whole = rw is (ap (filter (is_of_none left)) (sym by_key) ∙ sym split ∙ h.whole);
-        room = same ∙ h.room;
+        among = All-tail (Contains gone) n left h.among;
+        numbers = one-left h.numbers k n (h.among 0 n (omega arith)) (rw (← key) named) next entries used onwards;
+        room = rooms h.room room;
       }
 
   pub one-arrives : n.dep ≡ false → AreTakenTo st gone before left now
@@ -86,6 +96,8 @@ module _ (st : State) (trains : All IsTrain st.trains) (gone : List Node) (befor
         live = h.live;
         there = All-tail (λ n. has_call st n.train n.label ≡ true) n left h.there;
         whole = ap (filter (is_of_none left)) (sym all) ∙ sym (filter-both n left ds) ∙ h.whole;
+        among = All-tail (Contains gone) n left h.among;
+        numbers = h.numbers;
         room = h.room;
       }
 

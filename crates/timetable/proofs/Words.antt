@@ -46,7 +46,7 @@ pub use Rattle.edge_rules.specs.AtStops.{AreAtStops, IsAtStop}
 unfoldable pub use Rattle.timetable.specs.Changed.{changed_nodes}
 pub use Rattle.timetable.specs.Changed.{AreInOrder, IsChangedEvent, is_changed}
 unfoldable pub use Rattle.timetable.specs.Departures.{live_departures}
-pub use Rattle.timetable.specs.Departures.{AreListed, IsDeparture, departing, departing_at, departures_from, is_departure, may_board, stop_of, stored_departure}
+pub use Rattle.timetable.specs.Departures.{AreListed, IsDeparture, boarding_stop, departing, departing_at, departures_from, is_departure, may_board, stop_of, stored_departure}
 pub use Rattle.dep_order.specs.Departing.{departure_cmp}
 unfoldable pub use Rattle.dep_order.specs.Departing.{leaves_before}
 unfoldable pub use Rattle.timetable.specs.Moved.{with_times}

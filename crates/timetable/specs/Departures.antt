@@ -1,5 +1,6 @@
 -- The live departures of a state, each with its time, in the order of their times.
-use Rattle.std.specs.Prelude.{◌≡◌, ℕ, List, Bool, true, false, nat_le, Contains, filter, map}
+use Rattle.std.specs.Prelude.{◌≡◌, ℕ, ◌+◌, ◌*◌, List, Bool, true, false, nat_le, Contains, filter}
+use Rattle.std.specs.Prelude.{if◌then◌else◌, length, map}
 use Rattle.std.specs.List.{AllPairs}
 use Rattle.std.specs.List.Sorted.{IsPermutation}
 use Rattle.std.specs.Option.{option_map_or}
@@ -31,27 +32,31 @@ stop_of st k = option_map_or (λ (c : Call). c.stop) (call_named st k.train k.la
 abbrev pub may_board : State → Key → Bool
 may_board st k = option_map_or (λ (c : Call). c.board) (call_named st k.train k.label) false
 
+-- the stop where passengers may board at the call of an event: its own, or the number past all
+-- stops where nobody may
+abbrev pub boarding_stop : Network → State → Key → ℕ
+boarding_stop nw st k = if may_board st k then stop_of st k else length nw.stops
+
 -- the departure of this key at this time
-abbrev pub departing_at : State → ℕ → Key → Departure
-departing_at st time k =
-    record { time = time; key = k; stop = stop_of st k; board = may_board st k }
+abbrev pub departing_at : Network → State → ℕ → Key → Departure
+departing_at nw st time k = record { time = time; key = k; stop = boarding_stop nw st k }
 
 -- the departure of this key, at its event's time
 abbrev pub departing : Network → State → Key → Departure
-departing nw st k = departing_at st (event_time nw st k) k
+departing nw st k = departing_at nw st (event_time nw st k) k
 
 -- the departure of this key, at the time that is stored for it
-abbrev pub stored_departure : State → StoredTimes → Key → Departure
-stored_departure st times k = departing_at st (stored_time times k) k
+abbrev pub stored_departure : Network → State → StoredTimes → Key → Departure
+stored_departure nw st times k = departing_at nw st (stored_time times k) k
 
 abbrev pub is_departure : Key → Bool
 is_departure k = k.dep
 
 -- these are the departures among the events of these keys, each at the time that is stored for it,
 -- in the order of their keys
-pub record AreListed (st : State) (times : StoredTimes) (keys : List Key) (ds : List Departure) :
-    Type 0 where
-  pub moved : IsPermutation (map (stored_departure st times) (filter is_departure keys)) ds
+pub record AreListed (nw : Network) (st : State) (times : StoredTimes) (keys : List Key)
+    (ds : List Departure) : Type 0 where
+  pub moved : IsPermutation (map (stored_departure nw st times) (filter is_departure keys)) ds
   pub ascends : AllPairs (λ a b. is_before a.key b.key ≡ true) ds
 
 -- the live departures of a state, in their order
@@ -63,6 +68,11 @@ live_departures nw st =
 abbrev pub departures_from : Network → State → ℕ → List Departure
 departures_from nw st from = filter (λ d. nat_le from d.time) (live_departures nw st)
 
+-- for how many departures there are numbers where this state is the first: one for each that is
+-- live, and two for each call that can still be made
+abbrev pub departure_room : State → ℕ
+departure_room st = length (filter is_departure (live_keys (events st))) + 2 * st.spare_calls
+
 -- it is a live departure of the state, at its event's time
 pub record IsDeparture (nw : Network) (st : State) (d : Departure) : Type 0 where
   pub event : Event
@@ -71,5 +81,4 @@ pub record IsDeparture (nw : Network) (st : State) (d : Departure) : Type 0 wher
   pub key : event.key ≡ d.key
   pub departs : d.key.dep ≡ true
   pub time : d.time ≡ event_time nw st d.key
-  pub stop : d.stop ≡ stop_of st d.key
-  pub board : d.board ≡ may_board st d.key
+  pub stop : d.stop ≡ boarding_stop nw st d.key

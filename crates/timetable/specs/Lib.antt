@@ -2,10 +2,16 @@ pub mod TimetableState
 pub mod LiveTimes
 pub mod Changed
 pub mod Departures
+pub mod Onward
 pub mod Moved
+pub mod Numbers
 pub mod Settled
 pub mod Inside
 pub mod Shapes
 pub mod Scheduled
 pub mod Marking
 pub mod Emptied
+pub mod Carried
+pub mod Linking
+pub mod Loaded
+pub mod Applied

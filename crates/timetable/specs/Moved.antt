@@ -1,12 +1,11 @@
 -- Departures that get other times, moved to their places.
-use Rattle.std.specs.Prelude.{◌≡◌, ◌≢◌, ℕ, List, ◌++◌, Bool, true, ◌&&◌, not, All, Contains, IsTrue, filter, length, map}
+use Rattle.std.specs.Prelude.{◌≡◌, ◌≢◌, ℕ, List, ◌++◌, Bool, true, ◌&&◌, not, All, Contains, filter, length, map}
 use Rattle.std.specs.List.{AllPairs, list_any}
 use Rattle.mt_base.specs.declared.keys.Node.{Node}
 use Rattle.mt_base.specs.Order.{is_same, is_same_node, node_of}
 use Rattle.delay_model.specs.declared.network.Network.{Network}
 use Rattle.delay_model.specs.declared.state.State.{State}
 use Rattle.delay_model.specs.Events.{events}
-use Rattle.train_nodes.specs.Calls.{has_call}
 use Rattle.train_nodes.specs.Times.{StoredTimes}
 use Rattle.propagate.specs.declared.time_changes.TimeChange.{TimeChange}
 use Rattle.propagate.specs.LiveKeys.{has_another, key_order, live_keys, time_change_at}
@@ -19,38 +18,40 @@ abbrev pub departs : TimeChange → Bool
 departs r = r.key.dep
 
 -- the departure of an event that gets another time, at that time
-abbrev pub departing_then : State → TimeChange → Departure
-departing_then st r = departing_at st r.is r.key
+abbrev pub departing_then : Network → State → TimeChange → Departure
+departing_then nw st r = departing_at nw st r.is r.key
 
 -- the departure is of one of these events
 abbrev pub is_of_one : List TimeChange → Departure → Bool
 is_of_one rs d = list_any (λ r. is_same r.key d.key) rs
 
 -- these departures, and those among the events that get other times at these, in their order
-unfoldable pub with_times : State → List TimeChange → List Departure → List Departure
-with_times st rs ds =
+unfoldable pub with_times : Network → State → List TimeChange → List Departure → List Departure
+with_times nw st rs ds =
     let moved = filter departs rs in
     in_order leaves_before
-    (map (departing_then st) moved ++ filter (λ d. not (is_of_one moved d)) ds)
+    (map (departing_then nw st) moved ++ filter (λ d. not (is_of_one moved d)) ds)
 
 -- these departures are those of live events
 abbrev pub AreLiveDepartures : State → List Departure → Type 0
 AreLiveDepartures st ds = All (λ d. Contains (live_keys (events st)) d.key × (d.key.dep ≡ true)) ds
 
--- the call of an event is there
-abbrev pub HasCall : State → TimeChange → Type 0
-HasCall st r = IsTrue (has_call st r.key.train r.key.label)
-
 -- the departure is what it is at its call
-abbrev pub IsAtCall : State → Departure → Type 0
-IsAtCall st d = d ≡ departing_at st d.time d.key
+abbrev pub IsAtCall : Network → State → Departure → Type 0
+IsAtCall nw st d = d ≡ departing_at nw st d.time d.key
 
--- these departures are as they are at their calls, each of these events is there, and it gets one
--- time
-pub record AreTimeChanges (st : State) (rs : List TimeChange) (ds : List Departure) : Type 0 where
-  pub at_calls : All (IsAtCall st) ds
+-- the event is live
+abbrev pub IsOfLive : State → TimeChange → Type 0
+IsOfLive st r = Contains (live_keys (events st)) r.key
+
+-- these departures are those of live events, as they are at their calls; each of these events is
+-- live, and it gets one time
+pub record AreTimeChanges (nw : Network) (st : State) (rs : List TimeChange)
+    (ds : List Departure) : Type 0 where
+  pub live : AreLiveDepartures st ds
+  pub at_calls : All (IsAtCall nw st) ds
   pub once : AllPairs (λ a b. a.key ≢ b.key) rs
-  pub there : All (HasCall st) rs
+  pub there : All (IsOfLive st) rs
 
 -- the event departs, and its departure is not among these
 abbrev pub is_new_to : List Departure → TimeChange → Bool

@@ -1,12 +1,14 @@
 -- A timetable's state with the time of each live event, and the room that is kept for more.
-use Rattle.std.specs.Prelude.{ℕ, ◌+◌, ◌*◌, ◌≤◌, All, length}
+use Rattle.std.specs.Prelude.{◌≡◌, ℕ, ◌+◌, ◌*◌, ◌≤◌, All, length}
 use Rattle.delay_model.specs.declared.network.Network.{Network}
 use Rattle.delay_model.specs.declared.state.State.{State}
 use Rattle.delay_model.specs.Events.{events}
 use Rattle.delay_model.specs.Valid.{IsValid}
 use Rattle.train_nodes.specs.Times.{StoredTimes}
 pub use Rattle.propagate.specs.LiveKeys.{HasItsTime, live_keys}
-pub use Rattle.propagate.specs.TimesFor.{HasTimesFor}
+pub use Rattle.propagate.specs.TimesFor.{HasTimesFor, next_labels}
+use Rattle.train_nodes.specs.Times.{AreSized}
+use Rattle.dep_order.specs.Ordered.{Ordered}
 
 -- the state is valid, for each live event its time is stored, and for each label that a train has
 -- used there are times
@@ -14,6 +16,19 @@ pub record IsSettled (nw : Network) (st : State) (stored : StoredTimes) : Type 0
   pub valid : IsValid nw st
   pub times : All (HasItsTime nw st stored) (live_keys (events st))
   pub has_times : HasTimesFor st stored
+
+-- for each label that a train has used there is a place for the number of a departure, and there is
+-- room for those of as many more trains and calls as are spare
+pub record HasPlacesFor (st : State) (order : Ordered) : Type 0 where
+  pub labels : order.labels ≡ next_labels st
+  pub spare_trains : order.spare_trains ≡ st.spare_trains
+  pub spare_calls : order.spare_calls ≡ st.spare_calls
+
+-- there are times and places for numbers of the same labels, with the same room for more
+pub record AreOfSameLabels (stored : StoredTimes) (order : Ordered) : Type 0 where
+  pub sized : AreSized order.labels stored
+  pub spare_trains : stored.spare_trains ≡ order.spare_trains
+  pub spare_calls : stored.spare_calls ≡ order.spare_calls
 
 -- how many events can be live, if each spare call is used
 abbrev pub most_live : State → ℕ

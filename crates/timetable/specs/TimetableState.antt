@@ -12,21 +12,29 @@ use Rattle.delay_model.specs.Effect.{effect}
 use Rattle.delay_model.specs.Refusals.{refusal}
 use Rattle.timetable.specs.Changed.{changed_nodes}
 
--- what no message changes, the state of the trains, how many messages were accepted, and the events
--- that the last of them changed
+-- what no message changes, the state of the trains, how many numbers departures can have, how many
+-- messages were accepted, and the events that the last of them changed
 pub record TimetableState : Type 0 where
   pub network : Network
   pub state : State
+  pub numbers : ℕ
   pub count : ℕ
   pub changed : List Node
 
 -- a timetable is stored as its fields
 abbrev pub timetable_state_code : Coded TimetableState
 timetable_state_code =
-    code_by (Network × (State × (ℕ × List Node)))
-    (coded× network_row.coded (coded× state_row.coded (coded× coded_ℕ (coded_list coded_node))))
-    (λ r. (r.network, (r.state, (r.count, r.changed))))
-    (λ p. record { network = p.0; state = p.1.0; count = p.1.1.0; changed = p.1.1.1 }) (λ _. refl)
+    code_by (Network × (State × (ℕ × (ℕ × List Node))))
+    (coded× network_row.coded
+    (coded× state_row.coded (coded× coded_ℕ (coded× coded_ℕ (coded_list coded_node)))))
+    (λ r. (r.network, (r.state, (r.numbers, (r.count, r.changed)))))
+    (λ p. record {
+      network = p.0;
+      state = p.1.0;
+      numbers = p.1.1.0;
+      count = p.1.1.1.0;
+      changed = p.1.1.1.1;
+    }) (λ _. refl)
 
 -- one message more, as far as 64 bits count
 abbrev pub counted : ℕ → ℕ
@@ -38,6 +46,7 @@ stepped r m =
     record {
       network = r.network;
       state = effect r.state m;
+      numbers = r.numbers;
       count = counted r.count;
       changed = changed_nodes r.network r.state (effect r.state m);
     }

@@ -13,10 +13,12 @@ mod leaving;
 mod lists;
 mod loading;
 mod marking;
+mod onward;
+mod places;
 mod prepare;
 mod replay;
 mod scheduled;
 pub mod timetable;
 
-pub use dep_order::{Departure, Departures};
+pub use dep_order::{Departure, DepartureOrder};
 pub use timetable::Timetable;

@@ -7,14 +7,17 @@ ghost use Rattle.delay_model.specs.Events.{events};
 ghost use Rattle.delay_model.specs.Valid.{IsValid};
 ghost use Rattle.train_nodes.specs.Times.{has_time};
 ghost use Rattle.rank_order.specs.Marked.{is_marked};
-ghost use Rattle.timetable.specs.Departures.{live_departures};
+ghost use Rattle.timetable.specs.Loaded.{AreLoaded};
 ghost use Rattle.timetable.specs.LiveTimes.{live_keys};
 ghost use Rattle.timetable.specs.Marking.{AreMarksOf};
+ghost use Rattle.timetable.specs.Onward.{IsDepartureOrder};
 ghost use Rattle.timetable.specs.Settled.{IsSettled, HasItsTime, HasTimesFor};
 
 use crate::departures::list_departures;
 use crate::events::{list_keys, live_keys};
 use crate::marking::mark;
+use crate::onward::go_on_all;
+use crate::places::places_for;
 use crate::scheduled::have_schedule_alone;
 use dep_order::DepartureOrder;
 use edge_rules::Graph;
@@ -100,8 +103,26 @@ fn time_all<L: Ledger>(
     Ok(())
 }
 
-/// Stores the time of each live event, and puts the departures in order, with room for one at each
-/// arrival and departure of the calls that are still to be made. It counts no step.
+/// The live departures in their order, each at the time that is stored for it, with room for two at
+/// each call that can still be made.
+fn order_departures<L: Ledger>(
+    alloc: Global,
+    graph: &Graph,
+    times: &NodeTimes,
+    steps: &mut Steps<L>,
+) -> Result<DepartureOrder, OutOfMemory>
+    requires settled { IsSettled graph.now.network graph.now.state times.now }
+    requires few { length (live_keys (events graph.now.state)) + 2 * graph.now.state.spare_calls
+        ≤ 2097152 }
+    ensures { IfOk result (AreLoaded graph.now.network graph.now.state) }
+{
+    let list = list_departures(alloc, graph, times, steps)?;
+    let places = places_for(alloc, graph.trains())?;
+    DepartureOrder::build(alloc, &list, places, 2 * graph.trains().spare_calls())
+}
+
+/// Stores the time of each live event, and puts the departures in order, with what their trains do
+/// next and room for two at each call that can still be made. It counts no step.
 pub(crate) fn settle_all<L: Ledger>(
     alloc: Global,
     graph: &Graph,
@@ -130,10 +151,8 @@ pub(crate) fn settle_all<L: Ledger>(
 
     // the times and the departures, where there is memory
     ensures settled { OnOk result (IsSettled graph.now.network graph.now.state times.new) }
-    ensures departures { IfOk result (λ order. order ≡ record {
-      departures = live_departures graph.now.network graph.now.state;
-      spare = 2 * graph.now.state.spare_calls;
-    }) }
+    ensures departures { IfOk result (AreLoaded graph.now.network graph.now.state) }
+    ensures order { IfOk result (IsDepartureOrder graph.now.network graph.now.state) }
 
     // the list and the marks afterwards
     ensures time_changes_capacity { vec_capacity time_changes.new ≡ vec_capacity time_changes.old }
@@ -142,6 +161,7 @@ pub(crate) fn settle_all<L: Ledger>(
 {
     let mut steps = Steps::<L>::open(blank);
     time_all(alloc, graph, times, marks, time_changes, &mut steps)?;
-    let list = list_departures(alloc, graph.trains(), times, &mut steps)?;
-    DepartureOrder::build(alloc, &list, 2 * graph.trains().spare_calls())
+    let mut departures = order_departures(alloc, graph, times, &mut steps)?;
+    go_on_all(&mut departures, graph, times, &mut steps);
+    Ok(departures)
 }

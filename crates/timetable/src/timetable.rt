@@ -10,23 +10,25 @@ ghost use Rattle.edge_rules.specs.Inside.{network_of};
 ghost use Rattle.graph_edit.specs.Values.{Gives};
 ghost use Rattle.edge_rules.specs.AtStops.{AreAtStops};
 ghost use Rattle.propagate.specs.Reads.{reads_of};
-ghost use Rattle.timetable.specs.Departures.{departures_from};
+ghost use Rattle.timetable.specs.Departures.{departure_room};
 ghost use Rattle.timetable.specs.Emptied.{AreEmpty};
 ghost use Rattle.timetable.specs.LiveTimes.{live_time};
+ghost use Rattle.timetable.specs.Onward.{IsDepartureOrder};
 ghost use Rattle.timetable.specs.TimetableState.{stepped, taken};
 ghost use Rattle.timetable.specs.Settled.{HasTimesFor, most_live};
 
 use crate::check::check;
-use crate::departures::{move_departures, take_departures};
+use crate::departures::{renew_departures, take_departures};
 use crate::following::{names_from, take_times};
 use crate::leaving::list_taken;
 use crate::lists::{Lists, blank_parts, copy_lists};
 use crate::loading::settle_all;
 use crate::marking::{mark_after, mark_before};
+use crate::onward::noted_arrival;
 use crate::prepare::{apply, push_names};
 use change_times::Changes;
 use delay_model::messages::Refusal;
-use dep_order::{DepartureOrder, Departures};
+use dep_order::DepartureOrder;
 use edge_rules::Graph;
 use mt_base::keys::Node;
 use mt_base::memory::OutOfMemory;
@@ -92,6 +94,7 @@ impl Timetable {
         ensures { IfOk result (λ t. t ≡ record {
           network = network_of changes waits opts;
           state = trains;
+          numbers = departure_room trains;
           count = 0;
           changed = [];
         }) }
@@ -107,6 +110,7 @@ impl Timetable {
         ensures { IfOk result (λ t. t ≡ record {
           network = graph.network;
           state = graph.state;
+          numbers = departure_room graph.state;
           count = 0;
           changed = [];
         }) }
@@ -129,6 +133,7 @@ impl Timetable {
         ensures { IfOk result (λ t. t ≡ record {
           network = graph.network;
           state = graph.state;
+          numbers = departure_room graph.state;
           count = 0;
           changed = [];
         }) }
@@ -201,9 +206,10 @@ impl Timetable {
         ensures no_steps { IfErr result (λ _. steps.new ≡ steps.old) }
     {
         check(&self.graph, m)?;
+        let noted = noted_arrival(&self.departures, &self.graph, m);
         mark_before(&self.graph, m, &mut self.changed, &mut self.marks);
         take_departures(&mut self.departures, self.graph.trains(), &self.changed);
-        apply(&mut self.graph, &mut self.times, m);
+        apply(&mut self.graph, &mut self.times, &mut self.departures, m);
         mark_after(&self.graph, m, &mut self.marks);
         self.time_changes.clear();
         settle(
@@ -213,9 +219,11 @@ impl Timetable {
             &mut self.time_changes,
             steps,
         );
-        move_departures(
+        renew_departures(
             &mut self.departures,
-            self.graph.trains(),
+            &self.graph,
+            m,
+            noted,
             &self.time_changes,
         );
         push_names(&mut self.changed, &self.time_changes);
@@ -240,9 +248,10 @@ impl Timetable {
         requires stepped { other.now ≡ stepped self.old m.now }
         ensures { self.new ≡ stepped self.old m.now }
     {
+        let noted = noted_arrival(&self.departures, &self.graph, m);
         list_taken(&mut self.changed, &self.graph, m);
         take_departures(&mut self.departures, self.graph.trains(), &self.changed);
-        apply(&mut self.graph, &mut self.times, m);
+        apply(&mut self.graph, &mut self.times, &mut self.departures, m);
         let first = self.changed.len();
         self.time_changes.clear();
         take_times(
@@ -253,9 +262,11 @@ impl Timetable {
             &mut self.time_changes,
             steps,
         );
-        move_departures(
+        renew_departures(
             &mut self.departures,
-            self.graph.trains(),
+            &self.graph,
+            m,
+            noted,
             &self.time_changes,
         );
         push_names(&mut self.changed, &self.time_changes);
@@ -271,12 +282,21 @@ impl Timetable {
         &self.changed
     }
 
-    /// The live departures at a time or later, over the state as the last step left it, each with
-    /// its time: in the order of the times, and at one time in that of the keys.
-    pub fn departures(&self, from: Time) -> Departures<'_>
-        ensures { result ≡ departures_from self.now.network self.now.state from }
+    /// The live departures over the state as the last step left it, each with its time, its number
+    /// and what its train does next.
+    #[inline]
+    pub fn departures(&self) -> &DepartureOrder
+        ensures order { IsDepartureOrder self.now.network self.now.state result.now }
+        ensures numbers { length result.now.entries ≡ self.now.numbers }
     {
-        self.departures.departures_from(from)
+        &self.departures
+    }
+
+    /// How many numbers departures can have: all numbers are below. No message changes it.
+    pub fn numbers(&self) -> u32
+        ensures { result ≡ self.now.numbers }
+    {
+        self.departures.numbers()
     }
 
     /// How many messages were accepted. Past 2^64 - 1 it stays there.

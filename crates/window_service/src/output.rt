@@ -40,7 +40,6 @@ pub(crate) fn receive_windows<
     history: NewHistory<Msg>,
     timetable: Timetable,
     directory: Directory,
-    trains: u32,
     workers: u32,
     input: &mut S,
     out: &mut K,
@@ -72,7 +71,7 @@ pub(crate) fn receive_windows<
 {
     let mut reader = LineReader::build(alloc, budget)?;
     let mut crew: Crew<Publisher<Timetable, H>, Viewer<Timetable, H>> = Crew::build(
-        rt, alloc, history, timetable, directory, workers, trains,
+        rt, alloc, history, timetable, directory, workers,
     )?;
     let run = answer_windows::<H, T, R, S, K, G>(
         rt,
@@ -88,13 +87,12 @@ pub(crate) fn receive_windows<
 }
 
 /// Answers the windows of the input one after another, with so many workers beside the publisher of
-/// the messages, and writes the replies to a window when all of it is answered. The search for
-/// journeys remembers where it has been of trains below the number `trains`; for others it only
-/// takes longer. It fails with `ReadFault` where a read of the input failed, and with `TooLong`
-/// where `budget` bytes of it were taken and no end was read; then the windows that are whole among
-/// the bytes taken are answered, and no other line is. It fails with `WriteFault` where a write of
-/// the output failed, and with `OutOfMemory` where there was no memory; then a front of an output
-/// is written. It takes no more than `budget` bytes.
+/// the messages, and writes the replies to a window when all of it is answered. It fails with
+/// `ReadFault` where a read of the input failed, and with `TooLong` where `budget` bytes of it were
+/// taken and no end was read; then the windows that are whole among the bytes taken are answered,
+/// and no other line is. It fails with `WriteFault` where a write of the output failed, and with
+/// `OutOfMemory` where there was no memory; then a front of an output is written. It takes no more
+/// than `budget` bytes.
 pub fn write_windows<
     H: Opening<Timetable> + Send + Sync,
     R: Threads + Wait + Sync,
@@ -107,7 +105,6 @@ pub fn write_windows<
     history: NewHistory<Msg>,
     timetable: Timetable,
     directory: Directory,
-    trains: u32,
     workers: u32,
     input: &mut S,
     out: &mut K,
@@ -144,6 +141,6 @@ pub fn write_windows<
         (IsFull (K.faults out.new) (K.written out.new)) }
 {
     receive_windows::<H, WriteTexts, R, S, K, G>(
-        rt, alloc, history, timetable, directory, trains, workers, input, out, gate, budget,
+        rt, alloc, history, timetable, directory, workers, input, out, gate, budget,
     )
 }

@@ -62,7 +62,6 @@ pub fn sum_windows<
     history: NewHistory<Msg>,
     timetable: Timetable,
     directory: Directory,
-    trains: u32,
     workers: u32,
     input: &mut S,
     gate: &G,
@@ -87,7 +86,7 @@ pub fn sum_windows<
 {
     let mut sums = ReplySums::none();
     receive_windows::<H, AddReplies, R, S, ReplySums, G>(
-        rt, alloc, history, timetable, directory, trains, workers, input, &mut sums, gate, budget,
+        rt, alloc, history, timetable, directory, workers, input, &mut sums, gate, budget,
     )?;
     Ok(sums)
 }

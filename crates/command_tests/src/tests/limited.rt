@@ -60,7 +60,7 @@ fn limited_text<H: Opening<Timetable> + Send + Sync, R: Threads + Wait + Sync>(
     requires in_step { AreInStep directory timetable.state }
 {
     let mut crew: Crew<Publisher<Timetable, H>, Viewer<Timetable, H>> = Crew::build_limited(
-        rt, alloc, history, timetable, directory, 4, viewers, 2,
+        rt, alloc, history, timetable, directory, 4, viewers,
     )?;
     let shown = window_text(rt, alloc, &mut crew, text);
     crew.close(rt, alloc);

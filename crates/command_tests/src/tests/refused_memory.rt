@@ -1,6 +1,7 @@
 //! Queries while every request for memory is refused.
 
-ghost use Rattle.std.specs.Prelude.{◌≡◌, ◌<◌, ◌≤◌, IfOk, length};
+ghost use Rattle.std.specs.Prelude.{◌≡◌, IfOk};
+ghost use Rattle.query_crew.specs.Posted.{IsRoomFor};
 
 use crate::tests::example_feed::TABLES;
 use crate::tests::exhaustion::{BLOCKS, is_all_refused, take_all};
@@ -12,11 +13,8 @@ use mt_base::journeys::Query;
 use mt_base::memory::OutOfMemory;
 use mt_base::numbers::{StopNo, Time};
 use std::alloc::Global;
-use std::marker::Brand;
-use std::sync::ledger::{Blank, Ledger};
 use std::test::*;
 use timetable::Timetable;
-use train_nodes::Steps;
 
 /// How many stops, stations and platforms the feed has.
 const PLACES: u32 = 6;
@@ -42,35 +40,25 @@ fn feed_timetable(alloc: Global) -> Result<Timetable, Fail> {
 }
 
 /// Whether there is a journey from one place to another from 08:00:00 on.
-fn is_reached<L: Ledger>(
-    timetable: &Timetable,
-    scratch: &mut Scratch,
-    from: u32,
-    to: u32,
-    steps: &mut Steps<L>,
-) -> bool
-    requires stops { length timetable.now.network.stops ≤ scratch.old.stops }
-    ensures stops { scratch.new.stops ≡ scratch.old.stops }
+fn is_reached(timetable: &Timetable, scratch: &mut Scratch, from: u32, to: u32) -> bool
+    requires room { IsRoomFor timetable.now scratch.old.room }
+    ensures room { scratch.new.room ≡ scratch.old.room }
 {
     let query = Query {
         from_stop: StopNo::new(from),
         to_stop: StopNo::new(to),
         time: Time::new(28_800),
     };
-    earliest(timetable, &query, scratch, steps) != Found::NoWay
+    earliest(timetable, &query, scratch) != Found::NoWay
 }
 
 /// Between how many pairs of places there is a journey.
-fn count_reached<L: Ledger>(timetable: &Timetable, scratch: &mut Scratch, blank: Blank) -> u32
-    requires stops { length timetable.now.network.stops ≤ scratch.old.stops }
-    requires name { blank.name ≡ L.name }
-    requires parts { blank.parts ≡ L.parts }
-    requires some { 0 < blank.parts }
+fn count_reached(timetable: &Timetable, scratch: &mut Scratch) -> u32
+    requires room { IsRoomFor timetable.now scratch.old.room }
 {
-    let mut steps = Steps::<L>::open(blank);
     let mut reached = 0_u32;
     for pair in 0..PLACES * PLACES {
-        if is_reached(timetable, scratch, pair / PLACES, pair % PLACES, &mut steps) {
+        if is_reached(timetable, scratch, pair / PLACES, pair % PLACES) {
             reached = reached.saturating_add(1);
         }
     }
@@ -91,11 +79,11 @@ fn query(
     scratch: &mut Scratch,
     taken: &mut Vec<Vec<u8>>,
 ) -> Outcome
-    requires stops { length timetable.now.network.stops ≤ scratch.old.stops }
+    requires room { IsRoomFor timetable.now scratch.old.room }
 {
     take_all(alloc, taken);
     let is_refused = is_all_refused(alloc);
-    let reached = count_reached::<Brand>(timetable, scratch, Blank::new(1));
+    let reached = count_reached(timetable, scratch);
     Outcome {
         reached,
         is_refused: is_refused && is_all_refused(alloc),
@@ -104,9 +92,10 @@ fn query(
 
 /// Room for queries over a timetable.
 fn scratch_for(alloc: Global, timetable: &Timetable) -> Result<Scratch, OutOfMemory>
-    ensures { IfOk result (λ scratch. length timetable.now.network.stops ≤ scratch.stops) }
+    ensures { IfOk result (λ scratch. IsRoomFor timetable.now scratch.room) }
 {
-    Scratch::build(alloc, timetable.graph().changes().stops(), 2)
+    let stops = timetable.graph().changes().stops();
+    Scratch::build(alloc, stops, timetable.numbers())
 }
 
 /// Makes what queries want beforehand, and asks them without memory.

@@ -1,4 +1,4 @@
-use Rattle.conn_scan.proofs.RideLemmas.{rides-begin, ride-listed}
+use Rattle.journey_laws.proofs.RideLemmas.{rides-begin, ride-listed}
 use Rattle.conn_scan.proofs.laws.rides_are_listed_by_departure.Goals as goal
 
 pub returns-clause-begin : goal.returns-clause-begin

@@ -1,4 +1,4 @@
-use Rattle.conn_scan.proofs.Forward.{ride-forward}
+use Rattle.journey_laws.proofs.Forward.{ride-forward}
 use Rattle.conn_scan.proofs.laws.rides_run_forward.Goals as goal
 
 pub returns : goal.returns

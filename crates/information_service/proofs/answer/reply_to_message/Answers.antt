@@ -13,4 +13,4 @@ invariant_of-service g c =
     let s = c.service.inside in
     let read = rw (← c.service.view_is) at c.requires.resolved in
     let kept = stays-in_step s.directory s.timetable.state c.args.wire.now c.args.message.now c.service.invariant.in_step read in
-    record { stops = rw c.in-Ok.ensures.effect c.service.invariant.stops; in_step = rw (c.add_name.ensures, c.in_ok-name.ensures, c.in-Ok.ensures.effect) kept }
+    record { stops = rw c.in-Ok.ensures.effect c.service.invariant.stops; numbers = rw c.in-Ok.ensures.effect c.service.invariant.numbers; in_step = rw (c.add_name.ensures, c.in_ok-name.ensures, c.in-Ok.ensures.effect) kept }

@@ -1,8 +1,10 @@
-use Rattle.query_crew.proofs.WorkLemmas.{few-stops, new-entry}
+use Rattle.query_crew.proofs.WorkLemmas.{search-room, new-entry}
 use Rattle.query_crew.proofs.answering.answer_here.Goals as goal
 
 pub reply_to_asked-requires : goal.reply_to_asked-requires
-reply_to_asked-requires g c = record { stops = few-stops g.H.Opening.opening c.args.scratch.now.stops c.args.publisher.now c.state.result.now c.requires.room c.state.ensures }
+reply_to_asked-requires g c =
+    let fits = search-room g.H.Opening.opening c.args.scratch.now.room c.args.publisher.now c.state.result.now c.requires.room c.state.ensures in
+    record { stops = fits.stops; numbers = fits.numbers }
 
 pub returns-in-Some-clause-entry : goal.returns-in-Some-clause-entry
 returns-in-Some-clause-entry g c =

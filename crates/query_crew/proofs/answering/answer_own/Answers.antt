@@ -1,6 +1,9 @@
-use Rattle.query_crew.proofs.Words.{◌≡◌, ap, sym, Some, slice_get, ◌∙◌, refl, slice_get-get_or}
+use Rattle.query_crew.proofs.Words.{◌≡◌, ap, subst, sym, HasSearchRoom, Some, slice_get, ◌∙◌, refl, slice_get-get_or}
 use Rattle.query_crew.proofs.WorkLemmas.{pushed-more, prefix-self}
 use Rattle.query_crew.proofs.answering.answer_own.Goals as goal
+
+pub answer_here-entry-requires : goal.answer_here-entry-requires
+answer_here-entry-requires g c = record { room = subst (HasSearchRoom g.H.Opening.opening) (sym c.loop-i.invariant.2) c.requires.room }
 
 pub loop-i-preserved : goal.loop-i-preserved
 loop-i-preserved g c =

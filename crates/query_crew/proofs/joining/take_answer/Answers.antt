@@ -1,8 +1,9 @@
-use Rattle.std.proofs.Common.{◌≡◌, ◌∙◌, ◌<◌, ap, subst, sym, refl, get_or, length}
+use Rattle.std.proofs.Common.{◌∙◌, ◌<◌, ap, subst, sym, get_or, length}
 use Rattle.query_crew.specs.Joining.{IsSameBehind}
 use Rattle.query_crew.proofs.Joins.{same-behind}
 use Rattle.std.proofs.lemmas.List.{get_or_default}
 use Rattle.query_crew.proofs.Putting.{at-put}
+use Rattle.query_crew.proofs.Keeping.{all-kept, put-kept}
 use Rattle.query_crew.proofs.joining.take_answer.Goals as goal
 
 pub returns-in-Query-clause-others : goal.returns-in-Query-clause-others
@@ -16,13 +17,7 @@ returns-in-Query-clause-others g c = λ k d l.
     (λ e. subst (λ z. IsSameBehind c.args.place z.answers.items y.answers.items) (get_or_default all me x d less ∙ ap (λ i. get_or all i d) (sym e)) c.take_entry.ensures.others)
     (λ ne. same-behind c.args.place (get_or all k d).answers.items)
 
-pub returns-in-Query-clause-scratch : goal.returns-in-Query-clause-scratch
-returns-in-Query-clause-scratch g c = λ k d l.
+pub returns-in-Query-clause-kept : goal.returns-in-Query-clause-kept
+returns-in-Query-clause-kept g c =
     let all = c.args.all.now in
-    let me = c.worker_of-me.result in
-    let x = c.index-all-me.result in
-    let y = c.take_entry.new.worker in
-    let less : me < length all = c.worker_of-me.ensures.below in
-    at-put (λ z. z.scratch ≡ (get_or all k d).scratch) all me k y d less
-    (λ e. c.take_entry.ensures.scratch ∙ ap (λ z. z.scratch) (get_or_default all me x d less ∙ ap (λ i. get_or all i d) (sym e)))
-    (λ ne. refl)
+    put-kept all all c.worker_of-me.result c.index-all-me.result c.take_entry.new.worker (all-kept all) c.worker_of-me.ensures.below c.take_entry.ensures.kept

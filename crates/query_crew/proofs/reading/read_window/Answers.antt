@@ -1,4 +1,4 @@
-use Rattle.query_crew.proofs.Words.{same_Some, ◌<◌, ◌∙◌, ◌∷◌, ◌++◌, [], length, ap, sym, refl, arith}
+use Rattle.query_crew.proofs.Words.{same_Some, ◌<◌, ◌∙◌, ◌∷◌, ◌++◌, [], length, ap, sym, refl}
 use Rattle.std.proofs.lemmas.Result.{IfOk-from_err}
 use Rattle.query_crew.proofs.Filling.{begun-none, begun-more, taken-more, filled, none-came, fewer}
 use Rattle.query_crew.proofs.reading.read_window.Goals as goal

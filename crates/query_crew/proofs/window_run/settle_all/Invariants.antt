@@ -1,4 +1,5 @@
-use Rattle.query_crew.proofs.Words.{◌≡◌, ℕ, ◌<◌, ◌≤◌, length, true, HasFewStops, HasAnsweredAll, HasWorked}
+use Rattle.query_crew.proofs.Words.{◌≡◌, ℕ, ◌<◌, ◌≤◌, length, true, HasAnsweredAll, HasWorked}
+use Rattle.query_crew.specs.Keeping.{AreKept}
 use Rattle.std.proofs.Common.{slice_index_or}
 use Rattle.query_crew.proofs.window_run.settle_all.Given as goal
 
@@ -6,5 +7,4 @@ abbrev pub invariant-loop-i : goal.invariant-loop-i
 invariant-loop-i g l =
     ((k : ℕ) (d : _) → l.i ≤ k → k < length l.fn.all → (slice_index_or l.all k d).is_whole ≡ true → HasWorked g.H.Opening.opening l.fn.start (slice_index_or l.all k d).viewer l.fn.first k (length l.fn.all) l.fn.lines (slice_index_or l.all k d).answers.items)
     × ((k : ℕ) (d : _) → k < l.i → HasAnsweredAll g.H.Opening.opening l.fn.publisher (length l.fn.start) l.fn.first k (length l.fn.all) l.fn.lines (slice_index_or l.all k d).answers.items)
-    × ((k : ℕ) (d : _) → k < length l.fn.all → HasFewStops g.H.Opening.opening (slice_index_or l.all k d).scratch.stops)
-    × (length l.all ≡ length l.fn.all)
+    × AreKept l.fn.all l.all

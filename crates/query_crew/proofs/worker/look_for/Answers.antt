@@ -1,9 +1,9 @@
 use Rattle.query_crew.proofs.Words.{rules, IfOk, length, IsReplyToQuery}
-use Rattle.query_crew.proofs.WorkLemmas.{few-stops, answered-whole}
+use Rattle.query_crew.proofs.WorkLemmas.{search-room, answered-whole}
 use Rattle.query_crew.proofs.worker.look_for.Goals as goal
 
 pub look-requires : goal.look-requires
-look-requires g c = λ x list after small seen learnt. few-stops g.H.Opening.opening c.args.scratch.stops list x.now c.requires.room after
+look-requires g c = λ x list after small seen learnt. search-room g.H.Opening.opening c.args.scratch.room list x.now c.requires.room after
 
 pub returns-clause-answer : goal.returns-clause-answer
 returns-clause-answer g c =

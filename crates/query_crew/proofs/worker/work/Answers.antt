@@ -1,6 +1,9 @@
-use Rattle.query_crew.proofs.Words.{◌≡◌, ap, sym, subst, List, slice_get, Some, ◌∙◌, refl, slice_get-get_or, IsPrefix}
+use Rattle.query_crew.proofs.Words.{◌≡◌, ap, sym, subst, HasSearchRoom, List, slice_get, Some, ◌∙◌, refl, slice_get-get_or, IsPrefix}
 use Rattle.query_crew.proofs.WorkLemmas.{pushed-more}
 use Rattle.query_crew.proofs.worker.work.Goals as goal
+
+pub answer_line-back-requires : goal.answer_line-back-requires
+answer_line-back-requires g c = record { room = subst (HasSearchRoom g.H.Opening.opening) (sym c.loop-i.invariant.3) c.requires.room }
 
 pub loop-i-preserved : goal.loop-i-preserved
 loop-i-preserved g c =

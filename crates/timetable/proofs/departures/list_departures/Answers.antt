@@ -5,7 +5,7 @@ use Rattle.timetable.proofs.departures.list_departures.Goals as goal
 
 pub loop-k-init : goal.loop-k-init
 loop-k-init g c =
-    rw c.new-list.ensures.items (none-listed c.args.trains.now c.args.times.now c.requires.trains c.requires.held c.into_iter-k-iterator.result (c.into_iter-k-iterator.ensures.into_iter_gives ∙ c.live_keys-k-items.ensures))
+    rw c.new-list.ensures.items (none-listed c.args.graph.now.network c.args.graph.now.state c.args.times.now c.requires.trains c.requires.held c.into_iter-k-iterator.result (c.into_iter-k-iterator.ensures.into_iter_gives ∙ rw c.trains.ensures.trains at c.live_keys-k-items.ensures))
 
 pub departing_at-requires : goal.departing_at-requires
 departing_at-requires g c = let part = rw c.in-Some.ensures.steps at c.loop-k.invariant in part.there 0 c.in-Some.k (omega arith)
@@ -21,4 +21,4 @@ pub returns : goal.returns
 returns g c =
     let moved = rw (listed-all (rw c.in-None.ensures.steps.0 at c.loop-k.invariant)) at c.sort_unstable_by_key.ensures.permutation in
     let sorted = c.sort_unstable_by_key.ensures.sorted (λ (d : Departure). d.key) (answers_always _ _ _ (λ f a r q k. search rules)) in
-    record { moved = moved; ascends = keys-rise c.args.trains.now c.args.times.now c.sort_unstable_by_key.new.self.items c.requires.trains moved sorted }
+    record { moved = moved; ascends = keys-rise c.args.graph.now.network c.args.graph.now.state c.args.times.now c.sort_unstable_by_key.new.self.items c.requires.trains moved sorted }

@@ -4,4 +4,4 @@ use Rattle.timetable.proofs.departures.list_departures.Given as goal
 
 -- the departures so far are listed
 abbrev pub invariant-loop-k : goal.invariant-loop-k
-invariant-loop-k g l = IsListedTo l.trains l.times (live_keys (events l.trains)) l.k-iterator l.list.items
+invariant-loop-k g l = IsListedTo l.graph.network l.graph.state l.times (live_keys (events l.graph.state)) l.k-iterator l.list.items

@@ -1,5 +1,5 @@
 use Rattle.timetable.proofs.Words.{subst, effect, Message, stays-valid, changed_train, message_of_shape}
-use Rattle.timetable.proofs.{CallsKept.calls-kept, Turns.shape-made, Changed.IsAlike, Changed.valued-alike, Changed.chosen-alike, Prepared.prepared-same, Prepared.prepared-shape, Shapes.reshaped, Shapes.room-for}
+use Rattle.timetable.proofs.{CallsKept.calls-kept, LabelPlaces.of-same-labels, LabelPlaces.places-for, Turns.shape-made, Changed.IsAlike, Changed.valued-alike, Changed.chosen-alike, Prepared.prepared-same, Prepared.prepared-shape, Shapes.reshaped, Shapes.room-for}
 use Rattle.timetable.proofs.prepare.apply.Goals as goal
 
 pub add_times-requires-clause-room : goal.add_times-requires-clause-room
@@ -31,6 +31,18 @@ returns-in-Shape-clause-prepared c =
     let was = c.requires.settled in
     let well = rw (← says) at c.kind.ensures.well_formed in
     let accepted = rw (← says) at c.requires.accepted in
-    rw (c.add_times.ensures, ← says)
+    rw (c.add_times.ensures.times, ← says)
     (prepared-shape g.network g.state (effect g.state m) (changed_train s) c.args.times.now _ was.valid (stays-valid g.network g.state m was.valid well accepted) (reshaped g.network g.state s c.args.times.now was.valid well accepted was.has_times) was.times (calls-kept g.state m was.valid.trains)
     (shape-made g.network g.state s was.valid well accepted))
+
+pub add_times-requires-clause-places : goal.add_times-requires-clause-places
+add_times-requires-clause-places c = of-same-labels c.requires.settled.has_times c.requires.places
+
+pub returns-in-Value-clause-places : goal.returns-in-Value-clause-places
+returns-in-Value-clause-places c = places-for (returns-in-Value-clause-prepared c).has_times (of-same-labels c.requires.settled.has_times c.requires.places)
+
+pub returns-in-Choice-clause-places : goal.returns-in-Choice-clause-places
+returns-in-Choice-clause-places c = places-for (returns-in-Choice-clause-prepared c).has_times (of-same-labels c.requires.settled.has_times c.requires.places)
+
+pub returns-in-Shape-clause-places : goal.returns-in-Shape-clause-places
+returns-in-Shape-clause-places c = places-for (returns-in-Shape-clause-prepared c).has_times c.add_times.ensures.places

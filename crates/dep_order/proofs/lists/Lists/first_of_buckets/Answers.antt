@@ -1,15 +1,15 @@
-use Rattle.std.proofs.Common.{arith}
+use Rattle.dep_order.proofs.Words.{arith}
 use Rattle.dep_order.proofs.AheadLemmas.{first-here, none-here}
 use Rattle.dep_order.proofs.StoredLemmas.{bucket}
 use Rattle.dep_order.proofs.lists.Lists.first_of_buckets.Goals as goal
 
-pub returns-then-first : goal.returns-then-first
-returns-then-first c =
+pub returns-then-number : goal.returns-then-number
+returns-then-number c =
     let l = c.args.self.now in
     let k = c.requires.kept in
     let b = c.loop-bucket.bucket in
     let x = c.index.result.now in
-    first-here l k c.args.from b x (bucket l b x k (omega arith) c.index.ensures) c.if-first.true (omega arith) c.loop-bucket.invariant
+    first-here l k c.args.from b x (bucket l b x k (omega arith) c.index.ensures) c.if-number.true (omega arith) c.loop-bucket.invariant
 
 pub loop-bucket-preserved : goal.loop-bucket-preserved
 loop-bucket-preserved c =
@@ -17,4 +17,4 @@ loop-bucket-preserved c =
     let k = c.requires.kept in
     let b = c.loop-bucket.bucket in
     let x = c.index.result.now in
-    none-here l k c.args.from b x (bucket l b x k (omega arith) c.index.ensures) c.if-first.false c.loop-bucket.invariant
+    none-here l k c.args.from b x (bucket l b x k (omega arith) c.index.ensures) c.if-number.false c.loop-bucket.invariant

@@ -1,39 +1,46 @@
-use Rattle.dep_order.proofs.Words.{◌≡◌, ◌≢◌, Some, sym, subst, placed, leaves_before, departures_in_order}
-use Rattle.std.proofs.Common.{All}
+use Rattle.dep_order.proofs.Words.{◌≡◌, ◌<◌, ◌∙◌, false, sym, ap, subst, length, All, is_of_call, arith, ◌+◌}
 use Rattle.dep_order.specs.declared.order.DepartureOrder.TheInside.{Inside}
+use Rattle.dep_order.specs.CallNumbering.{StoredNumbers, labels_of}
 use Rattle.dep_order.specs.Ordered.{Ordered}
-use Rattle.dep_order.proofs.InsideLemmas.{distinct, key-new, more-numbers, number-free, number-none, number-within, same-keys, set-ordered}
+use Rattle.dep_order.proofs.CallLemmas.{set-labels}
+use Rattle.dep_order.proofs.InsideLemmas.{call-new, noted-calls, put-ordered}
 use Rattle.dep_order.proofs.PlaceLemmas.{put-order}
+use Rattle.dep_order.proofs.StoredLemmas.{distinct-keys, new-key}
 use Rattle.dep_order.proofs.order.DepartureOrder.put.Goals as goal
 
-pub put-requires : goal.put-requires
-put-requires c =
-    let a : Inside = record (c.self.inside) { numbers = c.number_of-number.new.self } in
-    let more = c.number_of-number.ensures in
-    let kept = more-numbers c.self.inside c.self.invariant c.number_of-number.new.self more.numbers more.others more.loaded more.room in
+pub put-requires-clause-new_call : goal.put-requires-clause-new_call
+put-requires-clause-new_call c =
     let k = c.args.departure.now.key in
-    let unknown = key-new c.self.inside c.self.invariant k (subst (λ (o : Ordered). All (λ d. d.key ≢ k) o.departures) (sym c.self.view_is) c.requires.new_key) in
-    record { free = number-free a kept k c.number_of-number.result more.has unknown; new_key = unknown }
+    call-new c.self.inside.numbered.entries k (subst (λ (o : Ordered). All (λ d. is_of_call k.train k.label d ≡ false) o.departures) (sym c.self.view_is) c.requires.new_call)
 
 pub invariant_of-self : goal.invariant_of-self
 invariant_of-self c =
-    let a : Inside = record (c.self.inside) { numbers = c.number_of-number.new.self } in
-    let more = c.number_of-number.ensures in
-    let kept = more-numbers c.self.inside c.self.invariant c.number_of-number.new.self more.numbers more.others more.loaded more.room in
-    let n = c.number_of-number.result in
+    let a = c.self.inside in
     let d = c.args.departure.now in
-    set-ordered a kept c.put.new.self n (Some d) c.put.ensures.entries (same-keys a kept c.put.new.self n d.key c.put.ensures.keys more.has) (number-within a kept d.key n more.has) (λ e same. let own : d ≡ e = cc in rw (← own) more.has)
+    let k = d.key in
+    let new = call-new a.numbered.entries k (subst (λ (o : Ordered). All (λ d. is_of_call k.train k.label d ≡ false) o.departures) (sym c.self.view_is) c.requires.new_call) in
+    let low = subst (λ (o : Ordered). o.used < length o.entries) (sym c.self.view_is) c.requires.room in
+    put-ordered a c.self.invariant c.put.new.self c.set.new.self d low new c.put.ensures.entries c.set.ensures.number
 
 pub returns-clause-departures : goal.returns-clause-departures
 returns-clause-departures c =
-    let a : Inside = record (c.self.inside) { numbers = c.number_of-number.new.self } in
-    let b : Inside = record a { numbered = c.put.new.self } in
-    let more = c.number_of-number.ensures in
-    let kept = more-numbers c.self.inside c.self.invariant c.number_of-number.new.self more.numbers more.others more.loaded more.room in
-    let n = c.number_of-number.result in
+    let a = c.self.inside in
+    let b : Inside = record { numbered = c.put.new.self; numbers = c.set.new.self; used = a.used + 1 } in
     let d = c.args.departure.now in
+    let k = d.key in
     let es = a.numbered.entries in
-    let unknown = key-new c.self.inside c.self.invariant d.key (subst (λ (o : Ordered). All (λ e. e.key ≢ d.key) o.departures) (sym c.self.view_is) c.requires.new_key) in
-    let apart = rw c.put.ensures.entries at (distinct b (invariant_of-self c)) in
-    subst (λ (o : Ordered). departures_in_order c.put.new.self.entries ≡ placed leaves_before d o.departures) c.self.view_is
-    (rw c.put.ensures.entries (put-order es (distinct a kept) n d (number-within a kept d.key n more.has) (number-none a kept d.key n more.has unknown) unknown apart))
+    let new = call-new es k (subst (λ (o : Ordered). All (λ d. is_of_call k.train k.label d ≡ false) o.departures) (sym c.self.view_is) c.requires.new_call) in
+    let low = subst (λ (o : Ordered). o.used < length o.entries) (sym c.self.view_is) c.requires.room in
+    let apart = rw c.put.ensures.entries at (distinct-keys b.numbered.entries (noted-calls b (invariant_of-self c))) in
+    rw (← c.self.view_is, c.put.ensures.entries) (put-order es (distinct-keys es c.numbers_are_lawful.ensures.calls) a.used d low (c.self.invariant.unused a.used (omega arith)) (new-key es k new) apart)
+
+pub returns-clause-room : goal.returns-clause-room
+returns-clause-room c =
+    let a = c.self.inside in
+    let d = c.args.departure.now in
+    let is = c.set.ensures.stored in
+    record {
+      labels = ap labels_of is ∙ set-labels a.numbers d.key.train d.key.label a.used ∙ ap (λ (o : Ordered). o.labels) c.self.view_is;
+      spare_trains = ap (λ (k : StoredNumbers). k.spare_trains) is ∙ ap (λ (o : Ordered). o.spare_trains) c.self.view_is;
+      spare_calls = ap (λ (k : StoredNumbers). k.spare_calls) is ∙ ap (λ (o : Ordered). o.spare_calls) c.self.view_is;
+    }

@@ -1,36 +1,38 @@
-use Rattle.std.proofs.Common.{filter, not}
-use Rattle.dep_order.proofs.Words.{◌≡◌, None, ap, take, sym, subst, held, departures_in_order}
-use Rattle.mt_base.specs.Order.{is_same}
-use Rattle.dep_order.specs.declared.order.DepartureOrder.TheInside.{Inside}
+use Rattle.dep_order.proofs.Words.{◌≡◌, Some, sym, subst, Departure, IsNewKey, held}
 use Rattle.dep_order.specs.Ordered.{Ordered}
-use Rattle.dep_order.proofs.InsideLemmas.{distinct, key-is, key-none, number-within, set-ordered}
-use Rattle.dep_order.proofs.PlaceLemmas.{take-none, take-order}
-use Rattle.dep_order.proofs.StoredLemmas.{some-of}
+use Rattle.dep_order.proofs.ChangeLemmas.{fewer-calls}
+use Rattle.dep_order.proofs.InsideLemmas.{held-within}
+use Rattle.dep_order.proofs.PlaceLemmas.{take-none, take-order, without-none, without-one}
+use Rattle.dep_order.proofs.StoredLemmas.{distinct-keys}
 use Rattle.dep_order.proofs.order.DepartureOrder.take.Goals as goal
-
-pub invariant_of-self : goal.invariant_of-self
-invariant_of-self c =
-    let a = c.self.inside in
-    let n = c.in-Some.number in
-    set-ordered a c.self.invariant c.take.new.self n None c.take.ensures.entries (ap (take a.numbers.loaded) c.take.ensures.keys) (number-within a c.self.invariant c.args.key.now n c.in-Some.ensures.some) (λ d e. absurd (cc))
 
 pub returns-in-Some-clause-departures : goal.returns-in-Some-clause-departures
 returns-in-Some-clause-departures c =
-    let a = c.self.inside in
-    let h = c.self.invariant in
-    let es = a.numbered.entries in
-    let b : Inside = record a { numbered = c.take.new.self } in
-    let k = c.args.key.now in
+    let es = c.self.inside.numbered.entries in
+    let calls = c.numbers_are_lawful.ensures.calls in
     let n = c.in-Some.number in
-    let has = c.in-Some.ensures.some in
-    let d = some-of (held es n) c.in-Some.ensures.there in
-    let apart = rw c.take.ensures.entries at (distinct b (invariant_of-self c)) in
-    subst (λ (o : Ordered). departures_in_order c.take.new.self.entries ≡ filter (λ d. not (is_same d.key k)) o.departures) c.self.view_is
-    (rw c.take.ensures.entries (take-order es (distinct a h) n d.0 (number-within a h k n has) d.1 k (key-is a h k n d.0 has d.1) apart))
+    let k = c.args.key.now in
+    let d = subst (λ (o : Ordered). (d : Departure) × (held o.entries n ≡ Some d) × (d.key ≡ k)) (sym c.self.view_is) c.in-Some.ensures.some in
+    let low = held-within es n d.0 d.1 in
+    rw (← c.self.view_is, c.take.ensures.entries) (take-order es (distinct-keys es calls) n d.0 low d.1 k d.2 (distinct-keys _ (fewer-calls es n low calls)))
+
+pub returns-in-Some-clause-entries : goal.returns-in-Some-clause-entries
+returns-in-Some-clause-entries c =
+    let es = c.self.inside.numbered.entries in
+    let n = c.in-Some.number in
+    let k = c.args.key.now in
+    let d = subst (λ (o : Ordered). (d : Departure) × (held o.entries n ≡ Some d) × (d.key ≡ k)) (sym c.self.view_is) c.in-Some.ensures.some in
+    rw (← c.self.view_is, c.take.ensures.entries) (sym (without-one es k n d.0 (distinct-keys es c.numbers_are_lawful.ensures.calls) d.1 d.2))
 
 pub returns-in_default-clause-departures : goal.returns-in_default-clause-departures
 returns-in_default-clause-departures c =
-    let a = c.self.inside in
+    let es = c.self.inside.numbered.entries in
     let k = c.args.key.now in
-    subst (λ (o : Ordered). o.departures ≡ filter (λ d. not (is_same d.key k)) o.departures) c.self.view_is
-    (sym (take-none a.numbered.entries (distinct a c.self.invariant) k (key-none a c.self.invariant k c.in_default.ensures.none)))
+    let new = subst (λ (o : Ordered). IsNewKey o.entries k) (sym c.self.view_is) c.in_default.ensures.none in
+    rw (← c.self.view_is) (sym (take-none es (distinct-keys es c.numbers_are_lawful.ensures.calls) k new))
+
+pub returns-in_default-clause-entries : goal.returns-in_default-clause-entries
+returns-in_default-clause-entries c =
+    let k = c.args.key.now in
+    let new = subst (λ (o : Ordered). IsNewKey o.entries k) (sym c.self.view_is) c.in_default.ensures.none in
+    rw (← c.self.view_is) (sym (without-none c.self.inside.numbered.entries k new))

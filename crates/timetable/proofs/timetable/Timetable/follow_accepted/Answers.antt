@@ -1,12 +1,13 @@
-use Rattle.timetable.proofs.Words.{◌≡◌, ◌∙◌, arith, ap, sym, effect, events, length, length-map, live_only, names_of, node_of, time_change_at, TimetableState}
+use Rattle.timetable.proofs.Words.{None, refusal, subst, refl, ◌≡◌, ◌∙◌, arith, ap, sym, effect, events, length, length-map, live_only, names_of, node_of, time_change_at, TimetableState}
 use Rattle.timetable.specs.TimetableState.{stepped}
-use Rattle.timetable.proofs.{Followed.others, Followed.taken-names, Listing.live-held, Moving.gone-fit, Moving.gone-there, Moving.departures-live, Moving.left-are, Moving.moved-live, Moving.new-fit, Moving.time-changes-are, Moving.time-changes-fit, Prepared.names-are}
+use Rattle.timetable.proofs.{Followed.others, Followed.taken-names, Listing.live-held, Moving.gone-fit, Moving.gone-there, LabelPlaces.places-kept, Moving.departures-live, Moving.time-changes-fit, Numbers.still-left, Prepared.names-are}
+use Rattle.timetable.proofs.Stepping.{step-made}
 use Rattle.timetable.proofs.timetable.Timetable.follow_accepted.Goals as goal
 
 pub take_departures-requires-clause-live : goal.take_departures-requires-clause-live
 take_departures-requires-clause-live g c =
     let a = c.self.inside.graph in
-    rw (c.trains.ensures.trains, c.self.invariant.departures) (departures-live a.network a.state)
+    rw (c.trains.ensures.trains, c.self.invariant.order.departures) (departures-live a.network a.state)
 
 pub take_departures-requires-clause-there : goal.take_departures-requires-clause-there
 take_departures-requires-clause-there g c =
@@ -53,23 +54,6 @@ take_times-requires-clause-room g c =
     let keys = others a.network (effect a.state c.args.m.now) c.apply.new.times in
     omega (arith, ap length names, length-map keys node_of, length-map keys (time_change_at a.network (effect a.state c.args.m.now) c.apply.new.times), time-changes-fit c.self.invariant.settled.valid.trains p, p.fewer, c.self.invariant.roomy.time_changes, c.clear.ensures.capacity, c.clear.ensures.len)
 
-pub move_departures-requires-clause-changes : goal.move_departures-requires-clause-changes
-move_departures-requires-clause-changes g c =
-    let a = c.self.inside.graph in
-    let trains = c.self.invariant.settled.valid.trains in
-    let list = rw (c.clear.ensures.items, c.apply.ensures.effect) at c.take_times.ensures.changes in
-    let left = rw (c.deref.ensures.value, c.list_taken.ensures.list, c.self.invariant.departures, left-are a.network a.state (effect a.state c.args.m.now) trains) at c.take_departures.ensures.departures in
-    rw (c.deref-3.ensures.value, list, left, c.trains-2.ensures.trains, c.apply.ensures.effect) (time-changes-are trains c.apply.ensures.prepared)
-
-pub move_departures-requires-clause-room : goal.move_departures-requires-clause-room
-move_departures-requires-clause-room g c =
-    let a = c.self.inside.graph in
-    let trains = c.self.invariant.settled.valid.trains in
-    let p = c.apply.ensures.prepared in
-    let list = rw (c.clear.ensures.items, c.apply.ensures.effect) at c.take_times.ensures.changes in
-    let left = rw (c.deref.ensures.value, c.list_taken.ensures.list, c.self.invariant.departures, left-are a.network a.state (effect a.state c.args.m.now) trains) at c.take_departures.ensures.departures in
-    rw (c.deref-3.ensures.value, list, left) (omega (arith, new-fit trains p, p.made, c.self.invariant.departures_room, c.take_departures.ensures.room))
-
 pub push_names-requires : goal.push_names-requires
 push_names-requires g c =
     let a = c.self.inside.graph in
@@ -79,21 +63,40 @@ push_names-requires g c =
     rw (c.deref-4.ensures.value, list)
     (omega (arith, gone, gone-fit (events a.state) (events (effect a.state c.args.m.now)), time-changes-fit c.self.invariant.settled.valid.trains p, p.fewer, c.self.invariant.roomy.changed, c.list_taken.ensures.capacity, c.list_taken.new.list.ok.0))
 
-pub invariant_of-self : goal.invariant_of-self
-invariant_of-self g c =
-    let trains = c.self.invariant.settled.valid.trains in
-    let p = c.apply.ensures.prepared in
+pub apply-requires-clause-places : goal.apply-requires-clause-places
+apply-requires-clause-places g c = places-kept c.self.invariant.places c.take_departures.ensures.room
+
+pub renew_departures-requires : goal.renew_departures-requires
+renew_departures-requires g c =
+    let a = c.self.inside.graph in
     let is = c.apply.ensures.effect in
     let list = rw (c.clear.ensures.items, is) at c.take_times.ensures.changes in
-    let a = c.self.inside.graph in
-    let left = rw (c.deref.ensures.value, c.list_taken.ensures.list, c.self.invariant.departures, left-are a.network a.state (effect a.state c.args.m.now) trains) at c.take_departures.ensures.departures in
-    let moved = rw (c.deref-3.ensures.value, list, left, c.trains-2.ensures.trains, is) at c.move_departures.ensures.departures in
-    let more = rw (c.deref-3.ensures.value, list, left) at c.move_departures.ensures.room in
+    rw (c.deref-3.ensures.value, list, is)
+    (record {
+      old = a.state;
+      before = c.self.inside.departures;
+      times = c.apply.new.times;
+      step = step-made c.self.invariant.settled.valid c.apply.ensures.well_formed (subst (λ (r : TimetableState). refusal r.network r.state c.args.m.now ≡ None) (sym c.self.view_is) c.requires.accepted);
+      prepared = c.apply.ensures.prepared;
+      order = c.self.invariant.order;
+      room = c.self.invariant.departures_room;
+      departures = c.apply.ensures.departures.departures ∙ rw (c.deref.ensures.value, c.list_taken.ensures.list) at c.take_departures.ensures.departures;
+      numbers = still-left (rw (c.deref.ensures.value, c.list_taken.ensures.list) at c.take_departures.ensures.numbers) c.apply.ensures.departures;
+      places = c.apply.ensures.places;
+      is_noted = c.noted_arrival-noted.ensures;
+      changes_are = refl;
+    })
+
+pub invariant_of-self : goal.invariant_of-self
+invariant_of-self g c =
+    let p = c.apply.ensures.prepared in
+    let is = c.apply.ensures.effect in
     let roomy = c.self.invariant.roomy in
     rw is (record {
       settled = record { valid = p.valid; times = rw is at c.take_times.ensures.times; has_times = c.take_times.ensures.has_times _ p.has_times };
-      departures = moved ∙ moved-live trains p;
-      departures_room = omega (arith, more, new-fit trains p, p.made, c.self.invariant.departures_room, c.take_departures.ensures.room);
+      order = rw is at c.renew_departures.ensures.order;
+      places = rw is at c.renew_departures.ensures.places;
+      departures_room = rw is at c.renew_departures.ensures.room;
       unmarked = c.self.invariant.unmarked;
       roomy = record {
         changed = omega (arith, roomy.changed, p.fewer, c.list_taken.ensures.capacity, c.push_names.ensures.capacity);
@@ -107,4 +110,5 @@ returns g c =
     let p = c.apply.ensures.prepared in
     let list = rw (c.clear.ensures.items, c.apply.ensures.effect) at c.take_times.ensures.changes in
     let names = rw (c.deref-4.ensures.value, list, c.list_taken.ensures.list, names-are p) at c.push_names.ensures.names in
-    rw (c.apply.ensures.effect, names, c.saturating_add-self-inside.ensures) (ap (λ (r : TimetableState). stepped r c.args.m.now) c.self.view_is)
+    let numbers : length c.renew_departures.new.departures.entries ≡ length c.self.inside.departures.entries = c.renew_departures.ensures.numbers ∙ ap length c.apply.ensures.departures.entries ∙ c.take_departures.ensures.numbers.lengths in
+    rw (c.apply.ensures.effect, names, numbers, c.saturating_add-self-inside.ensures) (ap (λ (r : TimetableState). stepped r c.args.m.now) c.self.view_is)

@@ -1,8 +1,8 @@
-use Rattle.timetable.proofs.Words.{◌∙◌, ◌+◌, ◌≤◌, arith, ap, subst, effect, events, length, Marked, TimetableState}
+use Rattle.timetable.proofs.Words.{◌≡◌, refl, ◌∙◌, ◌+◌, ◌≤◌, arith, ap, subst, effect, events, length, Marked, TimetableState}
 use Rattle.timetable.specs.TimetableState.{stepped}
 use Rattle.propagate.specs.Reads.{reads_of}
 use Rattle.delay_model.specs.Touched.{changed_count}
-use Rattle.timetable.proofs.{Changed.changed-length, Listing.live-held, Moving.gone-fit, Moving.gone-there, Moving.departures-live, Moving.left-are, Moving.moved-live, Moving.new-fit, Moving.time-changes-are, Moving.time-changes-fit, Prepared.names-are}
+use Rattle.timetable.proofs.{Changed.changed-length, Listing.live-held, Moving.gone-fit, Moving.gone-there, LabelPlaces.places-kept, Moving.departures-live, Moving.time-changes-fit, Numbers.still-left, Prepared.names-are}
 use Rattle.timetable.proofs.Stepping.{step-due, step-made, step-reads, step-values}
 use Rattle.timetable.proofs.timetable.Timetable.step.Goals as goal
 
@@ -48,29 +48,12 @@ settle-requires-clause-marks_room g c =
 pub take_departures-requires-clause-live : goal.take_departures-requires-clause-live
 take_departures-requires-clause-live g c =
     let a = c.self.inside.graph in
-    rw (c.trains.ensures.trains, c.self.invariant.departures) (departures-live a.network a.state)
+    rw (c.trains.ensures.trains, c.self.invariant.order.departures) (departures-live a.network a.state)
 
 pub take_departures-requires-clause-there : goal.take_departures-requires-clause-there
 take_departures-requires-clause-there g c =
     let a = c.self.inside.graph in
     rw (c.deref.ensures.value, c.mark_before.ensures.leaving, c.trains.ensures.trains) (gone-there a.state (events (effect a.state c.args.m.now)) c.self.invariant.settled.valid.trains)
-
-pub move_departures-requires-clause-changes : goal.move_departures-requires-clause-changes
-move_departures-requires-clause-changes g c =
-    let a = c.self.inside.graph in
-    let trains = c.self.invariant.settled.valid.trains in
-    let list = rw (c.clear.ensures.items, c.apply.ensures.effect) at c.settle.ensures.changed in
-    let left = rw (c.deref.ensures.value, c.mark_before.ensures.leaving, c.self.invariant.departures, left-are a.network a.state (effect a.state c.args.m.now) trains) at c.take_departures.ensures.departures in
-    rw (c.deref-2.ensures.value, list, left, c.trains-2.ensures.trains, c.apply.ensures.effect) (time-changes-are trains c.apply.ensures.prepared)
-
-pub move_departures-requires-clause-room : goal.move_departures-requires-clause-room
-move_departures-requires-clause-room g c =
-    let a = c.self.inside.graph in
-    let trains = c.self.invariant.settled.valid.trains in
-    let p = c.apply.ensures.prepared in
-    let list = rw (c.clear.ensures.items, c.apply.ensures.effect) at c.settle.ensures.changed in
-    let left = rw (c.deref.ensures.value, c.mark_before.ensures.leaving, c.self.invariant.departures, left-are a.network a.state (effect a.state c.args.m.now) trains) at c.take_departures.ensures.departures in
-    rw (c.deref-2.ensures.value, list, left) (omega (arith, new-fit trains p, p.made, c.self.invariant.departures_room, c.take_departures.ensures.room))
 
 pub push_names-requires : goal.push_names-requires
 push_names-requires g c =
@@ -81,21 +64,40 @@ push_names-requires g c =
     rw (c.deref-3.ensures.value, list)
     (omega (arith, gone, gone-fit (events a.state) (events (effect a.state c.args.m.now)), time-changes-fit c.self.invariant.settled.valid.trains p, p.fewer, c.self.invariant.roomy.changed, c.mark_before.ensures.capacity, c.mark_before.new.changed.ok.0))
 
-pub invariant_of-self : goal.invariant_of-self
-invariant_of-self g c =
-    let trains = c.self.invariant.settled.valid.trains in
-    let p = c.apply.ensures.prepared in
+pub apply-requires-clause-places : goal.apply-requires-clause-places
+apply-requires-clause-places g c = places-kept c.self.invariant.places c.take_departures.ensures.room
+
+pub renew_departures-requires : goal.renew_departures-requires
+renew_departures-requires g c =
+    let a = c.self.inside.graph in
     let is = c.apply.ensures.effect in
     let list = rw (c.clear.ensures.items, is) at c.settle.ensures.changed in
-    let a = c.self.inside.graph in
-    let left = rw (c.deref.ensures.value, c.mark_before.ensures.leaving, c.self.invariant.departures, left-are a.network a.state (effect a.state c.args.m.now) trains) at c.take_departures.ensures.departures in
-    let moved = rw (c.deref-2.ensures.value, list, left, c.trains-2.ensures.trains, is) at c.move_departures.ensures.departures in
-    let more = rw (c.deref-2.ensures.value, list, left) at c.move_departures.ensures.room in
+    rw (c.deref-2.ensures.value, list, is)
+    (record {
+      old = a.state;
+      before = c.self.inside.departures;
+      times = c.apply.new.times;
+      step = step-made c.self.invariant.settled.valid c.apply.ensures.well_formed c.in_ok-check.ensures;
+      prepared = c.apply.ensures.prepared;
+      order = c.self.invariant.order;
+      room = c.self.invariant.departures_room;
+      departures = c.apply.ensures.departures.departures ∙ rw (c.deref.ensures.value, c.mark_before.ensures.leaving) at c.take_departures.ensures.departures;
+      numbers = still-left (rw (c.deref.ensures.value, c.mark_before.ensures.leaving) at c.take_departures.ensures.numbers) c.apply.ensures.departures;
+      places = c.apply.ensures.places;
+      is_noted = c.noted_arrival-noted.ensures;
+      changes_are = refl;
+    })
+
+pub invariant_of-self : goal.invariant_of-self
+invariant_of-self g c =
+    let p = c.apply.ensures.prepared in
+    let is = c.apply.ensures.effect in
     let roomy = c.self.invariant.roomy in
     rw is (record {
       settled = record { valid = p.valid; times = rw is at c.settle.ensures.times; has_times = c.settle.ensures.has_times _ p.has_times };
-      departures = moved ∙ moved-live trains p;
-      departures_room = omega (arith, more, new-fit trains p, p.made, c.self.invariant.departures_room, c.take_departures.ensures.room);
+      order = rw is at c.renew_departures.ensures.order;
+      places = rw is at c.renew_departures.ensures.places;
+      departures_room = rw is at c.renew_departures.ensures.room;
       unmarked = ap (λ (m : Marked). m.keys) c.settle.ensures.marks;
       roomy = record {
         changed = omega (arith, roomy.changed, p.fewer, c.mark_before.ensures.capacity, c.push_names.ensures.capacity);
@@ -109,7 +111,8 @@ returns-clause-effect g c =
     let p = c.apply.ensures.prepared in
     let list = rw (c.clear.ensures.items, c.apply.ensures.effect) at c.settle.ensures.changed in
     let names = rw (c.deref-3.ensures.value, list, c.mark_before.ensures.leaving, names-are p) at c.push_names.ensures.names in
-    rw (c.apply.ensures.effect, names, c.saturating_add-self-inside.ensures) (ap (λ (r : TimetableState). stepped r c.args.m.now) c.self.view_is)
+    let numbers : length c.renew_departures.new.departures.entries ≡ length c.self.inside.departures.entries = c.renew_departures.ensures.numbers ∙ ap length c.apply.ensures.departures.entries ∙ c.take_departures.ensures.numbers.lengths in
+    rw (c.apply.ensures.effect, names, numbers, c.saturating_add-self-inside.ensures) (ap (λ (r : TimetableState). stepped r c.args.m.now) c.self.view_is)
 
 pub returns-clause-changed : goal.returns-clause-changed
 returns-clause-changed g c =

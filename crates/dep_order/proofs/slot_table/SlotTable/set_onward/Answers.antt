@@ -1,0 +1,13 @@
+use Rattle.dep_order.proofs.Words.{arith, Hot}
+use Rattle.dep_order.proofs.TableLemmas.{hot-change, low-parts}
+use Rattle.dep_order.proofs.slot_table.SlotTable.set_onward.Goals as goal
+
+pub index_mut-hot-requires : goal.index_mut-hot-requires
+index_mut-hot-requires c = omega (arith, (low-parts c.self.inside c.args.number c.args.self.now c.self.invariant c.self.view_is c.requires).0)
+
+pub returns : goal.returns
+returns c =
+    let a = c.self.inside in
+    let o = c.args.onward.now in
+    let l = (low-parts a c.args.number c.args.self.now c.self.invariant c.self.view_is c.requires).2 in
+    rw (← c.self.view_is) (hot-change a.hot.items a.cold.items c.args.number c.self.invariant l (λ (x : Hot). record x { arrival = o.arrival; to = o.to; next = o.next }) c.index_mut-hot.result.now c.index_mut-hot.ensures.value)

@@ -1,0 +1,4 @@
+mod CallLemmas
+mod RideLemmas
+mod ReachedLemmas
+mod StopLemmas

@@ -1,0 +1,11 @@
+pub mod Forward
+pub mod Beginnings
+pub mod BestArrivals
+pub mod Rounds
+pub mod Scanning
+pub mod RideLemmas
+pub mod Decided
+pub mod EveryQuery
+pub mod EveryFront
+pub mod SameRides
+pub mod CheckedLemmas
