@@ -74,13 +74,14 @@ pub(crate) fn asked_by(line: &WindowLine, me: u32, workers: u32) -> Option<Asked
 }
 
 /// The answer to a query in the timetable that the viewer is shown, and the scratch.
-fn look_for<H: Opening<Timetable>, R: Wait>(
+fn look_for<H: Opening<Timetable>, R: Wait, G: Gate>(
     rt: &R,
     alloc: Global,
     viewer: &mut Viewer<Timetable, H>,
     scratch: Scratch,
     number: u64,
     asked: &AskedQuery,
+    gate: &G,
 ) -> (Scratch, Result<Reply, OutOfMemory>)
     requires room { HasSearchRoom H.opening scratch.room }
     ensures look { IsLook viewer.old viewer.new }
@@ -96,6 +97,7 @@ fn look_for<H: Opening<Timetable>, R: Wait>(
                 after number asked.entry.now.day asked.entry.now.query) }
             ensures room { result.0.room ≡ scratch.room }
         {
+            gate.at(Point::InLook { line: number });
             let mut scratch = scratch;
             let reply = reply_to_asked(alloc, timetable, &mut scratch, number, after, asked);
             (scratch, reply)
@@ -122,7 +124,7 @@ fn answer_line<H: Opening<Timetable>, R: Wait, G: Gate>(
 {
     if let Some(query) = asked {
         gate.at(Point::BeforeLook { line: number });
-        let (scratch, answer) = look_for(rt, alloc, viewer, scratch, number, query);
+        let (scratch, answer) = look_for(rt, alloc, viewer, scratch, number, query, gate);
         return (scratch, answer.map(Some));
     }
     (scratch, Ok(None))
