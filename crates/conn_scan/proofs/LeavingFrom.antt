@@ -112,10 +112,6 @@ entry-of (Some e) d h = ap Some h
 pub held-within : (es : List (Option Departure)) (n : ℕ) (d : Departure) → held es n ≡ Some d → n < length es
 held-within es n d h = slice_get_within es n (Some d) (entry-of (slice_get es n) d h)
 
--- where and when a ride begins that is boarded at one of them, and where and when it ends behind one
-pub ride-starts : (st : State) (o : Ordered) (time : ℕ) (x : Leaving) → IsLeaving o time x → (e : ℕ) → ((ride_of st o x.number e).board_stop ≡ x.stop) × ((ride_of st o x.number e).board_time ≡ x.time)
-ride-starts st o time x h e = (ap (λ (d : Departure). d.stop) h.at ∙ sym h.stop, ap (λ (d : Departure). d.time) h.at ∙ sym h.its_time)
-
 pub ride-ends : (st : State) (o : Ordered) (time : ℕ) (x : Leaving) → IsLeaving o time x → (b : ℕ) → ((ride_of st o b x.number).alight_stop ≡ x.to) × ((ride_of st o b x.number).alight_time ≡ x.arrival)
 ride-ends st o time x h b = (ap (λ (w : Onward). w.to) h.onward, ap (λ (w : Onward). w.arrival) h.onward)
 

@@ -17,8 +17,8 @@ pub record ScratchRoom : Type 0 where
   pub stops : ℕ
   pub numbers : ℕ
 
--- the room, the rides of the journey that was found last, and by stop the earliest arrival that was
--- found with it
+-- the room, the rides of the journey that was found last, and by stop the time that stands for an
+-- arrival there
 pub record ScratchState : Type 0 where
   pub room : ScratchRoom
   pub rides : List PlanRide
@@ -70,8 +70,8 @@ early_from best b (t ∷ ts) = early_stop best b t ++ early_from best (suc b) ts
 abbrev pub early_stops : Option ℕ → List (Option ℕ) → List Reach
 early_stops best held = early_from best 0 held
 
--- what a scratch shows after an answer shows that it is right: the rides, and where a passenger can
--- arrive before, make a good certificate, in which nothing is before the query's time
+-- what a scratch shows after an answer shows that it is right: the rides, and the times by stop that
+-- are before its arrival, make a good certificate, in which nothing is before the query's time
 pub record IsSettled (nw : Network) (st : State) (q : Query) (found : Found) (s : ScratchState)
     : Type 0 where
   pub certificate : IsGoodCertificate nw st q (record {

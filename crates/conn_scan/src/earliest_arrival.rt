@@ -136,10 +136,10 @@ impl Scratch {
         &self.rides
     }
 
-    /// The earliest arrival at a stop that was found with the last answer, before any change, in
-    /// seconds from the base of day 0. None where no arrival was found. Of times that are not before
-    /// the answer's arrival nothing is promised, and after a check of a certificate the stops are
-    /// those of the certificate.
+    /// The time that stands for an arrival at a stop with the last answer, before any change, in
+    /// seconds from the base of day 0, if one stands there. Those before the answer's arrival make
+    /// a good certificate with the rides, and none of them is before the query's time. Nothing is
+    /// promised of the others, nor of any after a check of a certificate.
     pub fn held(&self, s: StopNo) -> Option<Time>
         ensures { result ≡ get_or self.now.held s None }
     {
@@ -148,7 +148,7 @@ impl Scratch {
 }
 
 /// The earliest arrival of a query. The rides of a journey that arrives then are shown in the
-/// scratch, and by stop the earliest arrivals that were found. It takes no memory.
+/// scratch, and by stop the times that show that none arrives earlier. It takes no memory.
 pub fn earliest(t: &Timetable, q: &Query, scratch: &mut Scratch) -> Found
     requires stops { length t.now.network.stops ≤ scratch.old.room.stops }
     requires numbers { t.now.numbers ≤ scratch.old.room.numbers }

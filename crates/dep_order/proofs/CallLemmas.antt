@@ -4,7 +4,7 @@ use Rattle.event_numbers.proofs.ListLemmas.{change-get, get-append, same-gets, s
 use Rattle.event_numbers.proofs.SlotLemmas.{range-at}
 use Rattle.std.specs.Prelude.{if◌then◌else◌}
 use Rattle.std.proofs.lemmas.List.{length-append, map-append}
-use Rattle.dep_order.proofs.Words.{◌≡◌, ◌≢◌, ◌<◌, ◌≤◌, ◌+◌, ◌-◌, ℕ, zero, suc, List, [], ◌∷◌, ◌++◌, Option, None, Some, true, false, cond, inl, inr, ◌&&◌, nat_eq, nat_lt, refl, sym, ◌∙◌, ap, arith, length, map, get_or, set, replicate, slice_get, nat_tests, option_map, option_map_or, get_or_past, get_or-set_same, get_or-set_other, length-replicate, length-map, length-set, slice_get-map, slice_get-get_or, slice_get_cases, slice_get_past}
+use Rattle.dep_order.proofs.Words.{◌≡◌, ◌≢◌, ◌<◌, ◌≤◌, ◌+◌, ◌-◌, ℕ, zero, suc, List, [], ◌∷◌, ◌++◌, None, Some, true, cond, inl, inr, ◌&&◌, nat_eq, nat_lt, refl, ◌∙◌, arith, length, map, get_or, set, replicate, slice_get, nat_tests, option_map, option_map_or, get_or-set_same, get_or-set_other, length-replicate, length-set, slice_get-map, slice_get-get_or, slice_get_cases}
 use Rattle.dep_order.specs.declared.call_numbers.CallNumbers.TheInside.{Inside}
 unfoldable use Rattle.dep_order.specs.CallNumbering.{number_at}
 use Rattle.dep_order.specs.CallNumbering.{StoredNumbers, has_number, labels_of, no_number, with_label_numbers, with_number, with_train_numbers}
@@ -77,9 +77,6 @@ added-seen a t labels h =
 -- for how many labels there is a place
 pub set-labels : (k : StoredNumbers) (t l x : ℕ) → labels_of (with_number t l x k) ≡ labels_of k
 set-labels k t l x = same-gets _ _ (λ u. grind (arith, nat_tests, slice_get-map, change-get, length-set, slice_get_cases k.trains u))
-
-pub pushed-labels : (labels : ℕ) (k : StoredNumbers) → labels_of (with_train_numbers labels k) ≡ labels_of k ++ labels ∷ []
-pushed-labels labels k = grind (arith, map-append, length-replicate labels no_number)
 
 pub added-labels : (t labels : ℕ) (k : StoredNumbers) → labels_of (with_label_numbers t labels k) ≡ change_at t (λ n. n + labels) (labels_of k)
 added-labels t labels k = same-gets _ _ (λ u. grind (arith, nat_tests, slice_get-map, change-get, length-append, length-replicate labels no_number, slice_get_cases k.trains u))

@@ -1,5 +1,5 @@
 -- What departures by number and the numbers of their calls tell together.
-use Rattle.dep_order.proofs.Words.{◌≡◌, ◌<◌, ◌≤◌, ◌+◌, ℕ, zero, suc, inl, inr, List, [], ◌∷◌, Option, None, Some, true, false, nat_eq, ◌&&◌, refl, sym, ◌∙◌, ap, arith, nat_tests, cases_Bool, cases_eq, length, length-set, set, slice_get, slice_get_within, All, get_or, Departure, Key, Onward, blank_onward, HaveDistinctCalls, IsNewCall, IsNewKey, departures_in_order, held, is_of_call, number_of}
+use Rattle.dep_order.proofs.Words.{◌≡◌, ◌<◌, ◌≤◌, ◌+◌, ℕ, inl, inr, List, [], ◌∷◌, Option, None, Some, true, false, nat_eq, ◌&&◌, refl, sym, ◌∙◌, ap, arith, nat_tests, cases_Bool, cases_eq, length, length-set, set, slice_get_within, All, get_or, Departure, Key, Onward, blank_onward, HaveDistinctCalls, IsNewCall, IsNewKey, departures_in_order, held, is_of_call, number_of}
 use Rattle.std.specs.Prelude.{if◌then◌else◌}
 use Rattle.dep_order.specs.declared.order.DepartureOrder.TheInside.{Inside}
 use Rattle.dep_order.specs.CallNumbering.{StoredNumbers, number_at}
@@ -13,12 +13,6 @@ use Rattle.dep_order.proofs.NumberLemmas.{call-is, none-number, of-call, one-num
 use Rattle.dep_order.proofs.OneOrder.{all-in}
 use Rattle.dep_order.proofs.PlaceLemmas.{listed}
 use Rattle.dep_order.proofs.ReachLemmas.{held-get}
-
-pub slot-free : (es : List (Option Departure)) (n : ℕ) → n < length es → held es n ≡ None → slice_get es n ≡ Some None
-slot-free [] n l h = absurd (omega arith)
-slot-free (None ∷ es) zero l h = refl
-slot-free (Some d ∷ es) zero l h = absurd (cc)
-slot-free (o ∷ es) (suc n) l h = slot-free es n (omega arith) h
 
 -- no departure in the order is of a call, so none that has a number is
 pub call-new : (es : List (Option Departure)) (k : Key) → All (λ d. is_of_call k.train k.label d ≡ false) (departures_in_order es) → IsNewCall es k

@@ -1,7 +1,7 @@
 -- What is read of a number.
-use Rattle.dep_order.proofs.Words.{◌≡◌, ◌≢◌, ◌<◌, ◌≤◌, ℕ, zero, suc, List, [], ◌∷◌, None, Some, true, refl, sym, ◌∙◌, ap, arith, nat_tests, length, length-map, map, get_or, slice_get_past, Cold, Departure, Hot, Lists, Slot, held, AreKept, blank_onward, cold_part, departure_in, entries_of, hot_part, leaving, leaving_among, no_departure, onward_in, onwards_of, slot_at, stored_in}
+use Rattle.dep_order.proofs.Words.{◌≡◌, ◌≢◌, ◌<◌, ◌≤◌, ℕ, zero, suc, List, [], ◌∷◌, None, Some, true, refl, sym, ◌∙◌, ap, arith, length, length-map, map, get_or, slice_get_past, Departure, Hot, Lists, Slot, held, AreKept, blank_onward, departure_in, entries_of, hot_part, leaving, leaving_among, onward_in, onwards_of, slot_at, stored_in}
 use Rattle.dep_order.proofs.NumberLemmas.{leaving-is}
-use Rattle.dep_order.proofs.SlotLemmas.{held-slot, slot-there, there-in-slot}
+use Rattle.dep_order.proofs.SlotLemmas.{held-slot, there-in-slot}
 use Rattle.dep_order.proofs.StoredLemmas.{read}
 
 onward-slot : (ss : List Slot) (i : ℕ) → i < length ss → get_or (map onward_in ss) i blank_onward ≡ onward_in (slot_at ss i)
@@ -25,17 +25,6 @@ leaving-read l k i d h low is e =
 -- whether a departure has a number
 pub past-none : (l : Lists) (n : ℕ) → length l.slots ≤ n → None ≡ held (entries_of l) n
 past-none l n past = let none = slice_get_past (entries_of l) n (omega (arith, length-map l.slots departure_in)) in rw none refl
-
-pub slot-none : (l : Lists) (n : ℕ) (c : Cold) → c ≡ cold_part (slot_at l.slots n) → c.before ≡ no_departure → None ≡ held (entries_of l) n
-slot-none l n c e free =
-    let own : (slot_at l.slots n).before ≡ no_departure = sym (ap (λ (a : Cold). a.before) e) ∙ free in
-    let gone : departure_in (slot_at l.slots n) ≡ None = grind (arith, nat_tests, own) in
-    sym (held-slot l.slots n ∙ gone)
-
-pub slot-some : (l : Lists) (n : ℕ) (c : Cold) (d : Departure) → c ≡ cold_part (slot_at l.slots n) → d ≡ stored_in (slot_at l.slots n) → c.before ≢ no_departure → Some d ≡ held (entries_of l) n
-slot-some l n c d e own some =
-    let there = slot-there (slot_at l.slots n) (λ free. some (ap (λ (a : Cold). a.before) e ∙ free)) in
-    ap Some own ∙ sym (held-slot l.slots n ∙ there)
 
 -- each departure that is kept is one
 pub all-depart : (l : Lists) (i : ℕ) (d : Departure) → held (entries_of l) i ≡ Some d → d.key.dep ≡ true

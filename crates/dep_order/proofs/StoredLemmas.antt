@@ -71,11 +71,6 @@ bucket l b a k low at =
       last = rw (none, is) at (k.previous b nobody low (inl refl));
     }
 
--- a link leads to a slot
-pub link-within : (lt : Departure → Departure → Bool) (by : Departure → ℕ) (l : Lists) (b n : ℕ) (o : Option Departure) → IsNext lt by (entries_of l) b o n → n ≢ nobody → n < length l.slots
-link-within lt by l b n o x some =
-    elim (some-or-none (held (entries_of l) n)) [ inl f ↦ within l n f.0 f.1 | inr gone ↦ absurd (some (x.ends gone)) ]
-
 -- to a departure
 pub link-end : (lt : Departure → Departure → Bool) (by : Departure → ℕ) (l : Lists) (b n : ℕ) (o : Option Departure) → IsNext lt by (entries_of l) b o n → IsLinkEnd l n
 link-end lt by l b n o x some =
@@ -96,7 +91,3 @@ end-slot l n is some = let f = some-of (held (entries_of l) n) (is some) in (the
 
 pub same-end : (l r : Lists) (n : ℕ) → entries_of r ≡ entries_of l → IsLinkEnd l n → IsLinkEnd r n
 same-end l r n e is = rw e is
-
--- links lead to departures of other numbers as well
-pub other-end : (l : Lists) (n : ℕ) (d : Departure) → held (entries_of l) n ≡ Some d → IsLinkEnd l n
-other-end l n d h some = rw h refl

@@ -55,7 +55,8 @@ impl Model for DepartureOrder {
 
 impl DepartureOrder {
     /// These departures, which are given in the order of their keys and have their places as
-    /// numbers, with so many numbers more. `OutOfMemory` where there is no memory for them.
+    /// numbers, with so many numbers more. What their trains do next is to be told before a scan.
+    /// `OutOfMemory` where there is no memory for them.
     pub fn build(
         alloc: Global,
         departures: &[Departure],
@@ -131,7 +132,7 @@ impl DepartureOrder {
     }
 
     /// Puts in a departure of a call of which none is there. It gets the first number that was
-    /// never given. It takes no memory.
+    /// never given. What its train does next is to be told before a scan. It takes no memory.
     pub fn put(&mut self, departure: &Departure)
         // a departure of a new call, for whose number there is a place
         requires departs { departure.now.key.dep ≡ true }
@@ -255,7 +256,7 @@ impl DepartureOrder {
         self.numbered.departure(number)
     }
 
-    /// What the train of the departure of a number does next.
+    /// What was told last of what the train of the departure of a number does next.
     pub fn onward(&self, number: u32) -> Onward
         requires { number < length self.now.entries }
         ensures { result ≡ onward_at self.now number }

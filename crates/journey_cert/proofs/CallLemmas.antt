@@ -47,11 +47,6 @@ module _ (st : State) (trains : All IsTrain st.trains) (train : ℕ) where
   pub calls-run : IsRun false (calls_of st train)
   calls-run = (laws-of (slice_get st.trains train) refl).1
 
--- a train runs after a call as it departs there
-pub run-rest : (before : List Call) (live : Bool) (c : Call) (rest : List Call) → IsRun live (before ++ c ∷ rest) → IsRun c.departure.live rest
-run-rest [] live c rest run = run.1
-run-rest (b ∷ before) live c rest run = run-rest before b.departure.live c rest run.1
-
 pub route-of : (o : Option Train) (label : ℕ) (c : Call) → find (is_call label) (option_map_or (λ (t : Train). t.calls) o []) ≡ Some c → (route : ℕ) × (option_map (λ (t : Train). t.route) o ≡ Some route)
 route-of None label c found = absurd (none-some c found)
 route-of (Some t) label c found = (t.route, refl)

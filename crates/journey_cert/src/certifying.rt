@@ -76,6 +76,7 @@ pub fn certify(
     ensures good { IfOk result (IsGoodCertificate t.now.network t.now.state q.now) }
     ensures arrives { IfOk result (λ c. c.arrives ≡ best_of_found f.now) }
     ensures rides { IfOk result (λ c. c.rides ≡ map name_of s.now.rides) }
+    ensures reached { IfOk result (λ c. c.reached ≡ early_stops (best_of_found f.now) s.now.held) }
     ensures since { IfOk result (λ c. All (λ x. q.now.time ≤ x.time) c.reached) }
 {
     let arrives = arrival_of(f);

@@ -13,8 +13,9 @@ use timetable::Timetable;
 use train_nodes::Steps;
 
 /// Whether a certificate is good: then its rides are an earliest journey, or there is none. It may
-/// have any numbers, also of trains, calls and stops that do not exist. It takes no memory, and the
-/// scratch shows no answer afterwards. Each stored time that it reads is a step.
+/// have any numbers, also of trains, calls and stops that do not exist. It takes no memory, and
+/// nothing is promised of what the scratch shows afterwards. Each stored time that it reads is a
+/// step; no clause bounds them.
 pub fn check<L: Ledger>(
     t: &Timetable,
     q: &Query,

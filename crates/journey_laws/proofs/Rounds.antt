@@ -2,7 +2,7 @@
 use Rattle.std.proofs.Common.{◌≡◌, inl, inr, ℕ, zero, suc, ◌+◌, ◌-◌, ◌≤◌, ◌<◌, true, List, [], ◌∷◌, ◌++◌, length, get_or, Some, refl, sym, ◌∙◌, ap, subst, arith}
 use Rattle.std.specs.List.{All, AllPairs, Contains}
 use Rattle.std.proofs.lemmas.Bool.{cases_lt, cond_both}
-use Rattle.std.proofs.lemmas.List.Elements.{All-contains, All-get_or, All-head, All-nil, All-cons, All-push, All-weaker, Contains-append_left, Contains-append_right}
+use Rattle.std.proofs.lemmas.List.Elements.{All-contains, All-get_or, All-nil, All-cons, All-push, All-weaker, Contains-append_left, Contains-append_right}
 use Rattle.std.proofs.lemmas.List.Kept.{AllPairs-cons}
 use Rattle.std.proofs.lemmas.List.Quantifiers.{all_pairs_push}
 use Rattle.std.proofs.lemmas.Option.{none-some, same_Some}
@@ -189,6 +189,3 @@ front-empty nw st q m plans front none rides at h few =
     let there = subst (λ ps. Contains ps by.0) none by.1 in
     let within = there.1 in
     absurd (omega arith)
-
-pub front-first : (nw : Network) (st : State) (q : Query) (m : ℕ) (p : Plan) (ps : List Plan) → IsFront nw st q m (p ∷ ps) → IsPlan nw st q m p
-front-first nw st q m p ps front = All-head (IsPlan nw st q m) p ps front.journeys

@@ -115,30 +115,6 @@ module _ (nw : Network) (st : State) (q : Query) where
     elsewhere = λ b t at. absurd (none-some t at);
   }
 
-  -- the times of boarding follow those of arrival: a ride that arrives earlier than any before lowers those to which one can change
-  pub boardings-taken : (old new old_boards new_boards : ℕ → Option ℕ) (r : PlanRide) → IsRideTaken r old new → AreBoardingsTaken nw r old_boards new_boards → AreBoardings nw q old old_boards → AreBoardings nw q new new_boards
-  boardings-taken old new old_boards new_boards r taken boards are b t stop = (onward, back)
-    where
-      sooner : (a s c : ℕ) → HasArrived new a s → IsInTime nw a s b c → (s' : ℕ) × (new a ≡ Some s') × IsInTime nw a s' b c
-      sooner a s c by change = let le = by.2 in let done = change.2 in (by.0, by.1, (change.0, change.1, omega arith))
-
-      kept : MayBoard nw q old b t → MayBoard nw q new b t
-      kept (inl first) = inl first
-      kept (inr (a, s, at, change)) = let by = sooner a s t (taken.no_later a s (s, at, omega arith)) change in inr (a, by.0, by.1, by.2)
-
-      onward : HasArrived new_boards b t → MayBoard nw q new b t
-      onward h = elim ((boards b t stop).0 h) [
-        | inl before ↦ kept ((are b t stop).0 before)
-        | inr change ↦ let by = sooner r.alight_stop r.alight_time t taken.there change in inr (r.alight_stop, by.0, by.1, by.2)
-      ]
-
-      back : MayBoard nw q new b t → HasArrived new_boards b t
-      back (inl first) = (boards b t stop).1 (inl ((are b t stop).1 (inl first)))
-      back (inr (a, s, at, change)) = elim (taken.others a s at) [
-        | inl before ↦ (boards b t stop).1 (inl ((are b t stop).1 (inr (a, s, before, change))))
-        | inr here ↦ (boards b t stop).1 (inr (subst (λ (p : ℕ × ℕ). IsInTime nw p.0 p.1 b t) (λ i. (here.0 i, here.1 i)) change))
-      ]
-
 -- an arrival no earlier than what is reached changes nothing
 pub taken-already-at : (b t : ℕ) (reached : ℕ → Option ℕ) → HasArrived reached b t → IsArrivalTaken b t reached reached
 taken-already-at b t reached by = record { no_later = λ c s h. h; there = by; others = λ c s at. inl at }

@@ -40,15 +40,3 @@ IsRideTaken r old new = IsArrivalTaken r.alight_stop r.alight_time old new
 pub record IsBestTaken (nw : Network) (q : Query) (b t : ℕ) (old new : Option ℕ) : Type 0 where
   pub no_later : (s : ℕ) → IsBestBy old s → IsBestBy new s
   pub there : is_one_station nw b q.to_stop ≡ true → IsBestBy new t
-
--- `boards` gives for each stop the earliest time at which the passenger can board there, after any
--- change
-abbrev pub AreBoardings : Network → Query → (ℕ → Option ℕ) → (ℕ → Option ℕ) → Type 0
-AreBoardings nw q reached boards = (b t : ℕ) → is_stop nw.stops b ≡ true
-    → HasArrived boards b t ↔ MayBoard nw q reached b t
-
--- what a ride makes of the times of boarding: each stop to which one can change from where it ends
--- can be boarded by the end of the change, and nothing else is new
-abbrev pub AreBoardingsTaken : Network → PlanRide → (ℕ → Option ℕ) → (ℕ → Option ℕ) → Type 0
-AreBoardingsTaken nw r old new = (b t : ℕ) → is_stop nw.stops b ≡ true
-    → HasArrived new b t ↔ (HasArrived old b t ⊎ IsInTime nw r.alight_stop r.alight_time b t)

@@ -17,7 +17,8 @@ pub struct CertRide {
     pub alight: Label,
 }
 
-/// A stop, and a time by which a passenger can have arrived there, before any change.
+/// A stop of a certificate, with a time. In a good certificate nobody who leaves as its query asks
+/// arrives there before that time, which is that of an arrival, before any change.
 #[derive(Clone, Copy, Debug, PartialEq, Eq)]
 pub struct Reach {
     /// The stop.
@@ -27,15 +28,17 @@ pub struct Reach {
     pub time: Time,
 }
 
-/// The answer to a query, and what shows that it is right.
+/// What is claimed as the answer to a query, and what shows that it is right, if it is.
 #[derive(Drop)]
 pub struct Cert {
-    /// The earliest arrival, in seconds from the base of day 0. None where there is no journey.
+    /// The arrival that is claimed to be the earliest, in seconds from the base of day 0. None
+    /// where it is claimed that there is no journey.
     pub arrives: Option<Time>,
 
-    /// The rides of a journey that arrives then. None of them where there is no journey.
+    /// The rides of a journey that is claimed to arrive then. None of them where none is claimed.
     pub rides: Rows<CertRide>,
 
-    /// The stops where a passenger can have arrived before that, by number, each with a time.
+    /// Stops by number, each with a time. In a good certificate no stop is missing where one can
+    /// arrive before that.
     pub reached: Rows<Reach>,
 }

@@ -5,7 +5,8 @@
 pub enum Point {
     /// Just before the query of this line looks at the board.
     BeforeLook { line: u64 },
-    /// While the query of this line looks at the board, before its search.
+    /// While the query of this line looks at the board, before its search. A thread that is held
+    /// here keeps its copy, so the publisher waits for it with the second post from then on.
     InLook { line: u64 },
     /// Just after the message of this line was published.
     AfterPost { line: u64 },

@@ -13,9 +13,6 @@ pub record IsSameFrom (place : ℕ) (xs ys : List (Option Reply)) : Type 0 where
 pub same-behind : (place : ℕ) (xs : List (Option Reply)) → IsSameBehind place xs xs
 same-behind place xs = record { count = refl; behind = λ p l. refl }
 
-pub same-from-start : (xs : List (Option Reply)) → IsSameFrom 0 xs xs
-same-from-start xs = record { count = refl; from = λ p l. refl }
-
 pub same-from-next : (place : ℕ) (xs ys zs : List (Option Reply)) → IsSameFrom place xs ys → IsSameBehind place ys zs → IsSameFrom (place + 1) xs zs
 same-from-next place xs ys zs h k = record {
   count = k.count ∙ h.count;
@@ -63,9 +60,6 @@ none-is-there (Some r) is e = absurd (cc)
 -- a reply that is there is not missing
 pub not-missing : (o p : Option Reply) → o ≡ p → IsSome p → o ≡ None → ⊥
 not-missing o p e is none = none-is-there p is (sym e ∙ none)
-
-pub joined-none : (lines : List WindowLine) (own : List (Option Reply)) (answers : ℕ → List (Option Reply)) (workers : ℕ) → AreJoined lines own answers workers []
-joined-none lines own answers workers = record { each = λ place line r at_line at_reply. absurd (cc) }
 
 pub joined-more : (lines : List WindowLine) (own : List (Option Reply)) (answers : ℕ → List (Option Reply)) (workers i : ℕ) (line : WindowLine) (rs : List Reply) (r : Reply) → AreJoined lines own answers workers rs → length rs ≡ i
     → slice_get lines i ≡ Some line → Some r ≡ reply_for own answers workers line i → AreJoined lines own answers workers (rs ++ r ∷ [])

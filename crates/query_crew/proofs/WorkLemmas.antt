@@ -85,12 +85,6 @@ rise-more xs e c old upper new i j r s m n less at_i at_j shows_i shows_j =
     (at-end xs e (Some r) i at_i))
     (at-end xs e (Some s) j at_j)
 
-pub answered-none : (o : Option TimetableState) (list : List Message) (least first me workers : ℕ) (lines : List WindowLine) → HasAnswered o list least first me workers lines []
-answered-none o list least first me workers lines = record {
-  each = λ place line e at_line at_entry. absurd cc;
-  rise = λ i j r s m n less at_i at_j shows_i shows_j. absurd cc;
-}
-
 pub answered-more : (o : Option TimetableState) (list later note learnt : List Message) (first me workers : ℕ) (lines : List WindowLine) (xs : List (Option Reply)) (i : ℕ) (line : WindowLine) (e : Option Reply)
     → HasAnswered o list (length note) first me workers lines xs → length xs ≡ i → slice_get lines i ≡ Some line → IsPrefix list later → IsPrefix note learnt
     → IsNewEntry o learnt later (first + (i + 1)) (asked_of me workers line) e → HasAnswered o later (length note) first me workers lines (xs ++ e ∷ [])

@@ -138,8 +138,9 @@ impl<H: Opening<Timetable> + Send + Sync> Crew<Publisher<Timetable, H>, Viewer<T
     /// number of lines before the window. Each message that is accepted is posted, in line order;
     /// beside it each worker with a viewer answers the queries of its clients, in line order, each
     /// by a look of its own. The publisher answers the other queries when the messages are posted.
-    /// The gate is called behind each message that was posted and before each look of a worker, and
-    /// nowhere else. `OutOfMemory` where there is no memory; then the crew can only be closed.
+    /// The gate is called behind each message that was posted, before each look of a worker and
+    /// inside it, and nowhere else. `OutOfMemory` where there is no memory; then the crew can only
+    /// be closed.
     pub fn run_window<R: Threads + Wait + Sync, G: Gate + Sync>(
         &mut self,
         rt: &R,

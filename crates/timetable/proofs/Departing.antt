@@ -63,9 +63,6 @@ differ g own ks h =
     AllPairs-map (λ a b. a ≢ b) g (filter is_departure ks)
     (λ i j d l m e. AllPairs-filter (λ a b. a ≢ b) is_departure ks h i j d l m (sym (own (get_or (filter is_departure ks) i d)) ∙ ap (λ (x : Departure). x.key) e ∙ own (get_or (filter is_departure ks) j d)))
 
-pub stored-differ : (nw : Network) (st : State) (times : StoredTimes) → All IsTrain st.trains → AllPairs (λ a b. a ≢ b) (map (stored_departure nw st times) (filter is_departure (live_keys (events st))))
-stored-differ nw st times trains = differ (stored_departure nw st times) (λ k. refl) (live_keys (events st)) (keys-differ st trains)
-
 -- the times kept for settled events are their times
 kept-are : (nw : Network) (st : State) (times : StoredTimes) (ks : List Key) → All (HasItsTime nw st times) ks → map (stored_departure nw st times) (filter is_departure ks) ≡ map (departing nw st) (filter is_departure ks)
 kept-are nw st times [] h = refl

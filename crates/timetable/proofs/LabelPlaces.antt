@@ -1,6 +1,6 @@
 -- Places for the numbers of departures: one for each label that a train has used.
-use Rattle.timetable.proofs.Words.{◌≡◌, ℕ, zero, suc, ◌+◌, ◌-◌, ◌*◌, ◌<◌, ◌≤◌, List, [], ◌∷◌, ◌++◌, Some, None, map, length, length-map, get_or, slice_get, refl, sym, ◌∙◌, ap, subst, arith}
-use Rattle.timetable.proofs.Words.{All, All-contains, Contains, Key, State, Train, Event, events, IsTrain, events-from_each, events_at-each, trains-each, StoredTimes, AreSized, change_at, with_train_times, with_labels, next_labels, live_keys, HasTimesFor, NewCall, map-append}
+use Rattle.timetable.proofs.Words.{◌≡◌, ℕ, zero, suc, ◌+◌, ◌-◌, ◌*◌, ◌<◌, ◌≤◌, List, [], ◌∷◌, ◌++◌, Some, map, length, get_or, slice_get, refl, sym, ◌∙◌, ap, subst, arith}
+use Rattle.timetable.proofs.Words.{All, All-contains, Contains, Key, State, Train, Event, events, IsTrain, events-from_each, events_at-each, trains-each, StoredTimes, change_at, with_train_times, with_labels, next_labels, live_keys, HasTimesFor, map-append}
 use Rattle.propagate.proofs.{Ordered.keyed-live}
 use Rattle.dep_order.specs.Ordered.{HasPlace, KeepsRoom, Ordered}
 use Rattle.dep_order.specs.CallNumbering.{StoredNumbers, labels_of, no_number, with_train_numbers}
@@ -10,9 +10,8 @@ use Rattle.std.proofs.lemmas.List.Sums.{sum-map, sum_by-append, sum_by-cons}
 use Rattle.std.proofs.lemmas.Option.{get_or_from_slice_get}
 use Rattle.timetable.proofs.Listing.{cut-at}
 use Rattle.timetable.proofs.Words.{slice_get_within, take_more}
-use Rattle.timetable.proofs.Words.{Call, drop, drop_all, length-replicate, take, take_all}
+use Rattle.timetable.proofs.Words.{drop, length-replicate, take}
 use Rattle.std.specs.Prelude.{replicate}
-use Rattle.train_nodes.specs.Calls.{first_label}
 use Rattle.timetable.specs.Settled.{AreOfSameLabels, HasPlacesFor}
 use Rattle.timetable.proofs.Sized.{lengths-more, next_of, sized-push, twice}
 
@@ -57,10 +56,6 @@ places-for {st = st} {order = order} h k = record {
   spare_trains = sym k.spare_trains ∙ h.spare_trains;
   spare_calls = sym k.spare_calls ∙ h.spare_calls;
 }
-
--- as many trains
-pub same-trains : {times : StoredTimes} {order : Ordered} → AreOfSameLabels times order → length times.trains ≡ length order.labels
-same-trains {times = times} {order = order} h = omega (arith, ap length h.sized, length-map times.trains length, length-map order.labels twice)
 
 -- a train more, or labels more of a train
 pub train-more : {times : StoredTimes} {order now : Ordered} (more : ℕ) → AreOfSameLabels times order → now.labels ≡ order.labels ++ more ∷ [] → now.spare_trains ≡ order.spare_trains - 1 → now.spare_calls ≡ order.spare_calls - more → AreOfSameLabels (with_train_times more times) now
@@ -125,21 +120,6 @@ module _ {st : State} {n x : ℕ} {k : StoredNumbers} (h : ArePlacesTo st n k) (
     spare_trains = omega (arith, h.spare_trains);
     spare_calls = omega (arith, sum-first (next_labels st) n x own, h.spare_calls);
   })
-
-pub places-all : {st : State} {n : ℕ} {k : StoredNumbers} → ArePlacesTo st n k → length st.trains ≤ n → (labels_of k ≡ next_labels st) × (k.spare_trains ≡ st.spare_trains) × (k.spare_calls ≡ st.spare_calls)
-places-all {st = st} {n = n} {k = k} h all =
-    let long = length-map st.trains next_of in
-    let none : drop n (next_labels st) ≡ [] = drop_all n (next_labels st) (omega (arith, long)) in
-    (h.labels ∙ take_all n (next_labels st) (omega (arith, long)), omega (arith, h.spare_trains), omega (arith, h.spare_calls, ap sum none))
-
-some-of : (next : ℕ) (cs : List Call) (label : ℕ) → first_label cs ≡ Some label → All (λ (c : Call). c.label < next) cs → 1 ≤ next
-some-of next [] label h used = absurd (cc)
-some-of next (c ∷ cs) label h used = omega (arith, used 0 c (omega arith))
-
--- a train that has a first call has used a label
-pub some-label : (t : Train) (label : ℕ) → IsTrain t → first_label t.calls ≡ Some label → 1 ≤ t.next_label
-some-label t label is first =
-    some-of t.next_label t.calls label first is.used
 
 pub places-kept : {st : State} {a b : Ordered} → HasPlacesFor st a → KeepsRoom a b → HasPlacesFor st b
 places-kept h k = record { labels = k.labels ∙ h.labels; spare_trains = k.spare_trains ∙ h.spare_trains; spare_calls = k.spare_calls ∙ h.spare_calls }

@@ -50,10 +50,6 @@ renewed-pass left rest whole a b same h = record {
   room = h.room;
 }
 
--- nothing, and one after the other
-pub renewed-none : (f : Renewing) (o : Ordered) → ((d : Departure) (w : Onward) → f d w ≡ w) → AreRenewed f o o
-renewed-none f o same = record { onwards = λ n d h. sym (same d (onward_at o n)); departures = refl; entries = refl; used = refl; room = room-same o }
-
 pub renewed-then : (f g h : Renewing) (a b c : Ordered) → ((d : Departure) (o : Onward) → h d o ≡ g d (f d o)) → AreRenewed f a b → AreRenewed g b c → AreRenewed h a c
 renewed-then f g h a b c joins first then = record {
   onwards = λ n d there. then.onwards n d (ap (λ es. held es n) first.entries ∙ there) ∙ ap (g d) (first.onwards n d there) ∙ sym (joins d (onward_at a n));

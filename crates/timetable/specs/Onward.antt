@@ -44,8 +44,3 @@ pub record IsDepartureOrder (nw : Network) (st : State) (o : Ordered) : Type 0 w
   -- is put in gets the number where a train ends
   pub given : (n : ℕ) (d : Departure) → held o.entries n ≡ Some d
       → ((onward_at o n).next < o.used) ⊎ ((onward_at o n).next ≡ length o.entries)
-
--- a number that stands beside a departure was given, or no departure ever has it
-abbrev pub AreGiven : Ordered → Type 0
-AreGiven o = (n : ℕ) (d : Departure) → held o.entries n ≡ Some d
-    → ((onward_at o n).next < o.used) ⊎ ((onward_at o n).next ≡ length o.entries)
