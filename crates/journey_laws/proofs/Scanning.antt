@@ -9,7 +9,7 @@ use Rattle.delay_model.specs.declared.state.State.{State}
 use Rattle.delay_model.specs.Journeys.{IsInTime, IsRide, is_one_station}
 use Rattle.delay_model.specs.Valid.{IsValid}
 use Rattle.journey_laws.specs.Reached.{HasArrived, IsEarly, IsFinished, IsOpen, MayBoard}
-use Rattle.journey_laws.specs.Scans.{AreBoardings, AreBoardingsTaken, IsArrivalTaken, IsBestBy, IsBestTaken, IsRideTaken, IsScanOf}
+use Rattle.journey_laws.specs.Scans.{IsArrivalTaken, IsBestBy, IsBestTaken, IsRideTaken, IsScanOf}
 use Rattle.journey_laws.proofs.BestArrivals.{best-not_early}
 use Rattle.journey_laws.proofs.Beginnings.{early-before}
 use Rattle.journey_laws.proofs.Forward.{in_time-later, ride-forward}

@@ -5,9 +5,8 @@ use Rattle.mt_base.specs.declared.journeys.PlanRide.{PlanRide}
 use Rattle.mt_base.specs.declared.journeys.Query.{Query}
 use Rattle.delay_model.specs.declared.network.Network.{Network}
 use Rattle.delay_model.specs.declared.state.State.{State}
-use Rattle.delay_model.specs.Changes.{is_stop}
-use Rattle.delay_model.specs.Journeys.{IsInTime, IsRide, is_one_station}
-use Rattle.journey_laws.specs.Reached.{HasArrived, IsOpen, MayBoard}
+use Rattle.delay_model.specs.Journeys.{IsRide, is_one_station}
+use Rattle.journey_laws.specs.Reached.{HasArrived, IsOpen}
 
 -- the best arrival is no later than this time
 abbrev pub IsBestBy : Option ℕ → ℕ → Type 0
