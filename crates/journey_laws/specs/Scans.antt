@@ -1,6 +1,6 @@
 -- What a scan of the departures in the order of their times keeps, so that at its end it is
 -- finished.
-use Rattle.std.specs.Prelude.{◌≡◌, ◌⊎◌, ◌↔◌, ℕ, ◌≤◌, true, Option, Some}
+use Rattle.std.specs.Prelude.{◌≡◌, ◌⊎◌, ℕ, ◌≤◌, true, Option, Some}
 use Rattle.mt_base.specs.declared.journeys.PlanRide.{PlanRide}
 use Rattle.mt_base.specs.declared.journeys.Query.{Query}
 use Rattle.delay_model.specs.declared.network.Network.{Network}

@@ -82,7 +82,7 @@ none-only es fs same =
     rw (live-key fs v.key (r.0, w.0, r.2, w.1)) refl)
 
 -- what is not a or is b, in two parts
-either-length : {X : Type 0} (a b : X → Bool) (xs : List X) → length (filter (λ x. not (a x) || b x) xs) ≡ length (filter (λ x. not (a x)) xs) + length (filter (λ x. a x && b x) xs)
+pub either-length : {X : Type 0} (a b : X → Bool) (xs : List X) → length (filter (λ x. not (a x) || b x) xs) ≡ length (filter (λ x. not (a x)) xs) + length (filter (λ x. a x && b x) xs)
 either-length a b [] = refl
 either-length a b (x ∷ xs) = let e = either-length a b xs in grind arith
 

@@ -16,6 +16,7 @@ pub mod Followed
 pub mod Moving
 pub mod Carrying
 pub mod AllMarked
+pub mod ReadCounts
 pub mod Stepping
 pub mod Marked
 pub mod Since

@@ -31,7 +31,7 @@ count-filter p q (x ∷ xs) =
       | inr fails ↦ rw fails (elim (cases_Bool (p x)) [ inl t ↦ rw t (omega arith) | inr f ↦ rw f rest ])
     ]
 
-count-weaker : {X : Type 0} (p q : X → Bool) (xs : List X) → All (λ x. p x ≡ true → q x ≡ true) xs → length (filter p xs) ≤ length (filter q xs)
+pub count-weaker : {X : Type 0} (p q : X → Bool) (xs : List X) → All (λ x. p x ≡ true → q x ≡ true) xs → length (filter p xs) ≤ length (filter q xs)
 count-weaker p q [] h = omega arith
 count-weaker p q (x ∷ xs) h =
     let rest = count-weaker p q xs (λ i d l. h (suc i) d (omega arith)) in

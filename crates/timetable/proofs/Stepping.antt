@@ -1,8 +1,10 @@
 -- What is marked and stored after an accepted message is what settling asks for, and it reads no more than a message may take.
-use Rattle.timetable.proofs.Words.{◌≡◌, ◌≤◌, ◌∙◌, false, refl, sym, filter, All, Network, State, Message, effect, events, refusal, None, IsValid, IsWellFormed, live_keys, key_order, StoredTimes, IsPrepared, Marked, is_marked, AreUnsettled}
+use Rattle.timetable.proofs.Words.{◌≡◌, ◌+◌, ◌*◌, ◌≤◌, ◌∙◌, false, refl, sym, filter, All, Network, State, Message, effect, events, refusal, None, IsValid, IsWellFormed, live_keys, key_order, StoredTimes, IsPrepared, Marked, is_marked, AreUnsettled}
 use Rattle.timetable.proofs.Words.{IsMarkedBefore, IsStateAfter, GraphState}
 use Rattle.std.specs.List.{sum_by}
 use Rattle.propagate.specs.Reads.{reads_of}
+use Rattle.timetable.specs.Reads.{renewed_count}
+use Rattle.timetable.proofs.ReadCounts.{both-fit}
 use Rattle.propagate.specs.Settling.{FollowsRule, is_due, reads_at}
 use Rattle.propagate.proofs.{Ordered.live-keyed, StepStays.unmarked-values, StepCosts.step-cost}
 
@@ -22,3 +24,7 @@ module _ {nw : Network} {st : State} {m : Message} {times : StoredTimes} (p : Is
 
   pub step-reads : sum_by (reads_at (record { network = nw; state = effect st m })) (filter (is_due (record { network = nw; state = effect st m }) marks times) (key_order (events (effect st m)))) ≤ reads_of nw st m
   step-reads = step-cost nw st m times p.stored marks (λ k at h. sym (due.marked k (live-keyed (events (effect st m)) k at)) ∙ h)
+
+  -- with two for each event that gets another time
+  pub step-both : IsStateAfter nw st (effect st m) m → sum_by (reads_at (record { network = nw; state = effect st m })) (filter (is_due (record { network = nw; state = effect st m }) marks times) (key_order (events (effect st m)))) + 2 * renewed_count nw st m ≤ reads_of nw st m
+  step-both step = both-fit nw st m step p.stored (λ k at h. sym (due.marked k (live-keyed (events (effect st m)) k at)) ∙ h)

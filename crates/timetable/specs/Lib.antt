@@ -4,6 +4,7 @@ pub mod Changed
 pub mod Departures
 pub mod Onward
 pub mod Moved
+pub mod Reads
 pub mod Numbers
 pub mod Settled
 pub mod Inside

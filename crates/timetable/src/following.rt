@@ -1,6 +1,6 @@
 //! Times taken over from a timetable that took a message before.
 
-ghost use Rattle.std.specs.Prelude.{◌≡◌, ◌+◌, ◌≤◌, ◌++◌, Some, All, IsTrue, if◌then◌else◌};
+ghost use Rattle.std.specs.Prelude.{◌≡◌, ◌+◌, ◌*◌, ◌≤◌, ◌++◌, Some, All, IsTrue, if◌then◌else◌};
 ghost use Rattle.std.specs.Prelude.{drop, filter, length, map, vec_len, vec_capacity};
 ghost use Rattle.std.specs.Option.{option_map};
 ghost use Rattle.mt_base.specs.declared.keys.Node.{Node as ANode};
@@ -23,7 +23,7 @@ use std::sync::ledger::Ledger;
 use train_nodes::{NodeTimes, Steps, Trains};
 
 /// Stores the time of an event that is stored for it in other times, and answers it with the one
-/// that was stored.
+/// that was stored. Both are read, and no other time.
 fn take_time<L: Ledger>(
     trains: &Trains,
     times: &mut NodeTimes,
@@ -41,6 +41,7 @@ fn take_time<L: Ledger>(
     ensures stored { times.new ≡ with_time n.now result.is times.old }
     ensures time { (m : ANode) → time_of times.new m
         ≡ (if is_same_node n.now m then Some result.is else time_of times.old m) }
+    ensures cost { steps.new ≡ steps.old + 2 }
 {
     let was = times.read(*n, steps);
     let is = other.read(*n, steps);
@@ -62,7 +63,8 @@ pub(crate) fn names_from(names: &[Node], first: usize) -> &[Node]
 
 /// Stores the times that other times have for these events: the live ones for which not their own
 /// time is stored, in the order of their keys. The other times are those of the live events. Each
-/// event is added to a list with both times. It takes no memory.
+/// event is added to a list with both times. Two stored times are read for each. It takes no
+/// memory.
 pub(crate) fn take_times<L: Ledger>(
     graph: &Graph,
     times: &mut NodeTimes,
@@ -92,6 +94,9 @@ pub(crate) fn take_times<L: Ledger>(
     ensures changes { changes.new.items ≡ changes.old.items
         ++ time_changes_of graph.now.network graph.now.state times.old }
     ensures capacity { vec_capacity changes.new ≡ vec_capacity changes.old }
+
+    // the steps that are counted
+    ensures cost { steps.new ≡ steps.old + 2 * length names.now }
 {
     for n in names {
         changes.push_reserved(take_time(graph.trains(), times, other, n, steps));

@@ -1,6 +1,7 @@
 //! The timetable.
 
-ghost use Rattle.std.specs.Prelude.{◌≡◌, ◌+◌, ◌*◌, ◌≤◌, [], None, Some, IfOk, IfErr, length, map, vec_capacity};
+ghost use Rattle.std.specs.Prelude.{◌≡◌, ◌+◌, ◌*◌, ◌≤◌, [], None, Some, IfOk, IfErr};
+ghost use Rattle.std.specs.Prelude.{if◌then◌else◌, is_some, length, map, vec_capacity};
 ghost use Rattle.delay_model.specs.Events.{events};
 ghost use Rattle.delay_model.specs.Refusals.{refusal};
 ghost use Rattle.delay_model.specs.Touched.{changed_count};
@@ -14,6 +15,7 @@ ghost use Rattle.timetable.specs.Departures.{departure_room};
 ghost use Rattle.timetable.specs.Emptied.{AreEmpty};
 ghost use Rattle.timetable.specs.LiveTimes.{live_time};
 ghost use Rattle.timetable.specs.Onward.{IsDepartureOrder};
+ghost use Rattle.timetable.specs.Reads.{follow_reads_of, renewed_count};
 ghost use Rattle.timetable.specs.TimetableState.{stepped, taken};
 ghost use Rattle.timetable.specs.Settled.{HasTimesFor, most_live};
 
@@ -187,7 +189,8 @@ impl Timetable {
 
     /// Takes a message, and answers how many events it changes: those that it takes away or adds,
     /// and those whose time is another after it. A message that is refused changes nothing. It
-    /// takes no memory.
+    /// takes no memory. The stored times that it reads, and those that another timetable reads to
+    /// follow it, are together no more than the bound for the message.
     pub fn step<L: Ledger>(&mut self, m: &Msg, steps: &mut Steps<L>) -> Result<u64, Refusal>
         // a message that is refused
         ensures refused { IfErr result (λ r. refusal self.old.network self.old.state m.now
@@ -203,6 +206,9 @@ impl Timetable {
         // the steps that are counted
         ensures cost { IfOk result (λ _. steps.new ≤ steps.old
             + reads_of self.old.network self.old.state m.now) }
+        ensures both { IfOk result (λ _. steps.new
+            + 2 * renewed_count self.old.network self.old.state m.now
+            ≤ steps.old + reads_of self.old.network self.old.state m.now) }
         ensures no_steps { IfErr result (λ _. steps.new ≡ steps.old) }
     {
         check(&self.graph, m)?;
@@ -232,10 +238,16 @@ impl Timetable {
     }
 
     /// Takes a message that a timetable like this one took as its last. What that one found out is
-    /// taken over, and the rule is evaluated at no event. It takes no memory.
+    /// taken over, and the rule is evaluated at no event. Two stored times are read, this one's and
+    /// the other's, for each event that is live only after the message or has another time then;
+    /// for a message that is refused none is read. It takes no memory.
     pub fn follow<L: Ledger>(&mut self, m: &Msg, other: &Timetable, steps: &mut Steps<L>)
         requires { other.now ≡ taken self.old m.now }
-        ensures { self.new ≡ taken self.old m.now }
+        ensures effect { self.new ≡ taken self.old m.now }
+
+        // the steps that are counted
+        ensures cost { steps.new ≡ steps.old
+            + follow_reads_of self.old.network self.old.state m.now }
     {
         if check(&self.graph, m).is_ok() {
             self.follow_accepted(m, other, steps);
@@ -246,7 +258,9 @@ impl Timetable {
     fn follow_accepted<L: Ledger>(&mut self, m: &Msg, other: &Timetable, steps: &mut Steps<L>)
         requires accepted { refusal self.old.network self.old.state m.now ≡ None }
         requires stepped { other.now ≡ stepped self.old m.now }
-        ensures { self.new ≡ stepped self.old m.now }
+        ensures effect { self.new ≡ stepped self.old m.now }
+        ensures cost { steps.new ≡ steps.old
+            + 2 * renewed_count self.old.network self.old.state m.now }
     {
         let noted = noted_arrival(&self.departures, &self.graph, m);
         list_taken(&mut self.changed, &self.graph, m);
@@ -307,15 +321,18 @@ impl Timetable {
     }
 
     /// The time of an event by the definition, in seconds from the base of day 0, over the state as
-    /// the last step left it. None exactly where it is not there or not live.
+    /// the last step left it. None exactly where it is not there or not live. One stored time is
+    /// read where the event is live, and else none.
     pub fn time<L: Ledger>(&self, n: Node, steps: &mut Steps<L>) -> Option<Time>
-        ensures { result ≡ live_time self.now.network self.now.state n }
+        ensures time { result ≡ live_time self.now.network self.now.state n }
+        ensures cost { steps.new ≡ steps.old + (if is_some result then 1 else 0) }
     {
         self.time_at(&n, steps)
     }
 
     fn time_at<L: Ledger>(&self, n: &Node, steps: &mut Steps<L>) -> Option<Time>
-        ensures { result ≡ live_time self.now.network self.now.state n.now }
+        ensures time { result ≡ live_time self.now.network self.now.state n.now }
+        ensures cost { steps.new ≡ steps.old + (if is_some result then 1 else 0) }
     {
         if self.graph.trains().live(*n) {
             Some(self.times.read(*n, steps))

@@ -1,6 +1,7 @@
-use Rattle.timetable.proofs.Words.{None, refusal, subst, refl, ◌≡◌, ◌∙◌, arith, ap, sym, effect, events, length, length-map, live_only, names_of, node_of, time_change_at, TimetableState}
+use Rattle.timetable.proofs.Words.{None, refusal, subst, refl, ◌≡◌, ◌+◌, ◌*◌, ◌∙◌, arith, ap, sym, effect, events, length, length-map, live_only, names_of, node_of, time_change_at, TimetableState}
+use Rattle.timetable.specs.Reads.{renewed_count}
 use Rattle.timetable.specs.TimetableState.{stepped}
-use Rattle.timetable.proofs.{Followed.others, Followed.taken-names, Listing.live-held, Moving.gone-fit, Moving.gone-there, LabelPlaces.places-kept, Moving.departures-live, Moving.time-changes-fit, Numbers.still-left, Prepared.names-are}
+use Rattle.timetable.proofs.{Followed.others, Followed.taken-names, Listing.live-held, Moving.gone-fit, Moving.gone-there, LabelPlaces.places-kept, Moving.departures-live, Moving.time-changes-fit, Numbers.still-left, Prepared.names-are, ReadCounts.renewed-length}
 use Rattle.timetable.proofs.Stepping.{step-made}
 use Rattle.timetable.proofs.timetable.Timetable.follow_accepted.Goals as goal
 
@@ -105,10 +106,22 @@ invariant_of-self g c =
       };
     })
 
-pub returns : goal.returns
-returns g c =
+pub returns-clause-effect : goal.returns-clause-effect
+returns-clause-effect g c =
     let p = c.apply.ensures.prepared in
     let list = rw (c.clear.ensures.items, c.apply.ensures.effect) at c.take_times.ensures.changes in
     let names = rw (c.deref-4.ensures.value, list, c.list_taken.ensures.list, names-are p) at c.push_names.ensures.names in
     let numbers : length c.renew_departures.new.departures.entries ≡ length c.self.inside.departures.entries = c.renew_departures.ensures.numbers ∙ ap length c.apply.ensures.departures.entries ∙ c.take_departures.ensures.numbers.lengths in
     rw (c.apply.ensures.effect, names, numbers, c.saturating_add-self-inside.ensures) (ap (λ (r : TimetableState). stepped r c.args.m.now) c.self.view_is)
+
+pub returns-clause-cost : goal.returns-clause-cost
+returns-clause-cost g c =
+    let a = c.self.inside.graph in
+    let p = c.apply.ensures.prepared in
+    let seen = c.other.view_is ∙ c.requires.stepped ∙ ap (λ (r : TimetableState). stepped r c.args.m.now) (sym c.self.view_is) in
+    let gone = ap length c.list_taken.ensures.list in
+    let at : c.len-first.result ≡ length (names_of (live_only (events c.self.inside.graph.state) (events (effect c.self.inside.graph.state c.args.m.now)))) = omega (arith, c.len-first.ensures, gone, c.list_taken.new.list.ok.0) in
+    let names = c.names_from.ensures ∙ (taken-names p c.deref-2.result.now (c.deref-2.ensures.value ∙ ap (λ (r : TimetableState). r.changed) seen) c.len-first.result at).1 in
+    let keys = others a.network (effect a.state c.args.m.now) c.apply.new.times in
+    subst (λ (r : TimetableState). c.take_times.new.steps ≡ c.args.steps.now + 2 * renewed_count r.network r.state c.args.m.now) c.self.view_is
+    (omega (arith, c.take_times.ensures.cost, ap length names, length-map keys node_of, length-map keys (time_change_at a.network (effect a.state c.args.m.now) c.apply.new.times), renewed-length c.args.m.now p))

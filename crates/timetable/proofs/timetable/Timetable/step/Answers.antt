@@ -1,9 +1,10 @@
-use Rattle.timetable.proofs.Words.{◌≡◌, refl, ◌∙◌, ◌+◌, ◌≤◌, arith, ap, subst, effect, events, length, Marked, TimetableState}
+use Rattle.timetable.proofs.Words.{◌≡◌, refl, ◌∙◌, ◌+◌, ◌*◌, ◌≤◌, arith, ap, subst, effect, events, length, Marked, TimetableState}
+use Rattle.timetable.specs.Reads.{renewed_count}
 use Rattle.timetable.specs.TimetableState.{stepped}
 use Rattle.propagate.specs.Reads.{reads_of}
 use Rattle.delay_model.specs.Touched.{changed_count}
 use Rattle.timetable.proofs.{Changed.changed-length, Listing.live-held, Moving.gone-fit, Moving.gone-there, LabelPlaces.places-kept, Moving.departures-live, Moving.time-changes-fit, Numbers.still-left, Prepared.names-are}
-use Rattle.timetable.proofs.Stepping.{step-due, step-made, step-reads, step-values}
+use Rattle.timetable.proofs.Stepping.{step-both, step-due, step-made, step-reads, step-values}
 use Rattle.timetable.proofs.timetable.Timetable.step.Goals as goal
 
 pub mark_after-requires-clause-stepped : goal.mark_after-requires-clause-stepped
@@ -129,3 +130,11 @@ returns-clause-cost g c =
     let reads = step-reads c.apply.ensures.prepared due in
     let cost = rw c.apply.ensures.effect at c.settle.ensures.cost in
     subst (λ (r : TimetableState). c.settle.new.steps ≤ c.args.steps.now + reads_of r.network r.state c.args.m.now) c.self.view_is (omega (arith, cost, reads))
+
+pub returns-clause-both : goal.returns-clause-both
+returns-clause-both g c =
+    let made = step-made c.self.invariant.settled.valid c.apply.ensures.well_formed c.in_ok-check.ensures in
+    let due = step-due c.self.invariant.settled.valid c.apply.ensures.well_formed c.in_ok-check.ensures c.apply.new.graph c.apply.ensures.effect c.mark_before.ensures.marked c.mark_after.ensures.marked in
+    let reads = step-both c.apply.ensures.prepared due made in
+    let cost = rw c.apply.ensures.effect at c.settle.ensures.cost in
+    subst (λ (r : TimetableState). c.settle.new.steps + 2 * renewed_count r.network r.state c.args.m.now ≤ c.args.steps.now + reads_of r.network r.state c.args.m.now) c.self.view_is (omega (arith, cost, reads))
