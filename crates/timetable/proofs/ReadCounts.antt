@@ -1,7 +1,7 @@
 -- A message that is taken, and then followed, takes no more reads of stored times than the events that it touches allow.
-use Rattle.timetable.proofs.Words.{◌≡◌, ◌+◌, ◌*◌, ◌≤◌, ◌&&◌, ◌||◌, ℕ, true, false, not, nat_eq, List, [], ◌∷◌, None, map, filter, length, length-append, length-map, get_or, refl, sym, ap, arith, inl, inr, eq-eqb}
-use Rattle.timetable.proofs.Words.{cases_Bool, list_any, All-contains_itself, Contains, Key, node_of, is_before, is_same_node, Network, State, Event, Message, IsValid, IsWellFormed, IsLiveAt, events, edges, effect, refusal}
-use Rattle.timetable.proofs.Words.{event_time, incoming, changed, is_changed, is_fed_by, is_live_key, live_events, live_keys, live_only, named, names_of, time_changes, time_changes_of, TimeChange, key_order, StoredTimes, GraphState, Marked, is_marked, IsPrepared, IsStateAfter}
+use Rattle.timetable.proofs.Words.{◌≡◌, ◌+◌, ◌*◌, ◌≤◌, ◌++◌, ℕ, true, not, nat_eq, List, [], ◌∷◌, None, map, filter, length, length-append, length-map, get_or, refl, sym, ap, arith, inl, inr, eq-eqb}
+use Rattle.timetable.proofs.Words.{cases_Bool, All-contains_itself, Contains, Key, node_of, is_before, Network, State, Event, Message, IsValid, IsWellFormed, IsLiveAt, events, edges, effect, refusal}
+use Rattle.timetable.proofs.Words.{event_time, incoming, changed, is_changed, is_live_key, live_events, live_keys, live_only, names_of, time_changes, time_changes_of, TimeChange, key_order, StoredTimes, GraphState, Marked, is_marked, IsPrepared, IsStateAfter}
 use Rattle.std.specs.List.{sum_by}
 use Rattle.std.proofs.lemmas.Bool.{or_cases}
 use Rattle.std.proofs.lemmas.List.Sums.{sum_by-cons}
@@ -35,6 +35,9 @@ module _ (nw : Network) (st : State) (m : Message) (step : IsStateAfter nw st (e
   abbrev new : State
   new = effect st m
 
+  abbrev g : GraphState
+  g = record { network = nw; state = new }
+
   -- what is live only after the message, or has another time, is touched
   changed-reached : (w : Event) → Contains (live_events (events new)) w → is_changed nw st new w.key ≡ true → is_reached nw st m w.key ≡ true
   unfolding touched
@@ -61,10 +64,7 @@ module _ (nw : Network) (st : State) (m : Message) (step : IsStateAfter nw st (e
             changed-reached _ (All-contains_itself (live_events (events new)) i d l)),
       )
 
-  module _ {times : StoredTimes} (stored : AreStored nw st new times) {marks : Marked} (only : (k : Key) → IsLiveAt (events new) k → is_marked marks k ≡ true → is_unsettled nw st m k ≡ true) where
-    abbrev g : GraphState
-    g = record { network = nw; state = new }
-
+  module _ {times : StoredTimes} (stored : AreStored nw st new times) (marks : Marked) (only : (k : Key) → IsLiveAt (events new) k → is_marked marks k ≡ true → is_unsettled nw st m k ≡ true) where
     due-reached : (k : Key) → IsLiveAt (events new) k → is_due g marks times k ≡ true → is_reached nw st m k ≡ true
     due-reached k at due =
         elim (or_cases (is_marked marks k) (has_changed_feeder g times k) due) [

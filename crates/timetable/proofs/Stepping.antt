@@ -27,4 +27,4 @@ module _ {nw : Network} {st : State} {m : Message} {times : StoredTimes} (p : Is
 
   -- with two for each event that gets another time
   pub step-both : IsStateAfter nw st (effect st m) m → sum_by (reads_at (record { network = nw; state = effect st m })) (filter (is_due (record { network = nw; state = effect st m }) marks times) (key_order (events (effect st m)))) + 2 * renewed_count nw st m ≤ reads_of nw st m
-  step-both step = both-fit nw st m step p.stored (λ k at h. sym (due.marked k (live-keyed (events (effect st m)) k at)) ∙ h)
+  step-both step = both-fit nw st m step p.stored marks (λ k at h. sym (due.marked k (live-keyed (events (effect st m)) k at)) ∙ h)
