@@ -6,7 +6,7 @@ pub returns-in_err-time : goal.returns-in_err-time
 returns-in_err-time g c =
     let st = c.args.t.now.state in
     let next = next-named c.args.t.now.network st c.requires.valid c.args.train c.args.label c.requires.there c.in_ok-label.label (sym (rw (c.trains-trains.ensures.trains, c.graph.ensures.state) at c.in_ok-label.ensures)) in
-    c.from_residual-in_err-time.ensures ∙ sym (arrival-dead c.args.t.now.network st c.requires.valid c.args.train c.args.label c.requires.there c.in_ok-label.label next (sym (rw c.arrival-arrival.ensures at c.in_err-time.ensures)))
+    c.from_residual-in_err-time.ensures ∙ sym (arrival-dead c.args.t.now.network st c.requires.valid c.args.train c.args.label c.requires.there c.in_ok-label.label next (sym (rw c.arrival-arrival.ensures at c.in_err-time.ensures.time)))
 
 pub event-departure-requires : goal.event-departure-requires
 event-departure-requires g c =
@@ -23,6 +23,6 @@ returns g c =
     let st = c.args.t.now.state in
     let label = c.in_ok-label.label in
     let next = next-named c.args.t.now.network st c.requires.valid c.args.train c.args.label c.requires.there label (sym (rw (c.trains-trains.ensures.trains, c.graph.ensures.state) at c.in_ok-label.ensures)) in
-    arrival-live c.args.t.now.network st c.requires.valid c.args.train c.args.label c.requires.there label next c.in_ok-time.time c.event-departure.result c.alights.result (sym (rw c.arrival-arrival.ensures at c.in_ok-time.ensures))
+    arrival-live c.args.t.now.network st c.requires.valid c.args.train c.args.label c.requires.there label next c.in_ok-time.time c.event-departure.result c.alights.result (sym (rw c.arrival-arrival.ensures at c.in_ok-time.ensures.time))
     (rw (c.trains-trains.ensures.trains, c.graph.ensures.state, c.departure.ensures) at c.event-departure.ensures)
     (rw (c.trains-trains.ensures.trains, c.graph.ensures.state) at c.alights.ensures)
