@@ -31,11 +31,11 @@ use Rattle.commands.specs.Contract.{EndsAs}
 use Rattle.commands.specs.Failing.{FeedReadFailed, InputReadFailed, NothingFailed, WriteFailed}
 use Rattle.commands.specs.Seen.{FeedSeen, StreamSeen}
 use Rattle.commands.specs.Feeds.{network, tables_in, asked_in}
-use Rattle.commands.specs.Runs.{IsRefused, output_for, output_of}
+use Rattle.commands.specs.Runs.{IsRefused, Output}
 use Rattle.commands.specs.Statuses.{feed_fault, lines_fault, words_fault}
 use Rattle.commands.specs.declared.status.Fault.{Fault}
 use Rattle.commands.specs.declared.status.Fault.TheVariants as faults
-use Rattle.commands.proofs.Tables.{same-start, not-refused, output-is, replies-are, front-is, none-written, none-front}
+use Rattle.commands.proofs.Tables.{Writes, WritesNothing, same-start, not-refused, output-is, replies-are, front-is, none-written, none-front}
 
 -- a run that stops
 abbrev pub stops : Fault → Result (Unit {0}) Fault
@@ -56,9 +56,9 @@ abbrev pub still : Option (List ℕ) → Faults → StreamSeen
 still bytes faults = record { bytes = bytes; bytes_after = bytes; faults = faults; faults_after = faults }
 
 -- a run that read nothing from the input and wrote nothing to the output
-abbrev pub Untouched : {F S K : Type 0} → (budget : ℕ) (words : List (List ℕ)) (feed : FeedSeen) (left written : Option (List ℕ)) (reads writes : Faults) (before after : F) (input : S) (out : K) → Result (Unit {0}) Fault → Type 0
-Untouched budget words feed left written reads writes before after input out run =
-    EndsAs output_of budget words feed (still left reads) (still written writes) before after input input out out run
+abbrev pub Untouched : {F S K : Type 0} → (output : Asked → Output) (budget : ℕ) (words : List (List ℕ)) (feed : FeedSeen) (left written : Option (List ℕ)) (reads writes : Faults) (before after : F) (input : S) (out : K) → Result (Unit {0}) Fault → Type 0
+Untouched output budget words feed left written reads writes before after input out run =
+    EndsAs output budget words feed (still left reads) (still written writes) before after input input out out run
 
 pub usage_or_memory : (f : WordsFault) → (stops (words_fault f) ≡ stops faults.Usage) ⊎ (stops (words_fault f) ≡ stops faults.OutOfMemory)
 usage_or_memory words_faults.Usage = inl refl
@@ -76,28 +76,28 @@ words_not_write : (f : WordsFault) → ¬ (stops (words_fault f) ≡ stops fault
 words_not_write words_faults.Usage is = absurd cc
 words_not_write words_faults.OutOfMemory is = absurd cc
 
-not_read : {F S K : Type 0} {budget : ℕ} {words : List (List ℕ)} {feed : FeedSeen} {left written : Option (List ℕ)} {reads writes : Faults} {before : F} {input : S} {out : K} (f : WordsFault) → (f ≡ words_faults.Usage → asked_of words ≡ None) → feed.faults_after ≡ feed.faults
-    → Untouched budget words feed left written reads writes before before input out (stops (words_fault f))
-not_read {budget = budget} {left = left} {written = written} f usage same = record {
+not_read : {F S K : Type 0} {output : Asked → Output} (none : WritesNothing output) {budget : ℕ} {words : List (List ℕ)} {feed : FeedSeen} {left written : Option (List ℕ)} {reads writes : Faults} {before : F} {input : S} {out : K} (f : WordsFault) → (f ≡ words_faults.Usage → asked_of words ≡ None) → feed.faults_after ≡ feed.faults
+    → Untouched output budget words feed left written reads writes before before input out (stops (words_fault f))
+not_read {output = output} none {budget = budget} {left = left} {written = written} f usage same = record {
   ok = tt;
   ended = tt;
-  no_words = λ none. usage_or_memory f;
-  usage_untouched = λ none. (refl, refl, refl);
+  no_words = λ no. usage_or_memory f;
+  usage_untouched = λ no. (refl, refl, refl);
   refused = λ why r. inr (inl (is_memory f (λ is. none-some r.asked (sym (usage is) ∙ r.asked_is))));
   refused_untouched = λ why r. (refl, refl);
   fault = words_cause f _ _ _ _ _ (λ is. (usage is, refl, refl, refl));
   no_fault = λ not_read not_written. record { feed_reads = ap Some same; input_reads = refl; writes = refl };
-  stopped = λ is nw st names loads. ([], consumes_none left, none-written loads.asked nw names st written);
-  front = λ nw st names loads. none-front (words_not_write f) loads.asked nw names st budget left written;
+  stopped = λ is nw st names loads. ([], consumes_none left, none-written output none loads.asked nw names st written);
+  front = λ nw st names loads. none-front output none (words_not_write f) loads.asked nw names st budget left written;
   at_most = none_taken budget left;
   fewer = tt;
 }
 
 -- words that are not read touch nothing
-pub words-not-read : {F S K : Type 0} {budget : ℕ} {words : List (List ℕ)} {feed : FeedSeen} {left written : Option (List ℕ)} {reads writes : Faults} {before : F} {input : S} {out : K} (run : Result (Unit {0}) Fault) (f : WordsFault) → IsErrAnd run (λ e. e ≡ words_fault f)
-    → (f ≡ words_faults.Usage → asked_of words ≡ None) → feed.faults_after ≡ feed.faults → Untouched budget words feed left written reads writes before before input out run
-words-not-read {budget = budget} {words = words} {feed = feed} {left = left} {written = written} {reads = reads} {writes = writes} {before = before} {input = input} {out = out} run f is usage same =
-    subst (Untouched budget words feed left written reads writes before before input out) (is-err run (words_fault f) is) (not_read f usage same)
+pub words-not-read : {F S K : Type 0} {output : Asked → Output} → WritesNothing output → {budget : ℕ} {words : List (List ℕ)} {feed : FeedSeen} {left written : Option (List ℕ)} {reads writes : Faults} {before : F} {input : S} {out : K} (run : Result (Unit {0}) Fault) (f : WordsFault) → IsErrAnd run (λ e. e ≡ words_fault f)
+    → (f ≡ words_faults.Usage → asked_of words ≡ None) → feed.faults_after ≡ feed.faults → Untouched output budget words feed left written reads writes before before input out run
+words-not-read {output = output} none {budget = budget} {words = words} {feed = feed} {left = left} {written = written} {reads = reads} {writes = writes} {before = before} {input = input} {out = out} run f is usage same =
+    subst (Untouched output budget words feed left written reads writes before before input out) (is-err run (words_fault f) is) (not_read {output = output} none f usage same)
 
 module _ (words : List (List ℕ)) (feed : FeedSeen) (a : Asked) (asked : asked_of words ≡ Some a) where
   feed_cause : (f : FeedError) (usage one two failed read write long : Type 0) → one → two → ((told : Files) → feed.tables ≡ Some told → IsErrorOf f (asked_in told a)) → (f ≡ feeds.ReadFault → failed)
@@ -121,31 +121,31 @@ module _ (words : List (List ℕ)) (feed : FeedSeen) (a : Asked) (asked : asked_
   feed_not_write feeds.ReadFault is = absurd cc
   feed_not_write feeds.OutOfMemory is = absurd cc
 
-  not_loaded : {F S K : Type 0} {budget : ℕ} {left written : Option (List ℕ)} {reads writes : Faults} {before after : F} {input : S} {out : K} (f : FeedError) → ((told : Files) → feed.tables ≡ Some told → IsErrorOf f (asked_in told a))
-      → (f ≡ feeds.ReadFault → Some feed.faults_after ≡ counted feed.faults) → (¬ (f ≡ feeds.ReadFault) → feed.faults_after ≡ feed.faults) → Untouched budget words feed left written reads writes before after input out (stops (feed_fault f))
-  not_loaded {budget = budget} {left = left} {written = written} {reads = reads} {writes = writes} f gives failed answered =
+  not_loaded : {F S K : Type 0} {output : Asked → Output} (none : WritesNothing output) {budget : ℕ} {left written : Option (List ℕ)} {reads writes : Faults} {before after : F} {input : S} {out : K} (f : FeedError) → ((told : Files) → feed.tables ≡ Some told → IsErrorOf f (asked_in told a))
+      → (f ≡ feeds.ReadFault → Some feed.faults_after ≡ counted feed.faults) → (¬ (f ≡ feeds.ReadFault) → feed.faults_after ≡ feed.faults) → Untouched output budget words feed left written reads writes before after input out (stops (feed_fault f))
+  not_loaded {output = output} none {budget = budget} {left = left} {written = written} {reads = reads} {writes = writes} f gives failed answered =
       let one : f ≡ feeds.ReadFault → FeedReadFailed feed (still left reads) (still written writes) = λ is. record { feed_reads = failed is; input_reads = refl; writes = refl } in
       record {
         ok = tt;
         ended = tt;
-        no_words = λ none. absurd (none-some a (sym none ∙ asked));
-        usage_untouched = λ none. absurd (none-some a (sym none ∙ asked));
+        no_words = λ no. absurd (none-some a (sym no ∙ asked));
+        usage_untouched = λ no. absurd (none-some a (sym no ∙ asked));
         refused = λ why r. is_refused f (FeedReadFailed feed (still left reads) (still written writes)) why one gives r;
         refused_untouched = λ why r. (refl, refl);
         fault = feed_cause f _ _ _ _ _ _ _ refl refl gives one;
         no_fault = λ other not_written. record { feed_reads = ap Some (answered (not_failed f other)); input_reads = refl; writes = refl };
-        stopped = λ is nw st names loads. ([], consumes_none left, none-written loads.asked nw names st written);
-        front = λ nw st names loads. none-front (feed_not_write f) loads.asked nw names st budget left written;
+        stopped = λ is nw st names loads. ([], consumes_none left, none-written output none loads.asked nw names st written);
+        front = λ nw st names loads. none-front output none (feed_not_write f) loads.asked nw names st budget left written;
         at_most = none_taken budget left;
         fewer = tt;
       }
 
   -- where a feed is not loaded, nothing is read from the input or written to the output
-  pub feed-not-loaded : {F S K : Type 0} {budget : ℕ} {left written : Option (List ℕ)} {reads writes : Faults} {before after : F} {input : S} {out : K} (run : Result (Unit {0}) Fault) (f : FeedError) → IsErrAnd run (λ e. e ≡ feed_fault f)
+  pub feed-not-loaded : {F S K : Type 0} {output : Asked → Output} → WritesNothing output → {budget : ℕ} {left written : Option (List ℕ)} {reads writes : Faults} {before after : F} {input : S} {out : K} (run : Result (Unit {0}) Fault) (f : FeedError) → IsErrAnd run (λ e. e ≡ feed_fault f)
       → ((told : Files) → feed.tables ≡ Some told → IsErrorOf f (asked_in told a)) → (f ≡ feeds.ReadFault → Some feed.faults_after ≡ counted feed.faults) → (¬ (f ≡ feeds.ReadFault) → feed.faults_after ≡ feed.faults)
-      → Untouched budget words feed left written reads writes before after input out run
-  feed-not-loaded {budget = budget} {left = left} {written = written} {reads = reads} {writes = writes} {before = before} {after = after} {input = input} {out = out} run f is gives failed answered =
-      subst (Untouched budget words feed left written reads writes before after input out) (is-err run (feed_fault f) is) (not_loaded f gives failed answered)
+      → Untouched output budget words feed left written reads writes before after input out run
+  feed-not-loaded {output = output} none {budget = budget} {left = left} {written = written} {reads = reads} {writes = writes} {before = before} {after = after} {input = input} {out = out} run f is gives failed answered =
+      subst (Untouched output budget words feed left written reads writes before after input out) (is-err run (feed_fault f) is) (not_loaded {output = output} none f gives failed answered)
 
 -- what holds where the lines stop for a failed read, or since the input is too long, holds of a run
 -- that hands their fault on
@@ -188,52 +188,52 @@ not_stopped : {P : Type 0} → (Ok tt ≡ stops faults.ReadFault) ⊎ (Ok tt ≡
 not_stopped (inl is) = absurd cc
 not_stopped (inr is) = absurd cc
 
-module _ {F S K : Type 0} {budget : ℕ} {words : List (List ℕ)} {feed : FeedSeen} {input out : StreamSeen} {feed_old feed_new : F} {input_old input_new : S} {out_old out_new : K} {c : Command} {a : Asked} {loaded : Network} {st : State} {names : Names}
+module _ {F S K : Type 0} {budget : ℕ} {words : List (List ℕ)} {feed : FeedSeen} {input out : StreamSeen} {feed_old feed_new : F} {input_old input_new : S} {out_old out_new : K} {a : Asked} {loaded : Network} {st : State} {names : Names}
     (asked : asked_of words ≡ Some a) (held : (told : Files) → feed.tables ≡ Some told → asked_in told a ≡ Ok (st, names))
-    (same : (told : Files) (rows : Tables) → feed.tables ≡ Some told → tables_in told a ≡ Ok rows → IsSame (network rows a.opts) loaded) (command : a.command ≡ c) (loads : feed.faults_after ≡ feed.faults) where
+    (same : (told : Files) (rows : Tables) → feed.tables ≡ Some told → tables_in told a ≡ Ok rows → IsSame (network rows a.opts) loaded) {output : Asked → Output} {own : Output} (writes : Writes output a own) (loads : feed.faults_after ≡ feed.faults) where
   -- all lines are answered
-  pub all-answered : {Failed : Type 0} → ((bytes : List ℕ) → input.bytes ≡ Some bytes → AppendsAll ((output_for c).IsWhole loaded names st (lines_of true bytes)) out.bytes out.bytes_after) → IsAtEnd input.bytes_after
-      → AppendsTakenFront Failed ((output_for c).IsWhole loaded names st) ((output_for c).AreReplies loaded names st) budget input.bytes input.bytes_after out.bytes out.bytes_after
-      → Counts budget input out (Ok tt) → EndsAs output_of budget words feed input out feed_old feed_new input_old input_new out_old out_new (Ok tt)
+  pub all-answered : {Failed : Type 0} → ((bytes : List ℕ) → input.bytes ≡ Some bytes → AppendsAll (own.IsWhole loaded names st (lines_of true bytes)) out.bytes out.bytes_after) → IsAtEnd input.bytes_after
+      → AppendsTakenFront Failed (own.IsWhole loaded names st) (own.AreReplies loaded names st) budget input.bytes input.bytes_after out.bytes out.bytes_after
+      → Counts budget input out (Ok tt) → EndsAs output budget words feed input out feed_old feed_new input_old input_new out_old out_new (Ok tt)
   all-answered whole end front counts = record {
-    ok = λ nw first named bytes asks left. output-is (same-start words feed.tables a loaded st names asked held same nw first named asks) command (lines_of true bytes) out.bytes out.bytes_after (whole bytes left);
+    ok = λ nw first named bytes asks left. output-is (same-start words feed.tables a loaded st names asked held same nw first named asks) writes (lines_of true bytes) out.bytes out.bytes_after (whole bytes left);
     ended = end;
-    no_words = λ none. absurd (none-some a (sym none ∙ asked));
-    usage_untouched = λ none. absurd (none-some a (sym none ∙ asked));
+    no_words = λ no. absurd (none-some a (sym no ∙ asked));
+    usage_untouched = λ no. absurd (none-some a (sym no ∙ asked));
     refused = λ why r. absurd (not-refused words feed.tables a st names asked held why r);
     refused_untouched = λ why r. absurd (not-refused words feed.tables a st names asked held why r);
     fault = tt;
     no_fault = λ not_read not_written. record { feed_reads = ap Some loads; input_reads = counts.reads; writes = counts.writes };
     stopped = λ is. not_stopped is;
-    front = λ nw first named asks. front-is (same-start words feed.tables a loaded st names asked held same nw first named asks) command budget input.bytes input.bytes_after out.bytes out.bytes_after (taken_if (λ is. absurd (not-error tt faults.WriteFault is)) front);
+    front = λ nw first named asks. front-is (same-start words feed.tables a loaded st names asked held same nw first named asks) writes budget input.bytes input.bytes_after out.bytes out.bytes_after (taken_if (λ is. absurd (not-error tt faults.WriteFault is)) front);
     at_most = counts.at_most;
     fewer = counts.fewer;
   }
 
   stopped_early : (f : LinesFault)
-      → WhereLinesStop ((bytes : List ℕ) × Consumes input.bytes input.bytes_after bytes × AppendsAll ((output_for c).AreReplies loaded names st (lines_of false bytes)) out.bytes out.bytes_after) f
-      → AppendsTakenFront (IsErrOf {T = Unit {0}} (Err f) lines.WriteFault) ((output_for c).IsWhole loaded names st) ((output_for c).AreReplies loaded names st) budget input.bytes input.bytes_after out.bytes out.bytes_after
-      → Counts budget input out (Err f) → EndsAs output_of budget words feed input out feed_old feed_new input_old input_new out_old out_new (stops (lines_fault f))
+      → WhereLinesStop ((bytes : List ℕ) × Consumes input.bytes input.bytes_after bytes × AppendsAll (own.AreReplies loaded names st (lines_of false bytes)) out.bytes out.bytes_after) f
+      → AppendsTakenFront (IsErrOf {T = Unit {0}} (Err f) lines.WriteFault) (own.IsWhole loaded names st) (own.AreReplies loaded names st) budget input.bytes input.bytes_after out.bytes out.bytes_after
+      → Counts budget input out (Err f) → EndsAs output budget words feed input out feed_old feed_new input_old input_new out_old out_new (stops (lines_fault f))
   stopped_early f stopped front counts = record {
     ok = tt;
     ended = tt;
-    no_words = λ none. absurd (none-some a (sym none ∙ asked));
-    usage_untouched = λ none. absurd (none-some a (sym none ∙ asked));
+    no_words = λ no. absurd (none-some a (sym no ∙ asked));
+    usage_untouched = λ no. absurd (none-some a (sym no ∙ asked));
     refused = λ why r. absurd (not-refused words feed.tables a st names asked held why r);
     refused_untouched = λ why r. absurd (not-refused words feed.tables a st names asked held why r);
     fault = cause_of_lines budget feed input out loads _ _ _ f counts;
     no_fault = none_of_lines budget feed input out loads f counts;
     stopped = λ is nw first named asks.
         let had = stopped_lines (stops (lines_fault f)) _ f refl stopped is in
-        (had.0, had.1, replies-are (same-start words feed.tables a loaded st names asked held same nw first named asks) command (lines_of false had.0) out.bytes out.bytes_after had.2);
-    front = λ nw first named asks. front-is (same-start words feed.tables a loaded st names asked held same nw first named asks) command budget input.bytes input.bytes_after out.bytes out.bytes_after (taken_if (λ is. ap Err (write_of_lines f is)) front);
+        (had.0, had.1, replies-are (same-start words feed.tables a loaded st names asked held same nw first named asks) writes (lines_of false had.0) out.bytes out.bytes_after had.2);
+    front = λ nw first named asks. front-is (same-start words feed.tables a loaded st names asked held same nw first named asks) writes budget input.bytes input.bytes_after out.bytes out.bytes_after (taken_if (λ is. ap Err (write_of_lines f is)) front);
     at_most = counts.at_most;
     fewer = tt;
   }
 
   -- answering stops
   pub lines-stopped : (run : Result (Unit {0}) Fault) (f : LinesFault) → IsErrAnd run (λ e. e ≡ lines_fault f)
-      → WhereLinesStop ((bytes : List ℕ) × Consumes input.bytes input.bytes_after bytes × AppendsAll ((output_for c).AreReplies loaded names st (lines_of false bytes)) out.bytes out.bytes_after) f
-      → AppendsTakenFront (IsErrOf {T = Unit {0}} (Err f) lines.WriteFault) ((output_for c).IsWhole loaded names st) ((output_for c).AreReplies loaded names st) budget input.bytes input.bytes_after out.bytes out.bytes_after
-      → Counts budget input out (Err f) → EndsAs output_of budget words feed input out feed_old feed_new input_old input_new out_old out_new run
-  lines-stopped run f is stopped front counts = subst (EndsAs output_of budget words feed input out feed_old feed_new input_old input_new out_old out_new) (is-err run (lines_fault f) is) (stopped_early f stopped front counts)
+      → WhereLinesStop ((bytes : List ℕ) × Consumes input.bytes input.bytes_after bytes × AppendsAll (own.AreReplies loaded names st (lines_of false bytes)) out.bytes out.bytes_after) f
+      → AppendsTakenFront (IsErrOf {T = Unit {0}} (Err f) lines.WriteFault) (own.IsWhole loaded names st) (own.AreReplies loaded names st) budget input.bytes input.bytes_after out.bytes out.bytes_after
+      → Counts budget input out (Err f) → EndsAs output budget words feed input out feed_old feed_new input_old input_new out_old out_new run
+  lines-stopped run f is stopped front counts = subst (EndsAs output budget words feed input out feed_old feed_new input_old input_new out_old out_new) (is-err run (lines_fault f) is) (stopped_early f stopped front counts)

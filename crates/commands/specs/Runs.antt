@@ -1,5 +1,5 @@
 -- What a run does, by its words, the tables of its feed, and the bytes of its input and its output.
-use Rattle.std.specs.Prelude.{ℕ, ◌≡◌, ◌<◌, ◌≤◌, List, [], Some, Ok, Err, true, false, length}
+use Rattle.std.specs.Prelude.{ℕ, ◌≡◌, ◌⊎◌, ◌<◌, ◌≤◌, List, [], Some, Ok, Err, true, false, length}
 use Rattle.std.specs.declared.option.Option.{Option}
 use Rattle.std.specs.Io.KnownBytes.{Consumes}
 use Rattle.mt_base.specs.declared.tables.Tables.{Tables}
@@ -11,7 +11,9 @@ use Rattle.command_words.specs.Words.{Asked, asked_of}
 use Rattle.gtfs_tables.specs.declared.refusals.FeedRefusal.{FeedRefusal}
 use Rattle.gtfs_tables.specs.Feeds.{Files}
 use Rattle.information_service.specs.Fronts.{AppendsAll, AppendsTakenFront}
+use Rattle.information_service.specs.Answering.{IsBeginning, LineOutput, IsWhole as IsWholeOutput}
 use Rattle.information_service.specs.Output.{AreReplies, IsOutput}
+use Rattle.information_service.specs.ServiceState.{ServiceState}
 use Rattle.mt_io.specs.Lines.{Line, lines_of}
 use Rattle.schedule_build.specs.Directory.{Names}
 use Rattle.query_crew.specs.Served.{IsServed}
@@ -64,6 +66,19 @@ times_output = record {
 -- lines of an input the replies are those to their whole windows
 abbrev pub served_output : Output
 served_output = record { IsWhole = IsServed; AreReplies = AreWholeWindowsServed }
+
+-- a service that has accepted no message
+abbrev pub first_service : Network → Names → State → ServiceState
+first_service nw names st = record { network = nw; state = st; count = 0; names = names }
+
+-- what a command writes that answers line by line, and keeps this at first. Where nothing was read
+-- it may have written nothing
+abbrev pub line_output : {C : Type 0} → LineOutput C → C → Output
+line_output o kept = record {
+  IsWhole = λ nw names st. IsWholeOutput o (first_service nw names st) kept;
+  AreReplies = λ nw names st lines bytes. IsBeginning o (first_service nw names st) kept lines bytes
+      ⊎ ((lines ≡ []) × (bytes ≡ []));
+}
 
 -- what a command writes
 abbrev pub output_for : Command → Output

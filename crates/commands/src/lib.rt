@@ -10,5 +10,5 @@ mod status;
 mod telling;
 
 pub use feed::{LoadedTimetable, load_timetable};
-pub use run::{run_times, traind, traind_within};
+pub use run::{run_lines, run_times, traind, traind_within};
 pub use status::Status;

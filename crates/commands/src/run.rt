@@ -5,14 +5,14 @@ ghost use Rattle.command_words.specs.GenWords.{is_gen};
 ghost use Rattle.commands.specs.Contract.{EndsAs, MeetsContract, byte_budget};
 ghost use Rattle.commands.specs.Seen.{feed_seen, stream_seen};
 ghost use Rattle.commands.specs.GenContract.{MeetsGenContract};
-ghost use Rattle.commands.specs.Runs.{AskFor, output_of};
+ghost use Rattle.commands.specs.Runs.{AskFor, line_output, output_of};
 
 use crate::feed::{load_service, load_timetable};
 use crate::generated::run_gen;
 use crate::status::{Fault, Status};
 use crate::telling::tell;
 use command_words::{Command, is_gen, read_words};
-use information_service::write_output;
+use information_service::{AnswerLines, answer_input, write_output};
 use mt_io::{Feed, Gate, Sink, Source};
 use snapshot_board::NewHistory;
 use std::alloc::Global;
@@ -92,6 +92,61 @@ fn serve_words<R: Threads + Wait + Sync, F: Feed, S: Source, K: Sink, G: Gate + 
         budget,
     )?;
     Ok(())
+}
+
+/// Reads the words of a command that answers line by line, loads the feed that they ask for, and
+/// answers the input. `kept` is what the command keeps beside the timetable and its names.
+fn answer_words<T: AnswerLines<C>, C, F: Feed, S: Source, K: Sink>(
+    alloc: Global,
+    words: &[String],
+    kept: &mut C,
+    feed: &mut F,
+    input: &mut S,
+    out: &mut K,
+    budget: u64,
+) -> Result<(), Fault>
+    ensures run { EndsAs (λ asked. line_output T.output kept.old) budget
+        (map string_bytes words.now)
+        (feed_seen F.tables F.faults feed.old feed.new)
+        (stream_seen S.left S.faults input.old input.new)
+        (stream_seen K.written K.faults out.old out.new)
+        feed.old feed.new input.old input.new out.old out.new result }
+{
+    T::networks_are_written_alike();
+    let asked = match read_words(alloc, words) {
+        Ok(asked) => asked,
+        Err(fault) => return Err(Fault::from(fault)),
+    };
+    let mut service = load_service(alloc, &asked, feed)?;
+    answer_input::<T, C, S, K>(alloc, &mut service, kept, input, out, budget)?;
+    Ok(())
+}
+
+/// All that the program does for a command that answers line by line, by the words and options of
+/// `times`: it reads the tables of the feed, and answers each line of the input at once, as `T`
+/// says, with what stands before the first line and behind the last. It stops where `budget` bytes
+/// of the input were taken and no end was read. It waits for nobody and returns.
+pub fn run_lines<T: AnswerLines<C>, C, F: Feed, S: Source, K: Sink, E: Sink>(
+    alloc: Global,
+    words: &[String],
+    kept: &mut C,
+    feed: &mut F,
+    input: &mut S,
+    out: &mut K,
+    err: &mut E,
+    budget: u64,
+) -> Status
+    requires budget { 1 ≤ budget }
+    ensures contract { MeetsContract (λ asked. line_output T.output kept.old) budget
+        (map string_bytes words.now)
+        (feed_seen F.tables F.faults feed.old feed.new)
+        (stream_seen S.left S.faults input.old input.new)
+        (stream_seen K.written K.faults out.old out.new)
+        (stream_seen E.written E.faults err.old err.new)
+        feed.old feed.new input.old input.new out.old out.new result }
+{
+    let run = answer_words::<T, C, F, S, K>(alloc, words, kept, feed, input, out, budget);
+    tell(alloc, run, err)
 }
 
 /// All that the program does for `times`. It reads the tables of the feed, answers each line of the

@@ -1,10 +1,10 @@
 -- How answering ends: what was taken, and what the lines leave.
-use Rattle.information_service.proofs.Words.{◌≡◌, ◌∙◌, ℕ, List, [], ◌++◌, arith, Option, Some, None, Result, Ok, Err, sym, ap, refl, subst, true, false, Appends-nil, append-nil, none-some, same_Some, Consumes, IsAtEnd, Network, State, table, Line, lines_of, Reader, consumes_none, Names, WhereLinesStop, AreAnswered, AppendsReplies, IsOutput, ServiceState}
+use Rattle.information_service.proofs.Words.{◌≡◌, ◌∙◌, ℕ, List, [], ◌++◌, arith, Option, Some, None, Result, Ok, Err, sym, ap, refl, subst, true, append-nil, none-some, same_Some, Consumes, IsAtEnd, Line, Reader, consumes_none, WhereLinesStop}
 use Rattle.std.specs.Prelude.{IfErr, OnOk, IsErrOf}
 use Rattle.std.specs.Result.{IsErrAnd}
-use Rattle.information_service.specs.Causes.{TookAtMost, TookFewer}
+use Rattle.information_service.specs.Causes.{HasCounts, TookAll, TookAtMost, TookFewer, reads_failed, writes_failed}
+use Rattle.mt_io.specs.Causes.{Faults}
 use Rattle.information_service.specs.Fronts.{IsTaken}
-use Rattle.mt_io.specs.Reader.{IsDone}
 use Rattle.mt_io.proofs.Runs.{ends}
 use Rattle.information_service.specs.declared.fault.LinesFault.{LinesFault}
 use Rattle.information_service.specs.declared.fault.LinesFault.TheVariants.{ReadFault, WriteFault, OutOfMemory, TooLong}
@@ -16,21 +16,6 @@ all_taken (Some xs) None bytes all source end is = absurd source
 all_taken (Some xs) (Some ys) bytes all source end is =
     sym (append-nil all) ∙ ap (λ (r : List ℕ). all ++ r) (sym end) ∙ sym source ∙ same_Some xs bytes is
 
--- at the end of the input the replies and the table are a whole output of the bytes that were taken
-pub whole_of_taken : {first now : ServiceState} {r : Reader} {left left_now written between : Option (List ℕ)} {all : List ℕ} {lines : List Line}
-    → IsDone r → (a : AreAnswered first now r left left_now written between all lines)
-    → IsOutput first.network first.names first.state (lines_of true all) (a.output.shown ++ table now.network now.names now.state)
-whole_of_taken {r = r} {all = all} {lines = lines} done a =
-    rw (ends all lines r a.taken.lines_so_far done)
-    (record { shown = a.output.shown; replies = a.output.is; all = ap (λ (t : ServiceState). a.output.shown ++ table t.network t.names t.state) a.service })
-
--- and so of all its bytes
-pub whole_output : {first now : ServiceState} {r : Reader} {left left_now written between : Option (List ℕ)} {all : List ℕ} {lines : List Line} (bytes : List ℕ)
-    → IsDone r → (a : AreAnswered first now r left left_now written between all lines) → left ≡ Some bytes
-    → IsOutput first.network first.names first.state (lines_of true bytes) (a.output.shown ++ table now.network now.names now.state)
-whole_output {first = first} {now = now} {left = left} {left_now = left_now} {all = all} bytes done a told =
-    subst (λ (bs : List ℕ). IsOutput first.network first.names first.state (lines_of true bs) (a.output.shown ++ table now.network now.names now.state)) (all_taken left left_now bytes all a.taken.source (a.taken.end done.ended) told) (whole_of_taken done a)
-
 -- no more bytes were taken than may be, and fewer where the end was read
 pub at_most_taken : {r : Reader} {left left_now : Option (List ℕ)} {bytes : List ℕ} {lines : List Line} (budget : ℕ) → r.budget ≡ budget → IsTaken r left left_now bytes lines → TookAtMost budget left left_now
 at_most_taken {bytes = bytes} budget is t = (bytes, t.source, omega (arith, is, t.within.taken, t.lines_so_far.taken))
@@ -40,12 +25,6 @@ fewer_taken {bytes = bytes} budget is t ended = (bytes, t.source, omega (arith, 
 
 pub none_taken : (budget : ℕ) (left : Option (List ℕ)) → TookAtMost budget left left
 none_taken budget left = ([], consumes_none left, omega arith)
-
--- before the first line nothing was taken, and nothing is written
-pub nothing_yet : (nw : Network) (names : Names) (st : State) (left written : Option (List ℕ))
-    → (bytes : List ℕ) × Consumes left left bytes × AppendsReplies nw names st (lines_of false bytes) written written
-unfolding lines_of
-nothing_yet nw names st left written = ([], consumes_none left, record { shown = []; is = refl; written = Appends-nil written })
 
 -- what holds of every error
 pub each_fault : {E : Type 0} (run : Result (Unit {0}) E) (P : E → Type 0) → ((f : E) → P f) → IfErr run P
@@ -93,3 +72,19 @@ where_also T U ReadFault h t = h t
 where_also T U WriteFault h t = tt
 where_also T U OutOfMemory h t = tt
 where_also T U TooLong h t = h t
+
+-- what a run counts that hands a fault on, by what the step counts in which that came. No write had failed before it
+pub counts_of : {budget : ℕ} {left left_now : Option (List ℕ)} {reads reads_now first writes writes_now : Faults} {Full : Type 0} (run : Result (Unit {0}) LinesFault) (f : LinesFault) → IsErrAnd run (λ e. e ≡ f) → writes ≡ first → Some reads_now ≡ reads_failed {T = Unit {0}} (Err f) reads
+    → Some writes_now ≡ writes_failed {T = Unit {0}} (Err f) writes → (f ≡ WriteFault → Full) → TookAtMost budget left left_now → (f ≡ ReadFault → TookFewer budget left left_now) → (f ≡ TooLong → TookAll budget left left_now)
+    → HasCounts budget run left left_now reads reads_now first writes_now Full
+counts_of (Ok u) f is same read write full at_most early long = absurd is
+counts_of {budget} {left} {left_now} {reads} {reads_now} {first} {writes} {writes_now} {Full} (Err e) f is same read write full at_most early long =
+    subst (λ (x : LinesFault). HasCounts {T = Unit {0}} budget (Err x) left left_now reads reads_now first writes_now Full) (sym is) (record {
+      reads = read;
+      writes = subst (λ (n : Faults). Some writes_now ≡ writes_failed {T = Unit {0}} (Err f) n) same write;
+      full = λ was. full (same_err (Err f) f _ refl was);
+      at_most = at_most;
+      fewer = tt;
+      read_early = λ was. early (same_err (Err f) f _ refl was);
+      too_long = λ was. long (same_err (Err f) f _ refl was);
+    })

@@ -1,6 +1,6 @@
 -- Fronts of what is to be written, one after the other.
-use Rattle.information_service.proofs.Words.{◌≡◌, ◌∙◌, ◌+◌, ◌≤◌, ℕ, zero, suc, List, [], ◌++◌, Option, sym, subst, ap, refl, append_assoc, arith, true, inr, Appends-nil, Appends-trans, append-nil, Appends, Network, State, header, rows_from, rows_of_train, Line, lines_of, Reader, Names, AreAnswered, AppendsFirstReplies, AppendsFront, Begun, ServiceState}
-use Rattle.std.proofs.Common.{◌-◌, Bool, inl, false, take, drop}
+use Rattle.information_service.proofs.Words.{◌≡◌, ◌∙◌, ◌+◌, ◌≤◌, ℕ, zero, suc, List, [], ◌++◌, Option, sym, subst, ap, refl, append_assoc, arith, true, inr, Appends-nil, Appends-trans, append-nil, Appends, Network, State, header, rows_from, rows_of_train, Line, lines_of, Reader, Names, AppendsFront}
+use Rattle.std.proofs.Common.{◌-◌, Bool, inl, take, drop}
 use Rattle.std.proofs.lemmas.List.{take-append-drop}
 use Rattle.std.specs.Prelude.{Result, Ok, Err, OnOk, IfErr, IsErrOf}
 use Rattle.std.proofs.lemmas.List.{length-append}
@@ -10,10 +10,8 @@ use Rattle.information_service.specs.declared.fault.LinesFault.TheVariants.{Writ
 use Rattle.information_service.proofs.Ends.{same_err, ok_not_err}
 use Rattle.mt_io.specs.Causes.{AppendsPart}
 use Rattle.mt_io.specs.Reader.{ahead}
-use Rattle.std.proofs.lemmas.Bool.{cases_Bool}
 use Rattle.mt_io.specs.Runs.{HasAnswered}
-use Rattle.mt_io.proofs.Gives.{open_ended}
-use Rattle.information_service.specs.Fronts.{AppendsFirst, AppendsOutputFront, AppendsTakenFront, EndWasRead, IsTaken}
+use Rattle.information_service.specs.Fronts.{AppendsAll, AppendsFirst, AppendsTakenFront, EndWasRead, IsTaken}
 
 pub front_none : {Failed : Type 0} → (Failed → ⊥) → (a : Option (List ℕ)) (bytes : List ℕ) → AppendsFront Failed a a bytes
 front_none no_fault a bytes = record { front = []; rest = bytes; written = Appends-nil a; all = refl; not_all = λ is. absurd (no_fault is) }
@@ -113,7 +111,7 @@ pub end_was_read : {r : Reader} {left left_now : Option (List ℕ)} {bytes : Lis
 end_was_read budget is t ended = record { left = t.end ended; fewer = omega (arith, is, t.within.ended ended, t.lines_so_far.taken) }
 
 -- a front of the replies to the first of some lines is one of more lines
-first_of : {Failed : Type 0} {Are : List Line → List ℕ → Type 0} {lines : List Line} {old new : Option (List ℕ)} (all more : List Line) → all ≡ lines ++ more → AppendsFirst Failed Are lines old new → AppendsFirst Failed Are all old new
+pub first_of : {Failed : Type 0} {Are : List Line → List ℕ → Type 0} {lines : List Line} {old new : Option (List ℕ)} (all more : List Line) → all ≡ lines ++ more → AppendsFirst Failed Are lines old new → AppendsFirst Failed Are all old new
 first_of all more is f = record {
   first = f.first;
   later = f.later ++ more;
@@ -123,29 +121,20 @@ first_of all more is f = record {
   front = f.front;
 }
 
--- what was written of the replies to the lines that were taken is a front of an output
-pub output_front : {Failed : Type 0} {first : ServiceState} {r : Reader} {left left_now written written_now : Option (List ℕ)} {taken : List ℕ} {lines : List Line} (budget : ℕ) → r.budget ≡ budget
-    → Begun Failed first r left left_now written written_now taken lines → AppendsOutputFront Failed first.network first.names first.state budget left left_now written written_now
-output_front {first = first} {r = r} {left = left} {left_now = left_now} {taken = taken} {lines = lines} budget is b = elim (cases_Bool r.ended) [
-  | inl was ↦
-      let more = first_lines r true taken lines (λ is. refl) b.taken.lines_so_far in
-      record { bytes = taken; took = b.taken.source; front = inr (end_was_read budget is b.taken was, inl (first_of (lines_of true taken) more.0 more.1 b.output)) }
-  | inr not_yet ↦
-      let more = first_lines r false taken lines (λ is. open_ended r.ended not_yet is) b.taken.lines_so_far in
-      record { bytes = taken; took = b.taken.source; front = inl (first_of (lines_of false taken) more.0 more.1 b.output) }
-]
+-- what holds of these bytes holds of those that were written
+pub all_as : {P Q : List ℕ → Type 0} {old new : Option (List ℕ)} → ((bytes : List ℕ) → P bytes → Q bytes) → AppendsAll P old new → AppendsAll Q old new
+all_as also a = record { shown = a.shown; is = also a.shown a.is; written = a.written }
 
--- the replies to the lines that were answered, and to none of those behind them
-pub first_replies : {Failed : Type 0} {first now : ServiceState} {r : Reader} {left left_now written written_now : Option (List ℕ)} {bytes : List ℕ} {lines : List Line} → (Failed → ⊥) → (later : List Line)
-    → AreAnswered first now r left left_now written written_now bytes lines → AppendsFirstReplies Failed first.network first.names first.state (lines ++ later) written written_now
-first_replies {written = written} {written_now = written_now} {lines = lines} no_fault later a =
-    record { first = lines; later = later; shown = a.output.shown; split = refl; is = a.output.is; front = front_all no_fault written written_now a.output.shown a.output.written }
+first_as : {Failed : Type 0} {Are Bre : List Line → List ℕ → Type 0} {lines : List Line} {old new : Option (List ℕ)} → ((ls : List Line) (bytes : List ℕ) → Are ls bytes → Bre ls bytes) → AppendsFirst Failed Are lines old new → AppendsFirst Failed Bre lines old new
+first_as also f = record { first = f.first; later = f.later; shown = f.shown; split = f.split; is = also f.first f.shown f.is; front = f.front }
 
--- lines that were answered have begun
-pub begun_by : {Failed : Type 0} {first now : ServiceState} {r : Reader} {left left_now written written_now : Option (List ℕ)} {bytes : List ℕ} {lines : List Line} → (Failed → ⊥)
-    → AreAnswered first now r left left_now written written_now bytes lines → Begun Failed first r left left_now written written_now bytes lines
-begun_by {Failed = Failed} {first = first} {written = written} {written_now = written_now} {lines = lines} no_fault a =
-    record {
-      taken = a.taken;
-      output = subst (λ (ls : List Line). AppendsFirstReplies Failed first.network first.names first.state ls written written_now) (append-nil lines) (first_replies no_fault [] a);
-    }
+pub taken_as : {Failed : Type 0} {IsAll IsOther Are Bre : List Line → List ℕ → Type 0} {budget : ℕ} {left left_now written written_now : Option (List ℕ)} → ((ls : List Line) (bytes : List ℕ) → IsAll ls bytes → IsOther ls bytes)
+    → ((ls : List Line) (bytes : List ℕ) → Are ls bytes → Bre ls bytes) → AppendsTakenFront Failed IsAll Are budget left left_now written written_now → AppendsTakenFront Failed IsOther Bre budget left left_now written written_now
+taken_as whole also t = record {
+  bytes = t.bytes;
+  took = t.took;
+  front = elim t.front [
+    | inl first ↦ inl (first_as also first)
+    | inr read ↦ inr (read.0, elim read.1 [ inl first ↦ inl (first_as also first) | inr all ↦ inr (all.0, whole (lines_of true t.bytes) all.0 all.1, all.2) ])
+  ];
+}

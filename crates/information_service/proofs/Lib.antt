@@ -1,7 +1,11 @@
 pub mod Words
+pub mod Answered
 pub mod Ends
 pub mod Fronts
 pub mod InStep
 pub mod Networks
 pub mod OneMore
 pub mod ShortLines
+pub mod TimesAlike
+pub mod TimesReplies
+pub mod WrittenAlike

@@ -33,7 +33,7 @@ rank-same : (a b : Network) → IsSame a b → (st : State) (m : Message) → ag
 rank-same a b h st m = grind (arith, h.opts, transfer-same a b h)
 
 -- the same answers to messages
-refusal-same : (a b : Network) → IsSame a b → (st : State) (m : Message) → refusal b st m ≡ refusal a st m
+pub refusal-same : (a b : Network) → IsSame a b → (st : State) (m : Message) → refusal b st m ≡ refusal a st m
 unfolding refusal
 refusal-same a b h st m = grind (arith, h.stop, h.change, rank-same a b h)
 
@@ -102,7 +102,7 @@ unfolding rows_from
 rows-same a b h names st train zero = refl
 rows-same a b h names st train (suc count) = grind (arith, times-same a b h st, rows-same a b h names st (train + 1) count)
 
-table-same : (a b : Network) → IsSame a b → (names : Names) (st : State) → table b names st ≡ table a names st
+pub table-same : (a b : Network) → IsSame a b → (names : Names) (st : State) → table b names st ≡ table a names st
 unfolding table
 table-same a b h names st = rw (rows-same a b h)
 

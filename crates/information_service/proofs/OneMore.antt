@@ -1,5 +1,5 @@
--- One more line: the state of the service, the replies, and what was taken from the input.
-use Rattle.information_service.proofs.Words.{◌≡◌, ◌≤◌, ℕ, ◌+◌, List, [], ◌∷◌, ◌++◌, is_none, true, false, Option, Some, None, Result, Ok, Err, refl, sym, ◌∙◌, ap, subst, length, arith, append_assoc, inl, inr, Appends-nil, Appends-trans, cases_Bool, append-nil, Appends, IsAtEnd, Message, Refusal, Network, State, accepted_message, refusal, Reply, text_of_reply, Wire, BadLine, resolved, Line, Reader, GivesNext, next_lines, consumes_none, Names, AreAnswered, AppendsFirstReplies, AppendsFront, Begun, said_by, messages_of, names_with, by_names, reply_to_message, IsReply, IsReplyTo, IsTextAfter, AreReplies, ServiceState, after_line}
+-- One more line: the state of the service, the reply, and what was taken from the input.
+use Rattle.information_service.proofs.Words.{◌≡◌, ◌≤◌, ℕ, ◌+◌, List, [], ◌∷◌, ◌++◌, is_none, true, false, Option, Some, None, Result, Ok, Err, refl, sym, ◌∙◌, ap, subst, length, arith, inl, inr, cases_Bool, IsAtEnd, Message, Refusal, Network, State, accepted_message, refusal, Reply, text_of_reply, Wire, BadLine, resolved, Line, Reader, GivesNext, Names, said_by, messages_of, names_with, by_names, reply_to_message, IsReply, IsReplyTo, IsTextAfter, ServiceState, after_line}
 use Rattle.std.proofs.Common.{cond}
 use Rattle.std.proofs.lemmas.List.Sums.{fold-append}
 use Rattle.std.proofs.lemmas.List.Elements.{filter_map-append}
@@ -9,14 +9,11 @@ use Rattle.delay_model.proofs.WindowLemmas.{beginning, progress-all}
 use Rattle.message_reader.specs.declared.wire.Line.{Line as Spoken}
 use Rattle.message_reader.specs.declared.wire.Line.TheVariants.{Message as Says, Query as Asks, Flush}
 use Rattle.message_reader.specs.Lines.{message_in}
-use Rattle.mt_io.specs.Answers.{LeavesNext}
-use Rattle.mt_io.specs.declared.lines.Next.{Next}
 use Rattle.mt_io.specs.Runs.{fresh}
 use Rattle.mt_io.proofs.Gives.{consumes_more, open_ended}
-use Rattle.mt_io.proofs.Runs.{begins, goes_on}
+use Rattle.mt_io.proofs.Runs.{goes_on}
 use Rattle.mt_io.specs.Reader.{IsWithinBudget}
 use Rattle.information_service.specs.Fronts.{IsTaken}
-use Rattle.information_service.proofs.Fronts.{front_after}
 use Rattle.information_service.specs.Output.{reply_by_refusal}
 use Rattle.information_service.specs.ServiceState.{after_said, after_message, after_answer, service_after}
 
@@ -60,20 +57,6 @@ line-after nw names st lines x =
     ∙ ap (standing nw) (sym (fold-append next start (messages_of lines) (messages_of (x ∷ []))))
     ∙ ap (λ (ws : List Wire). standing nw (fold next start ws)) (sym (filter_map-append (λ (y : Line). message_in (said_by y)) lines (x ∷ [])))
     ∙ sym (lines-leave nw names st (lines ++ x ∷ []))
-
--- one more reply
-replies-more : (nw : Network) (names : Names) (st : State) (before lines : List Line) (x : Line) (bytes text : List ℕ)
-    → AreReplies nw names st before lines bytes → IsTextAfter nw names st (before ++ lines) x text → AreReplies nw names st before (lines ++ x ∷ []) (bytes ++ text)
-replies-more nw names st before [] x bytes text none one =
-    (text, [], subst (λ (b : List Line). IsTextAfter nw names st b x text) (append-nil before) one, refl, ap (λ (b : List ℕ). b ++ text) none ∙ sym (append-nil text))
-replies-more nw names st before (y ∷ ys) x bytes text all one =
-    let last = subst (λ (b : List Line). IsTextAfter nw names st b x text) (sym (append_assoc before (y ∷ []) ys)) one in (
-      all.0,
-      all.1 ++ text,
-      all.2,
-      replies-more nw names st (before ++ y ∷ []) ys x all.1 text all.3 last,
-      ap (λ (b : List ℕ). b ++ text) all.4 ∙ append_assoc all.0 all.1 text,
-    )
 
 -- the reply to a line that adds a name has no name in it
 answer-text : (t : ServiceState) (line : ℕ) (w : Wire) (m : Message) (o : Option Refusal) → text_of_reply (after_answer t w m o).names (reply_by_refusal t.network t.names t.state t.count line w m o) ≡ text_of_reply t.names (reply_by_refusal t.network t.names t.state t.count line w m o)
@@ -123,46 +106,6 @@ taken-more {old = old} {new = new} {left = left} {left_old = left_old} {left_new
 pub within_new : (budget : ℕ) → IsWithinBudget (fresh budget)
 within_new budget = record { taken = omega arith; ended = λ is. open_ended false refl is }
 
--- before the first line
-pub nothing_answered : (t : ServiceState) (budget : ℕ) (r : Reader) (left written : Option (List ℕ)) → r ≡ fresh budget → t.count ≡ 0 → AreAnswered t t r left left written written [] []
-nothing_answered t budget r left written new none =
-    rw new (record {
-      taken = record { source = consumes_none left; lines_so_far = begins budget; end = λ is. open_ended false refl is; within = within_new budget };
-      output = record { shown = []; is = refl; written = Appends-nil written };
-      service = ap (λ (n : ℕ). record { network = t.network; state = t.state; count = n; names = t.names }) none;
-    })
-
--- a call that answers no line, and how it leaves the reader
-pub none_more : {first now : ServiceState} {old new : Reader} {left left_old left_new written written_now : Option (List ℕ)} {bytes : List ℕ} {lines : List Line} (n m : Next) → n ≡ m → next_lines m ≡ []
-    → AreAnswered first now old left left_old written written_now bytes lines → (old.ended ≡ true → left_new ≡ left_old) → GivesNext old new left_old left_new (next_lines n) × LeavesNext n old new
-    → (all : List ℕ) × AreAnswered first now new left left_new written written_now all lines × LeavesNext m old new
-none_more {old = old} {new = new} {left = left} {left_old = left_old} {left_new = left_new} {lines = lines} n m is none a same gives =
-    let next = taken-more a.taken same (subst (λ (ls : List Line). GivesNext old new left_old left_new ls) (ap next_lines is ∙ none) gives.0) in (
-      next.0,
-      record { taken = subst (IsTaken new left left_new next.0) (append-nil lines) next.1; output = a.output; service = a.service },
-      subst (λ (k : Next). LeavesNext k old new) is gives.1,
-    )
-
--- a call that answers one line, and its reply
-pub one_line_more : {first now : ServiceState} {old new : Reader} {left left_old left_new written written_old written_new : Option (List ℕ)} {bytes : List ℕ} {lines : List Line} (next : ServiceState) (x : Line) (number : ℕ) (reply : Reply)
-    → AreAnswered first now old left left_old written written_old bytes lines → (old.ended ≡ true → left_new ≡ left_old) → GivesNext old new left_old left_new (x ∷ [])
-    → number ≡ length lines + 1 → IsReplyTo now number x reply → next ≡ after_line now x → Appends written_old written_new (text_of_reply next.names reply)
-    → (all : List ℕ) × AreAnswered first next new left left_new written written_new all (lines ++ x ∷ [])
-one_line_more {first = first} {now = now} {written = written} {written_old = written_old} {written_new = written_new} {lines = lines} next x number reply a same gives is_number is is_next wrote =
-    let more = taken-more a.taken same gives in
-    let text = text_of_reply next.names reply in (
-      more.0,
-      record {
-        taken = more.1;
-        output = record {
-          shown = a.output.shown ++ text;
-          is = replies-more first.network first.names first.state [] lines x a.output.shown text a.output.is (reply_is first now next lines x number reply a.service is_number is is_next);
-          written = Appends-trans written written_old written_new a.output.shown text a.output.written wrote;
-        };
-        service = is_next ∙ ap (λ (t : ServiceState). after_line t x) a.service ∙ line-after first.network first.names first.state lines x;
-      },
-    )
-
 -- the count of accepted messages grows by one at most
 few-answer : (t : ServiceState) (w : Wire) (m : Message) (o : Option Refusal) → (after_answer t w m o).count ≤ t.count + 1
 few-answer t w m None = omega arith
@@ -180,27 +123,3 @@ few-said t (Err b) = omega arith
 
 pub counts-one : (t next : ServiceState) (x : Line) → next ≡ after_line t x → next.count ≤ t.count + 1
 counts-one t next x is = omega (arith, ap (λ (r : ServiceState). r.count) is, few-said t (said_by x))
-
--- a front of the reply to one line more
-pub front_more : {Failed : Type 0} {first now : ServiceState} {r : Reader} {left left_now written written_old written_new : Option (List ℕ)} {bytes : List ℕ} {lines : List Line} (next : ServiceState) (x : Line) (number : ℕ) (reply : Reply)
-    → AreAnswered first now r left left_now written written_old bytes lines → number ≡ length lines + 1 → IsReplyTo now number x reply → next ≡ after_line now x → AppendsFront Failed written_old written_new (text_of_reply next.names reply)
-    → AppendsFirstReplies Failed first.network first.names first.state (lines ++ x ∷ []) written written_new
-front_more {first = first} {now = now} {written = written} {written_old = written_old} {written_new = written_new} {lines = lines} next x number reply a is_number is is_next f =
-    let text = text_of_reply next.names reply in
-    record {
-      first = lines ++ x ∷ [];
-      later = [];
-      shown = a.output.shown ++ text;
-      split = append-nil (lines ++ x ∷ []);
-      is = replies-more first.network first.names first.state [] lines x a.output.shown text a.output.is (reply_is first now next lines x number reply a.service is_number is is_next);
-      front = front_after written written_old written_new a.output.shown text a.output.written f;
-    }
-
--- a call that answers one line, of whose reply a front is written
-pub one_line_begun : {Failed : Type 0} {first now : ServiceState} {old new : Reader} {left left_old left_new written written_old written_new : Option (List ℕ)} {bytes : List ℕ} {lines : List Line} (x : Line)
-    → AreAnswered first now old left left_old written written_old bytes lines → (old.ended ≡ true → left_new ≡ left_old) → GivesNext old new left_old left_new (x ∷ [])
-    → AppendsFirstReplies Failed first.network first.names first.state (lines ++ x ∷ []) written written_new
-    → (all : List ℕ) × (ls : List Line) × Begun Failed first new left left_new written written_new all ls
-one_line_begun {lines = lines} x a same gives f =
-    let more = taken-more a.taken same gives in
-    (more.0, lines ++ x ∷ [], record { taken = more.1; output = f })

@@ -10,7 +10,7 @@ pub use Rattle.delay_report.specs.Table.{header, rows_of_train}
 unfoldable pub use Rattle.delay_report.specs.Table.{rows_from, table}
 pub use Rattle.delay_report.specs.declared.replies.Reply.{Reply}
 pub use Rattle.information_service.specs.Causes.{WhereLinesStop}
-pub use Rattle.information_service.specs.Fronts.{AppendsFirstReplies, AppendsFront, AppendsReplies, AreAnswered, Begun}
+pub use Rattle.information_service.specs.Fronts.{AppendsFront}
 pub use Rattle.information_service.specs.Lines.{by_names, messages_of, names_with, said_by}
 pub use Rattle.information_service.specs.Output.{AreReplies, IsOutput, IsReply, IsReplyTo, IsReplyToResolved, IsTextAfter, reply_to_message}
 pub use Rattle.information_service.specs.ServiceState.{ServiceState, after_line}

@@ -8,8 +8,9 @@ use Rattle.mt_io.specs.Lines.{Line, lines_of}
 use Rattle.mt_io.specs.Reader.{Reader, IsWithinBudget}
 use Rattle.mt_io.specs.Runs.{HasAnswered}
 use Rattle.schedule_build.specs.Directory.{Names}
+use Rattle.information_service.specs.Answering.{Answering, AreAnsweredBy, AreFirstAnswers}
 use Rattle.information_service.specs.Output.{AreReplies, IsOutput}
-use Rattle.information_service.specs.ServiceState.{ServiceState, service_after}
+use Rattle.information_service.specs.ServiceState.{ServiceState}
 
 -- bytes of which this holds were written
 pub record AppendsAll (Is : List ℕ → Type 0) (old new : Option (List ℕ)) : Type 0 where
@@ -71,11 +72,6 @@ abbrev pub AppendsOutput : Network → Names → State → List Line → Option 
     → Option (List ℕ) → Type 0
 AppendsOutput nw names st lines = AppendsAll (IsOutput nw names st lines)
 
--- a front of replies to the first of these lines was written
-abbrev pub AppendsFirstReplies : Type 0 → Network → Names → State → List Line → Option (List ℕ)
-    → Option (List ℕ) → Type 0
-AppendsFirstReplies Failed nw names st = AppendsFirst Failed (AreReplies nw names st [])
-
 -- a front was written of an output for the bytes that were taken: of the replies to the first of
 -- the lines, or, at the end of the input, of all replies and the table. Every query has an answer,
 -- so the first replies too begin an output of all lines
@@ -93,19 +89,35 @@ pub record IsTaken (r : Reader) (left left_now : Option (List ℕ)) (bytes : Lis
   pub end : r.ended ≡ true → IsAtEnd left_now
   pub within : IsWithinBudget r
 
--- these lines were taken from the input and answered: their replies are written, and the service is
--- as they leave it
-pub record AreAnswered (first now : ServiceState) (r : Reader)
+-- these lines were taken from the input and answered, and the answers are written. The service and
+-- what the command keeps are the first two before, and the last two afterwards
+pub record AreAnswered {C : Type 0} (A : Answering C) (first : ServiceState) (kept : C)
+    (now : ServiceState) (kept_now : C) (r : Reader)
     (left left_now written written_now : Option (List ℕ)) (bytes : List ℕ)
     (lines : List Line) : Type 0 where
   pub taken : IsTaken r left left_now bytes lines
-  pub output : AppendsReplies first.network first.names first.state lines written written_now
-  pub service : now ≡ service_after first.network first.names first.state lines
+  pub shown : List ℕ
+  pub answers : AreAnsweredBy A first kept 0 lines shown now kept_now
+  pub output : Appends written written_now shown
 
--- these lines were taken from the input, and a front of replies to the first of them is written
-pub record Begun (Failed : Type 0) (first : ServiceState) (r : Reader)
-    (left left_now written written_now : Option (List ℕ)) (bytes : List ℕ)
+-- these lines were taken from the input, and a front of answers to the first of them is written
+pub record Begun {C : Type 0} (Failed : Type 0) (A : Answering C) (first : ServiceState) (kept : C)
+    (r : Reader) (left left_now written written_now : Option (List ℕ)) (bytes : List ℕ)
     (lines : List Line) : Type 0 where
   pub taken : IsTaken r left left_now bytes lines
-  pub output : AppendsFirstReplies Failed first.network first.names first.state lines written
-      written_now
+  pub output : AppendsFirst Failed (AreFirstAnswers A first kept) lines written written_now
+
+-- an answer to a line was written
+pub record AppendsAnswer {C : Type 0} (A : Answering C) (t : ServiceState) (kept : C) (number : ℕ)
+    (x : Line) (now : ServiceState) (kept_now : C) (old new : Option (List ℕ)) : Type 0 where
+  pub text : List ℕ
+  pub is : A t kept number x text now kept_now
+  pub written : Appends old new text
+
+-- a part of an answer to a line was written, or nothing, where no write has `Failed`
+abbrev pub AppendsAnswerFront : {C : Type 0} → Type 0 → Answering C → ServiceState → C → ℕ → Line
+    → Option (List ℕ) → Option (List ℕ) → Type 0
+AppendsAnswerFront {C = C} Failed A t kept number x old new =
+    (Appends old new [] × ¬ Failed)
+    ⊎ ((text : List ℕ) × (now : ServiceState) × (kept_now : C) × A t kept number x text now kept_now
+    × AppendsFront Failed old new text)

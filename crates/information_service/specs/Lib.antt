@@ -1,4 +1,5 @@
 pub mod Alike
+pub mod Answering
 pub mod Causes
 pub mod Fronts
 pub mod Lines
@@ -6,3 +7,4 @@ pub mod Networks
 pub mod Output
 pub mod Seen
 pub mod ServiceState
+pub mod TimesOutput

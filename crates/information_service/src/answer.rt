@@ -6,16 +6,19 @@ ghost use Rattle.message_reader.specs.Resolved.{resolved};
 ghost use Rattle.message_reader.specs.ResolvedQueries.{query_resolved};
 ghost use Rattle.message_reader.specs.Wires.{IsLine, IsWire, IsWireQuery};
 ghost use Rattle.mt_io.specs.Lines.{short};
+ghost use Rattle.information_service.specs.Answering.{given_line, HasFewBytes};
 ghost use Rattle.information_service.specs.Output.{reply_to_message, IsReply, IsReplyTo, IsReplyToResolved};
 ghost use Rattle.information_service.specs.ServiceState.{after_line, after_said, after_message};
 
+use crate::answering::InputLine;
 use crate::replies::{add_name, added_name, reply_to_asked, reply_to_refused};
 use crate::service::InformationService;
 use delay_report::Reply;
 use message_reader::{
-    Line, LineError, ResolveError, Wire, WireQuery, read_line, resolve, resolve_query,
+    BadLine, Line, LineError, ResolveError, Wire, WireQuery, read_line, resolve, resolve_query,
 };
 use mt_base::memory::OutOfMemory;
+use schedule_build::Directory;
 use std::alloc::{AllocError, Global};
 use std::marker::Brand;
 use std::sync::ledger::{Blank, Ledger};
@@ -144,22 +147,63 @@ fn reply_to_said(
     }
 }
 
+/// The reply to a line that is not long, without its line end.
+fn reply_to_bytes(
+    alloc: Global,
+    service: &mut InformationService,
+    number: u64,
+    line: &[u8],
+) -> Result<Reply, OutOfMemory>
+    requires count { service.old.count < 2 ^ 64 - 1 }
+    requires few { length line.now < 2 ^ 31 }
+    ensures reply { IfOk result (IsReplyTo service.old number (short line.now)) }
+    ensures next { OnOk result (service.new ≡ after_line service.old (short line.now)) }
+    ensures unchanged { IfErr result (λ _. service.new ≡ service.old) }
+{
+    match read_line(alloc, line) {
+        Ok(said) => reply_to_said(alloc, service, number, &said),
+        Err(LineError::Bad(bad)) => Ok(Reply::Bad { line: number, bad }),
+        Err(LineError::OutOfMemory) => Err(AllocError),
+    }
+}
+
 impl InformationService {
-    /// The reply to a line of the input, without its line end, which has this number from 1 on and
-    /// fewer than 2^31 bytes. Its message is taken if the timetable accepts it, its query is
-    /// answered by a journey, a flush by the number of accepted messages, and a bad line by its
-    /// fault. Want of memory is the only error, and then nothing has changed.
-    pub fn answer(&mut self, alloc: Global, number: u64, line: &[u8]) -> Result<Reply, OutOfMemory>
+    /// The reply to a line of the input, which has this number from 1 on. Its message is taken if
+    /// the timetable accepts it, its query is answered by a journey, a flush by the number of
+    /// accepted messages, and a bad line by its fault. Want of memory is the only error, and then
+    /// nothing has changed.
+    pub fn answer(
+        &mut self,
+        alloc: Global,
+        number: u64,
+        line: &InputLine<'_>,
+    ) -> Result<Reply, OutOfMemory>
         requires count { self.old.count < 2 ^ 64 - 1 }
-        requires few { length line.now < 2 ^ 31 }
-        ensures reply { IfOk result (IsReplyTo self.old number (short line.now)) }
-        ensures next { OnOk result (self.new ≡ after_line self.old (short line.now)) }
+        requires few { HasFewBytes (given_line line.now) }
+        ensures reply { IfOk result (IsReplyTo self.old number (given_line line.now)) }
+        ensures next { OnOk result (self.new ≡ after_line self.old (given_line line.now)) }
         ensures unchanged { IfErr result (λ _. self.new ≡ self.old) }
     {
-        match read_line(alloc, line) {
-            Ok(said) => reply_to_said(alloc, self, number, &said),
-            Err(LineError::Bad(bad)) => Ok(Reply::Bad { line: number, bad }),
-            Err(LineError::OutOfMemory) => Err(AllocError),
+        match line {
+            InputLine::Short(bytes) => reply_to_bytes(alloc, self, number, bytes),
+            InputLine::Long => Ok(Reply::Bad {
+                line: number,
+                bad: BadLine::Long,
+            }),
         }
+    }
+
+    /// The names that are known.
+    pub fn directory(&self) -> &Directory
+        ensures { result.now ≡ self.now.names }
+    {
+        &self.directory
+    }
+
+    /// How many messages were accepted. Past 2^64 - 1 it stays there.
+    pub fn count(&self) -> u64
+        ensures { result ≡ self.now.count }
+    {
+        self.timetable.count()
     }
 }

@@ -2,6 +2,7 @@
 #![tactic(auto)]
 
 mod answer;
+mod answering;
 mod fault;
 mod laws;
 mod lines;
@@ -9,9 +10,14 @@ mod output;
 mod replies;
 mod service;
 mod table;
+mod times;
+mod writing;
 
+pub use answering::{AnswerLines, InputLine};
 pub use fault::LinesFault;
 pub use laws::{lines_keep_names_in_step, outputs_differ_in_journeys_alone};
-pub use output::write_output;
+pub use output::answer_input;
 pub use replies::{add_name, added_name, reply_to_asked, reply_to_refused};
 pub use service::InformationService;
+pub use times::write_output;
+pub use writing::write_bytes;

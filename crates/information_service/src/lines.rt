@@ -1,53 +1,61 @@
 //! The lines of the input, each answered at once.
 
-ghost use Rattle.std.specs.Prelude.{◌≡◌, ◌<◌, ◌^◌, List, ℕ, Some, false, OnOk, IfErr, IsErrOf};
-ghost use Rattle.std.specs.Io.KnownBytes.{Appends};
-ghost use Rattle.delay_report.specs.Replies.{text_of_reply};
+ghost use Rattle.std.specs.Prelude.{◌≡◌, ◌+◌, ◌-◌, ◌<◌, ◌≤◌, ◌^◌, List, ℕ, Some, false, OnOk, IfErr, IsErrOf};
 ghost use Rattle.mt_io.specs.Causes.{IsFull};
 ghost use Rattle.mt_io.specs.Lines.{Line, lines_of};
 ghost use Rattle.mt_io.specs.Reader.{IsDone};
 ghost use Rattle.mt_io.specs.Runs.{fresh};
+ghost use Rattle.information_service.specs.Answering.{given_line, HasFewBytes};
 ghost use Rattle.information_service.specs.Causes.{IsNotOfInput, WhereLinesStop, TookAll};
 ghost use Rattle.information_service.specs.Causes.{TookFewer, reads_failed, writes_failed};
-ghost use Rattle.information_service.specs.Fronts.{AreAnswered, AppendsFront, Begun};
+ghost use Rattle.information_service.specs.Fronts.{AppendsAnswer, AppendsAnswerFront, AreAnswered, Begun};
 
+use crate::answering::{AnswerLines, InputLine};
 use crate::fault::LinesFault;
 use crate::service::InformationService;
-use delay_report::{Reply, reply_text};
-use message_reader::BadLine;
-use mt_io::{LineReader, Next, Sink, Source, put};
-use schedule_build::Directory;
+use crate::writing::write_bytes;
+use mt_io::{LineReader, Next, Sink, Source};
 use std::alloc::Global;
 
-/// Writes a reply.
-fn write_reply<K: Sink>(
+/// Writes the answer to a line of this number.
+fn answer_line<T: AnswerLines<C>, C, K: Sink>(
     alloc: Global,
-    directory: &Directory,
+    service: &mut InformationService,
+    kept: &mut C,
+    number: u64,
+    line: &InputLine<'_>,
     out: &mut K,
-    reply: Reply,
 ) -> Result<(), LinesFault>
-    ensures ok { OnOk result (Appends (K.written out.old) (K.written out.new)
-        (text_of_reply directory.now reply)) }
-    ensures front { IfErr result (λ f. AppendsFront (f ≡ LinesFault.WriteFault)
-        (K.written out.old) (K.written out.new) (text_of_reply directory.now reply)) }
+    requires count { service.old.count < 2 ^ 64 - 1 }
+    requires few { HasFewBytes (given_line line.now) }
+
+    // what is written
+    ensures ok { OnOk result (AppendsAnswer T.output.answers service.old kept.old number
+        (given_line line.now) service.new kept.new (K.written out.old) (K.written out.new)) }
+    ensures front { IfErr result (λ f. AppendsAnswerFront (f ≡ LinesFault.WriteFault)
+        T.output.answers service.old kept.old number (given_line line.now) (K.written out.old)
+        (K.written out.new)) }
+    ensures count { service.new.count ≤ service.old.count + 1 }
+
+    // the faults
     ensures fault { IfErr result IsNotOfInput }
     ensures writes { Some (K.faults out.new) ≡ writes_failed result (K.faults out.old) }
     ensures full { IsErrOf result LinesFault.WriteFault
         → IsFull (K.faults out.new) (K.written out.new) }
 {
-    let text = reply_text(alloc, &reply, directory)?;
-    put(out, text.as_slice())?;
-    Ok(())
+    let text = T::answer(alloc, service, kept, number, line)?;
+    write_bytes(text.as_slice(), out)
 }
 
-/// Answers each line of the input, from line 1 on, and writes its reply before the next line is
+/// Answers each line of the input, from line 1 on, and writes its answer before the next line is
 /// read, until the input is at its end: for a new reader, and a service that has accepted no
 /// message. It fails with `ReadFault` or `TooLong` where the reader does, when all lines before are
 /// answered, with `WriteFault` where a write of the output failed, and with `OutOfMemory` where
-/// there was none; then the last line may have no reply, or a part of one.
-pub(crate) fn answer_lines<S: Source, K: Sink>(
+/// there was none; then the last line may have no answer, or a part of one.
+pub(crate) fn answer_lines<T: AnswerLines<C>, C, S: Source, K: Sink>(
     alloc: Global,
     service: &mut InformationService,
+    kept: &mut C,
     reader: &mut LineReader,
     input: &mut S,
     out: &mut K,
@@ -59,15 +67,17 @@ pub(crate) fn answer_lines<S: Source, K: Sink>(
 
     // what is answered at the end, or where it stops
     ensures all { OnOk result ((bytes : List ℕ) × (lines : List Line) × IsDone reader.new
-        × AreAnswered service.old service.new reader.new (S.left input.old) (S.left input.new)
-        (K.written out.old) (K.written out.new) bytes lines) }
+        × AreAnswered T.output.answers service.old kept.old service.new kept.new reader.new
+        (S.left input.old) (S.left input.new) (K.written out.old) (K.written out.new) bytes lines) }
     ensures stopped { IfErr result (WhereLinesStop ((bytes : List ℕ) × (lines : List Line)
         × (lines_of false bytes ≡ lines)
-        × AreAnswered service.old service.new reader.new (S.left input.old) (S.left input.new)
-        (K.written out.old) (K.written out.new) bytes lines)) }
+        × AreAnswered T.output.answers service.old kept.old service.new kept.new reader.new
+        (S.left input.old) (S.left input.new) (K.written out.old) (K.written out.new) bytes
+        lines)) }
     ensures begun { IfErr result (λ f. (bytes : List ℕ) × (lines : List Line)
-        × Begun (f ≡ LinesFault.WriteFault) service.old reader.new (S.left input.old)
-        (S.left input.new) (K.written out.old) (K.written out.new) bytes lines) }
+        × Begun (f ≡ LinesFault.WriteFault) T.output.answers service.old kept.old reader.new
+        (S.left input.old) (S.left input.new) (K.written out.old) (K.written out.new) bytes
+        lines) }
 
     // how many reads and writes failed, and when the input is too long
     ensures reads { Some (S.faults input.new) ≡ reads_failed result (S.faults input.old) }
@@ -84,17 +94,14 @@ pub(crate) fn answer_lines<S: Source, K: Sink>(
 {
     let mut before = 0;
     'lines: loop {
-        let reply = match reader.next(input) {
-            Next::Line(line) => service.answer(alloc, before + 1, line)?,
-            Next::LongLine => Reply::Bad {
-                line: before + 1,
-                bad: BadLine::Long,
-            },
+        let line = match reader.next(input) {
+            Next::Line(bytes) => InputLine::Short(bytes),
+            Next::LongLine => InputLine::Long,
             Next::End => return Ok(()),
             Next::ReadFault => return Err(LinesFault::ReadFault),
             Next::Budget => return Err(LinesFault::TooLong),
         };
-        write_reply(alloc, &service.directory, out, reply)?;
+        answer_line::<T, C, K>(alloc, service, kept, before + 1, &line, out)?;
         before += 1;
     }
 }
