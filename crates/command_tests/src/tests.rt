@@ -4,10 +4,13 @@
 mod example_feed;
 mod exhaustion;
 mod failing_calls;
+mod held_runs;
 mod in_memory;
 mod limited;
 mod refused_memory;
+mod refused_posts;
 mod runs;
+mod small_commands;
 mod threads;
 
 use crate::tests::example_feed::TABLES;

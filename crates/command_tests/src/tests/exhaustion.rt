@@ -1,5 +1,6 @@
 //! All memory that a process may take.
 
+use mt_base::memory::OutOfMemory;
 use std::alloc::Global;
 
 /// The greatest block that is asked for, in bytes.
@@ -11,8 +12,29 @@ const HALVINGS: u32 = 9;
 /// Up to this size blocks of every size are asked for, in bytes.
 const SMALL: usize = 2_048;
 
+/// How many sizes of small blocks there are, in steps of 16 bytes.
+const STEPS: usize = 16;
+
 /// How many blocks are taken at most.
 pub(crate) const BLOCKS: usize = 4_000;
+
+/// Blocks that were taken before something is tried, and those that it gave back, which were taken
+/// again.
+#[derive(Drop)]
+pub(crate) struct TakenBlocks {
+    pub(crate) taken: Vec<Vec<u8>>,
+    pub(crate) again: Vec<Vec<u8>>,
+}
+
+impl TakenBlocks {
+    /// Room for blocks.
+    pub(crate) fn build(alloc: Global) -> Result<TakenBlocks, OutOfMemory> {
+        Ok(TakenBlocks {
+            taken: Vec::with_capacity(alloc, BLOCKS)?,
+            again: Vec::with_capacity(alloc, BLOCKS)?,
+        })
+    }
+}
 
 /// Takes blocks of a size until one is refused, or until there is no room to keep one more.
 fn take_blocks(alloc: Global, taken: &mut Vec<Vec<u8>>, size: usize) {
@@ -33,6 +55,13 @@ pub(crate) fn take_all(alloc: Global, taken: &mut Vec<Vec<u8>>) {
     }
     for less in 0..SMALL {
         take_blocks(alloc, taken, SMALL - less);
+    }
+}
+
+/// Takes small blocks, of each size in steps of 16 bytes.
+pub(crate) fn take_small(alloc: Global, taken: &mut Vec<Vec<u8>>) {
+    for step in 0..STEPS {
+        take_blocks(alloc, taken, 16 * step + 8);
     }
 }
 

@@ -5,13 +5,14 @@ ghost use Rattle.query_crew.specs.Crews.{IsReady};
 ghost use Rattle.schedule_build.specs.InStep.{AreInStep};
 
 use crate::tests::example_feed::WITH_RULES;
-use crate::tests::threads::{held, scheduled};
-use crate::tests::{feed_of, is_text, words_of};
+use crate::tests::held_runs::{FOUR_WORKERS, HeldRun, WITH_TWO_VIEWERS, WITHOUT_VIEWERS};
+use crate::tests::threads::{Seen, gate_of, seen_of, text_of};
+use crate::tests::{feed_of, words_of};
 use command_words::read_words;
 use commands::load_timetable;
 use delay_report::reply_text;
 use mt_base::memory::OutOfMemory;
-use mt_io::{LineReader, NoGate, SureSource};
+use mt_io::{Gate, LineReader, Point, SureSource};
 use query_crew::{Crew, Window, read_window};
 use schedule_build::Directory;
 use snapshot_board::{NewHistory, Opening, Publisher, Viewer};
@@ -24,11 +25,12 @@ use timetable::Timetable;
 use train_nodes::Msg;
 
 /// The texts of the replies to the first window of this text.
-fn window_text<H: Opening<Timetable> + Send + Sync, R: Threads + Wait + Sync>(
+fn window_text<H: Opening<Timetable> + Send + Sync, R: Threads + Wait + Sync, G: Gate + Sync>(
     rt: &R,
     alloc: Global,
     crew: &mut Crew<Publisher<Timetable, H>, Viewer<Timetable, H>>,
     text: &[u8],
+    gate: &G,
 ) -> Result<Vec<u8>, OutOfMemory>
     requires ready { IsReady H.opening crew.old }
     requires new { crew.old.publisher ≡ [] }
@@ -37,7 +39,7 @@ fn window_text<H: Opening<Timetable> + Send + Sync, R: Threads + Wait + Sync>(
     let mut reader = LineReader::build(alloc, 10_000)?;
     let mut window = Window::build(alloc)?;
     let _ = read_window(alloc, &mut reader, &mut input, &crew.directory, &mut window)?;
-    let replies = crew.run_window(rt, alloc, window.lines(), 0, &NoGate)?;
+    let replies = crew.run_window(rt, alloc, window.lines(), 0, gate)?;
     let mut all = Vec::new(alloc);
     for reply in &replies {
         all.extend_from_slice(reply_text(alloc, reply, &crew.directory)?.as_slice())?;
@@ -46,7 +48,7 @@ fn window_text<H: Opening<Timetable> + Send + Sync, R: Threads + Wait + Sync>(
 }
 
 /// The same with a crew of its own, of four workers of which so many have a viewer.
-fn limited_text<H: Opening<Timetable> + Send + Sync, R: Threads + Wait + Sync>(
+fn limited_text<H: Opening<Timetable> + Send + Sync, R: Threads + Wait + Sync, G: Gate + Sync>(
     rt: &R,
     alloc: Global,
     history: NewHistory<Msg>,
@@ -54,6 +56,7 @@ fn limited_text<H: Opening<Timetable> + Send + Sync, R: Threads + Wait + Sync>(
     directory: Directory,
     viewers: u32,
     text: &[u8],
+    gate: &G,
 ) -> Result<Vec<u8>, OutOfMemory>
     requires book { history ≡ H.book }
     requires opening { H.opening ≡ Some timetable }
@@ -62,19 +65,20 @@ fn limited_text<H: Opening<Timetable> + Send + Sync, R: Threads + Wait + Sync>(
     let mut crew: Crew<Publisher<Timetable, H>, Viewer<Timetable, H>> = Crew::build_limited(
         rt, alloc, history, timetable, directory, 4, viewers,
     )?;
-    let shown = window_text(rt, alloc, &mut crew, text);
+    let shown = window_text(rt, alloc, &mut crew, text, gate);
     crew.close(rt, alloc);
     shown
 }
 
 /// The same over the feed with a waiting rule.
-fn shown_by<R: Threads + Wait + Sync>(
+fn shown_by<R: Threads + Wait + Sync, G: Gate + Sync>(
     rt: &R,
     alloc: Global,
     viewers: u32,
     text: &[u8],
+    gate: &G,
 ) -> Result<Vec<u8>, Fail> {
-    let words = words_of(alloc, "serve feed --from 20260105 --slack 0 --workers 4")?;
+    let words = words_of(alloc, FOUR_WORKERS)?;
     let asked = match read_words(alloc, &words) {
         Ok(asked) => asked,
         Err(fault) => return Err(Fail::from(fault)),
@@ -89,7 +93,7 @@ fn shown_by<R: Threads + Wait + Sync>(
         &asked.opts,
         &mut feed,
     )?;
-    Ok(limited_text::<Brand, R>(
+    Ok(limited_text::<Brand, R, G>(
         rt,
         alloc,
         NewHistory::new(),
@@ -97,51 +101,63 @@ fn shown_by<R: Threads + Wait + Sync>(
         loaded.directory,
         viewers,
         text,
+        gate,
     )?)
 }
 
-/// The query, the message and the query once more.
-const LINES: &str = concat!(
-    r#"{"v":1,"type":"query","client":"c1","from":"A","to":"D","date":"20260105","time":"08:00:00"}"#,
-    "\n",
-    r#"{"v":1,"type":"forecast","trip":"T1","date":"20260105","call":1,"event":"arr","time":"08:36:00"}"#,
-    "\n",
-    r#"{"v":1,"type":"query","client":"c1","from":"A","to":"D","date":"20260105","time":"08:00:00"}"#,
-    "\n",
-);
-
-/// The reply to the message.
-const ACCEPTED: &str = "{\"accepted\":1,\"changed\":5,\"line\":2}\n";
-
-/// Whether both queries were answered after the message.
-fn are_late(alloc: Global, shown: &[u8]) -> Result<bool, Fail> {
-    let first = held(alloc, 1)?;
-    let last = held(alloc, 3)?;
-    Ok(is_text(shown, &[first.as_str(), ACCEPTED, last.as_str()]))
+/// What is seen of a run on these lines, of whose four workers so many have a viewer.
+fn limited_on<R: Threads + Wait + Sync>(
+    rt: &R,
+    alloc: Global,
+    viewers: u32,
+    run: &HeldRun<'_>,
+    text: &[u8],
+) -> Result<Seen, Fail> {
+    let gate = gate_of(alloc, run.holds)?;
+    let shown = shown_by(rt, alloc, viewers, text, &gate)?;
+    Ok(seen_of(&gate, &shown, run.outputs))
 }
 
-/// Whether no query was answered after the message, or the last one alone.
-fn are_early(alloc: Global, shown: &[u8]) -> Result<bool, Fail> {
-    let first = scheduled(alloc, 1)?;
-    let late = held(alloc, 3)?;
-    let early = scheduled(alloc, 3)?;
-    let is_last_late = is_text(shown, &[first.as_str(), ACCEPTED, late.as_str()]);
-    let is_last_early = is_text(shown, &[first.as_str(), ACCEPTED, early.as_str()]);
-    Ok(is_last_late || is_last_early)
+/// What is seen of a run of whose four workers so many have a viewer.
+fn seen_limited<R: Threads + Wait + Sync>(
+    rt: &R,
+    alloc: Global,
+    viewers: u32,
+    run: &HeldRun<'_>,
+) -> Result<Seen, Fail> {
+    let text = text_of(alloc, run.lines)?;
+    limited_on(rt, alloc, viewers, run, &text)
 }
 
 #[test]
 fn the_publisher_answers_where_no_worker_has_a_viewer(rt: HostRuntime) -> Result<(), Fail> {
-    let shown = shown_by(&rt, rt.alloc(), 0, LINES.as_bytes())?;
-    let is_right = are_late(rt.alloc(), &shown)?;
-    assert!(rt; is_right);
+    let seen = seen_limited(&rt, rt.alloc(), 0, &WITHOUT_VIEWERS)?;
+    assert_eq!(rt; seen, Seen::Right);
     Ok(())
 }
 
 #[test]
-fn the_publisher_answers_where_a_worker_has_no_viewer(rt: HostRuntime) -> Result<(), Fail> {
-    let shown = shown_by(&rt, rt.alloc(), 1, LINES.as_bytes())?;
-    let is_right = are_late(rt.alloc(), &shown)? || are_early(rt.alloc(), &shown)?;
-    assert!(rt; is_right);
+fn two_workers_with_viewers_answer_beside_the_publisher(rt: HostRuntime) -> Result<(), Fail> {
+    let seen = seen_limited(&rt, rt.alloc(), 2, &WITH_TWO_VIEWERS)?;
+    assert_eq!(rt; seen, Seen::Right);
+    Ok(())
+}
+
+/// Whether the query of this line is about to look, where two workers have a viewer.
+fn is_looked_for<R: Threads + Wait + Sync>(rt: &R, alloc: Global, line: u64) -> Result<bool, Fail> {
+    let look = Point::BeforeLook { line };
+    let run = HeldRun {
+        holds: &[(look, look)],
+        ..WITH_TWO_VIEWERS
+    };
+    Ok(seen_limited(rt, alloc, 2, &run)? != Seen::Expired)
+}
+
+#[test]
+fn only_workers_with_viewers_look(rt: HostRuntime) -> Result<(), Fail> {
+    for line in 2..6 {
+        let is_looked_for = is_looked_for(&rt, rt.alloc(), line)?;
+        assert_eq!(rt; is_looked_for, line < 4);
+    }
     Ok(())
 }

@@ -7,7 +7,7 @@ use crate::tests::example_feed::TABLES;
 use crate::tests::exhaustion::{BLOCKS, is_all_refused, take_all};
 use crate::tests::{CASE, feed_of, words_of};
 use command_words::read_words;
-use commands::load_timetable;
+use commands::{LoadedTimetable, load_timetable};
 use conn_scan::{Found, Scratch, earliest};
 use mt_base::journeys::Query;
 use mt_base::memory::OutOfMemory;
@@ -20,14 +20,14 @@ use timetable::Timetable;
 const PLACES: u32 = 6;
 
 /// The timetable of the feed, by the options that the program has without further words.
-fn feed_timetable(alloc: Global) -> Result<Timetable, Fail> {
+pub(super) fn loaded_feed(alloc: Global) -> Result<LoadedTimetable, Fail> {
     let words = words_of(alloc, CASE.words)?;
     let asked = match read_words(alloc, &words) {
         Ok(asked) => asked,
         Err(fault) => return Err(Fail::from(fault)),
     };
     let mut feed = feed_of(alloc, &TABLES, None)?;
-    let loaded = load_timetable(
+    Ok(load_timetable(
         alloc,
         asked.folder,
         asked.first,
@@ -35,8 +35,7 @@ fn feed_timetable(alloc: Global) -> Result<Timetable, Fail> {
         &asked.zone,
         &asked.opts,
         &mut feed,
-    )?;
-    Ok(loaded.timetable)
+    )?)
 }
 
 /// Whether there is a journey from one place to another from 08:00:00 on.
@@ -107,8 +106,8 @@ fn query_without_memory(alloc: Global, timetable: &Timetable) -> Result<Outcome,
 
 /// Loads the timetable, and asks queries of it without memory.
 fn load_and_query(alloc: Global) -> Result<Outcome, Fail> {
-    let timetable = feed_timetable(alloc)?;
-    Ok(query_without_memory(alloc, &timetable)?)
+    let loaded = loaded_feed(alloc)?;
+    Ok(query_without_memory(alloc, &loaded.timetable)?)
 }
 
 /// Memory runs out only where the process may have less than is taken, so the test says whether

@@ -3,4 +3,4 @@ use Rattle.command_tests.proofs.tests.refused_memory.count_reached.Given as goal
 
 -- a query leaves the room of the scratch as it is
 abbrev pub invariant-loop-pair : goal.invariant-loop-pair
-invariant-loop-pair g l = l.scratch.room ≡ l.initial.scratch.room
+invariant-loop-pair l = l.scratch.room ≡ l.initial.scratch.room
