@@ -1,22 +1,17 @@
 -- What cannot fail in a run.
-use Rattle.std.proofs.Common.{◌≡◌, ◌∙◌, ◌⊎◌, ◌≤◌, ◌<◌, ◌++◌, ℕ, List, [], length, Option, Some, None, Result, Err, refl, sym, ap, subst, append_assoc, inl, inr, arith}
+use Rattle.std.proofs.Common.{◌≡◌, ◌∙◌, ◌⊎◌, ◌≤◌, ◌<◌, ◌++◌, ℕ, List, [], length, Option, Some, None, refl, sym, ap, subst, append_assoc, inl, inr, arith}
 use Rattle.std.proofs.lemmas.List.{append-nil, length-append}
 use Rattle.std.proofs.lemmas.Option.{none-some, same_Some}
 use Rattle.std.specs.Io.KnownBytes.{Appends}
-use Rattle.delay_model.specs.declared.network.Network.{Network}
-use Rattle.delay_model.specs.declared.state.State.{State}
-use Rattle.command_words.specs.Words.{Asked}
 use Rattle.information_service.specs.Causes.{TookAtMost}
 use Rattle.information_service.specs.Fronts.{AppendsFirst, AppendsFront, AppendsTakenFront, AppendsWholeFront}
 use Rattle.information_service.proofs.Fronts.{taken_if}
 use Rattle.mt_io.specs.Causes.{CanFail, Faults, IsFull, at_any_call, counted, never, once_full, one_more}
 use Rattle.mt_io.specs.Lines.{Line}
-use Rattle.schedule_build.specs.Directory.{Names}
 use Rattle.commands.specs.Failing.{FeedReadFailed, HasRoom, InputReadFailed, IsFrontWritten, NothingFails, WriteFailed}
-use Rattle.commands.specs.Runs.{Loads, Output, WritesFront}
+use Rattle.commands.specs.Runs.{Begins, WritesFront}
 use Rattle.commands.specs.Seen.{FeedSeen, StreamSeen}
-use Rattle.commands.specs.declared.status.Fault.{Fault}
-use Rattle.commands.specs.declared.status.Fault.TheVariants as faults
+use Rattle.commands.specs.Tasks.{Task}
 
 -- what can never fail counts no fault
 pub never-counted : (before now : Faults) → before.can ≡ never → ¬ (Some now ≡ counted before)
@@ -88,28 +83,28 @@ front-told old new held is t = elim t.front [
   | inr whole ↦ elim whole.1 [ inl first ↦ told-after old new held first.front.front is first.front.written | inr all ↦ told-after old new held all.2.front is all.2.written ]
 ]
 
-module _ (output : Asked → Output) {budget : ℕ} {words : List (List ℕ)} {feed : FeedSeen} {input out : StreamSeen} where
+module _ {B : Type 0} (task : Task B) {budget : ℕ} {words : List (List ℕ)} {feed : FeedSeen} {input out : StreamSeen} where
   -- where nothing fails, no read did
-  pub no-read : {one other early : Type 0} → NothingFails output budget words feed input out → (one × other × FeedReadFailed feed input out) ⊎ (InputReadFailed feed input out × early) → ⊥
+  pub no-read : {one other early : Type 0} → NothingFails task budget words feed input out → (one × other × FeedReadFailed feed input out) ⊎ (InputReadFailed feed input out × early) → ⊥
   no-read (inl none) (inl of_feed) = none.feed_reads (rose feed.faults.can feed.faults.count feed.faults_after.count feed.faults_after.can of_feed.2.feed_reads)
   no-read (inl none) (inr of_input) = none.input_reads (rose input.faults.can input.faults.count input.faults_after.count input.faults_after.can of_input.0.input_reads)
   no-read (inr cannot) (inl of_feed) = never-counted feed.faults feed.faults_after cannot.feed_reads of_feed.2.feed_reads
   no-read (inr cannot) (inr of_input) = never-counted input.faults input.faults_after cannot.input_reads of_input.0.input_reads
 
   -- an output that has room for each front is not full before the end of one
-  has-room : {nw : Network} {st : State} {names : Names} → TookAtMost budget input.bytes input.bytes_after → HasRoom (IsFrontWritten output budget words feed.tables input.bytes out.bytes) out → WriteFailed feed input out → (loads : Loads words feed.tables nw st names)
-      → AppendsTakenFront (Unit {0}) ((output loads.asked).IsWhole nw names st) ((output loads.asked).AreReplies nw names st) budget input.bytes input.bytes_after out.bytes out.bytes_after → ⊥
-  has-room {nw = nw} {st = st} {names = names} few room failed loads front =
+  has-room : {start : B} → TookAtMost budget input.bytes input.bytes_after → HasRoom (IsFrontWritten task budget words feed.tables input.bytes out.bytes) out → WriteFailed feed input out → (begins : Begins task words feed.tables start)
+      → AppendsTakenFront (Unit {0}) ((task.output begins.loads.asked).IsWhole start) ((task.output begins.loads.asked).AreReplies start) budget input.bytes input.bytes_after out.bytes out.bytes_after → ⊥
+  has-room {start = start} few room failed begins front =
       let now = front-told out.bytes out.bytes_after room.held room.told front in
       let more = longer _ _ now.0 tt (rw now.1 at front) in
       let full = full-by room.room out.faults_after now.0 (same-room room.room out.faults out.faults_after room.can failed.0.writes) (rw now.1 at failed.1) in
-      absurd (omega (arith, full, more.1, length-append now.0 more.0, room.fits (now.0 ++ more.0) (nw, st, names, loads, input.bytes_after, few, more.2)))
+      absurd (omega (arith, full, more.1, length-append now.0 more.0, room.fits (now.0 ++ more.0) (start, begins, input.bytes_after, few, more.2)))
 
   -- and no write did
-  pub no-write : {nw : Network} {st : State} {names : Names} (run : Result (Unit {0}) Fault) → TookAtMost budget input.bytes input.bytes_after → WritesFront (run ≡ Err faults.WriteFault) output budget words feed.tables input.bytes input.bytes_after out.bytes out.bytes_after → Loads words feed.tables nw st names
-      → NothingFails output budget words feed input out → run ≡ Err faults.WriteFault → WriteFailed feed input out → ⊥
-  no-write run few front loads (inl none) is failed = none.writes (rose out.faults.can out.faults.count out.faults_after.count out.faults_after.can failed.0.writes)
-  no-write {nw = nw} {st = st} {names = names} run few front loads (inr cannot) is failed = elim cannot.writes [
+  pub no-write : {Failed : Type 0} {start : B} → TookAtMost budget input.bytes input.bytes_after → WritesFront Failed task budget words feed.tables input.bytes input.bytes_after out.bytes out.bytes_after → Begins task words feed.tables start
+      → NothingFails task budget words feed input out → Failed → WriteFailed feed input out → ⊥
+  no-write few front begins (inl none) is failed = none.writes (rose out.faults.can out.faults.count out.faults_after.count out.faults_after.can failed.0.writes)
+  no-write {start = start} few front begins (inr cannot) is failed = elim cannot.writes [
     | inl never_fails ↦ never-counted out.faults out.faults_after never_fails failed.0.writes
-    | inr room ↦ has-room few room failed loads (taken_if (λ u. is) (front nw st names loads))
+    | inr room ↦ has-room few room failed begins (taken_if (λ u. is) (front start begins))
   ]

@@ -14,8 +14,8 @@ use Rattle.gtfs_tables.specs.Feeds.{contents_of, tables_of}
 use Rattle.information_service.specs.Networks.{IsSame}
 use Rattle.mt_io.specs.Lines.{Line, lines_of}
 use Rattle.query_crew.specs.Windows.{windows_of}
-use Rattle.reply_sums.specs.declared.sums.ReplySums.{ReplySums}
-use Rattle.reply_sums.specs.Summary.{summary_line}
+use Rattle.window_service.specs.declared.sums.ReplySums.{ReplySums}
+use Rattle.window_service.specs.Summary.{summary_line}
 use Rattle.schedule_build.specs.Directory.{Names}
 use Rattle.window_service.specs.SameSums.{AreApart}
 use Rattle.window_service.specs.Summed.{AreSummed}

@@ -2,16 +2,13 @@
 use Rattle.std.specs.Prelude.{ℕ, ◌≡◌, ◌≤◌, ◌⊎◌, List, length, Some}
 use Rattle.std.specs.declared.option.Option.{Option}
 use Rattle.std.specs.Io.KnownBytes.{Appends}
-use Rattle.delay_model.specs.declared.network.Network.{Network}
-use Rattle.delay_model.specs.declared.state.State.{State}
-use Rattle.command_words.specs.Words.{Asked}
 use Rattle.information_service.specs.Causes.{TookAtMost}
 use Rattle.information_service.specs.Fronts.{AppendsTakenFront}
 use Rattle.gtfs_tables.specs.Feeds.{Files}
 use Rattle.mt_io.specs.Causes.{AppendsPart, Faults, IsFull, Rose, counted, never, once_full}
-use Rattle.schedule_build.specs.Directory.{Names}
-use Rattle.commands.specs.Runs.{Loads, Output}
+use Rattle.commands.specs.Runs.{Begins}
 use Rattle.commands.specs.Seen.{FeedSeen, StreamSeen}
+use Rattle.commands.specs.Tasks.{Task}
 
 -- ---- what failed
 
@@ -76,24 +73,24 @@ WritesCannotFail IsFront out = (out.faults.can ≡ never) ⊎ HasRoom IsFront ou
 
 -- these bytes of an output are those before the run and a front of what a command writes for bytes
 -- that it takes from an input, no more than may be, over a feed with these tables
-abbrev pub IsFrontWritten : (Asked → Output) → ℕ → List (List ℕ) → Option Files → Option (List ℕ)
-    → Option (List ℕ) → Option (List ℕ) → Type 0
-IsFrontWritten output budget words tables left written written_now = (nw : Network) × (st : State)
-    × (names : Names) × (loads : Loads words tables nw st names) × (left_now : Option (List ℕ))
+abbrev pub IsFrontWritten : {B : Type 0} → Task B → ℕ → List (List ℕ) → Option Files
+    → Option (List ℕ) → Option (List ℕ) → Option (List ℕ) → Type 0
+IsFrontWritten {B = B} task budget words tables left written written_now = (start : B)
+    × (begins : Begins task words tables start) × (left_now : Option (List ℕ))
     × TookAtMost budget left left_now
-    × AppendsTakenFront ⊥ ((output loads.asked).IsWhole nw names st)
-    ((output loads.asked).AreReplies nw names st) budget left left_now written written_now
+    × AppendsTakenFront ⊥ ((task.output begins.loads.asked).IsWhole start)
+    ((task.output begins.loads.asked).AreReplies start) budget left left_now written written_now
 
 -- no read of the feed or the input can fail, and no write of the output
-pub record CannotFail (output : Asked → Output) (budget : ℕ) (words : List (List ℕ))
+pub record CannotFail {B : Type 0} (task : Task B) (budget : ℕ) (words : List (List ℕ))
     (feed : FeedSeen) (input out : StreamSeen) : Type 0 where
   pub feed_reads : feed.faults.can ≡ never
   pub input_reads : input.faults.can ≡ never
-  pub writes : WritesCannotFail (IsFrontWritten output budget words feed.tables input.bytes
+  pub writes : WritesCannotFail (IsFrontWritten task budget words feed.tables input.bytes
       out.bytes) out
 
 -- nothing fails: as the counts of the run tell, or since nothing can
-abbrev pub NothingFails : (Asked → Output) → ℕ → List (List ℕ) → FeedSeen → StreamSeen → StreamSeen
-    → Type 0
-NothingFails output budget words feed input out =
-    NoneRose feed input out ⊎ CannotFail output budget words feed input out
+abbrev pub NothingFails : {B : Type 0} → Task B → ℕ → List (List ℕ) → FeedSeen → StreamSeen
+    → StreamSeen → Type 0
+NothingFails task budget words feed input out =
+    NoneRose feed input out ⊎ CannotFail task budget words feed input out

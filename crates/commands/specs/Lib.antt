@@ -1,9 +1,13 @@
-pub mod Causes
+pub mod Beginnings
 pub mod Contract
 pub mod Failing
 pub mod Feeds
 pub mod GenContract
+pub mod LineTasks
+pub mod Loading
+pub mod Promises
 pub mod Runs
 pub mod Seen
 pub mod Statuses
 pub mod Summaries
+pub mod Tasks

@@ -1,5 +1,5 @@
 -- The exit status, and the line on the error stream.
-use Rattle.std.specs.Prelude.{ℕ, ◌++◌, List, [], codes, decimal, Result, Ok as Ended, Err as Stopped}
+use Rattle.std.specs.Prelude.{ℕ, ◌≡◌, ◌++◌, List, [], codes, decimal, Result, Ok as Ended, Err as Stopped}
 use Rattle.mt_base.specs.declared.tables.What.{What}
 use Rattle.mt_base.specs.declared.tables.What.TheVariants as what
 use Rattle.gtfs_tables.specs.declared.faults.Cause.{Cause}
@@ -15,8 +15,8 @@ use Rattle.information_service.specs.declared.fault.LinesFault.{LinesFault}
 use Rattle.information_service.specs.declared.fault.LinesFault.TheVariants as lines
 use Rattle.commands.specs.declared.status.Status.{Status}
 use Rattle.commands.specs.declared.status.Status.TheVariants.{Ok, Usage, FeedRefused, ReadFault, WriteFault, OutOfMemory, TooLong}
-use Rattle.commands.specs.declared.status.Fault.{Fault}
-use Rattle.commands.specs.declared.status.Fault.TheVariants as faults
+use Rattle.commands.specs.declared.status.Stop.{Stop}
+use Rattle.commands.specs.declared.status.Stop.TheVariants as stops
 
 abbrev pub number_of : Status → ℕ
 number_of Ok = 0
@@ -75,30 +75,44 @@ refusal_line (TooMany w) = codes "traind: feed refused: too many " ++ (what_word
 refusal_line (TableTooLong table) = codes "traind: feed refused: "
     ++ (file_name table ++ codes " is too long\n")
 
--- the status of a run that ended, or that stopped for a fault
-abbrev pub status_of : Result (Unit {0}) Fault → Status
-status_of (Ended u) = Ok
-status_of (Stopped faults.Usage) = Usage
-status_of (Stopped (faults.FeedRefused why)) = FeedRefused
-status_of (Stopped faults.ReadFault) = ReadFault
-status_of (Stopped faults.WriteFault) = WriteFault
-status_of (Stopped faults.OutOfMemory) = OutOfMemory
-status_of (Stopped faults.TooLong) = TooLong
+-- the status of a run that stops for this
+abbrev pub status_of : Stop → Status
+status_of stops.Usage = Usage
+status_of (stops.Refused line) = FeedRefused
+status_of (stops.Fault lines.ReadFault) = ReadFault
+status_of (stops.Fault lines.WriteFault) = WriteFault
+status_of (stops.Fault lines.OutOfMemory) = OutOfMemory
+status_of (stops.Fault lines.TooLong) = TooLong
+
+-- and the line on the error stream
+abbrev pub line_of : Stop → List ℕ
+line_of stops.Usage = error_line Usage
+line_of (stops.Refused line) = line.items
+line_of (stops.Fault fault) = error_line (status_of (stops.Fault fault))
+
+-- the same of a run that ended, or that stopped
+abbrev pub run_status : Result (Unit {0}) Stop → Status
+run_status (Ended u) = Ok
+run_status (Stopped stop) = status_of stop
+
+abbrev pub run_line : Result (Unit {0}) Stop → List ℕ
+run_line (Ended u) = []
+run_line (Stopped stop) = line_of stop
+
+-- how a run ends whose lines ended so
+abbrev pub run_of : Result (Unit {0}) LinesFault → Result (Unit {0}) Stop
+run_of (Ended u) = Ended tt
+run_of (Stopped fault) = Stopped (stops.Fault fault)
 
 -- why a run stops, where the words are not read
-abbrev pub words_fault : WordsFault → Fault
-words_fault words.Usage = faults.Usage
-words_fault words.OutOfMemory = faults.OutOfMemory
+abbrev pub words_stop : WordsFault → Stop
+words_stop words.Usage = stops.Usage
+words_stop words.OutOfMemory = stops.Fault lines.OutOfMemory
 
--- and where the feed is not
-abbrev pub feed_fault : FeedError → Fault
-feed_fault (feeds.Refused why) = faults.FeedRefused why
-feed_fault feeds.ReadFault = faults.ReadFault
-feed_fault feeds.OutOfMemory = faults.OutOfMemory
-
--- and where answering the lines stops
-abbrev pub lines_fault : LinesFault → Fault
-lines_fault lines.ReadFault = faults.ReadFault
-lines_fault lines.WriteFault = faults.WriteFault
-lines_fault lines.OutOfMemory = faults.OutOfMemory
-lines_fault lines.TooLong = faults.TooLong
+-- and where the feed is not: a refusal is told by its line, unless there is no memory for that
+abbrev pub IsFeedStop : FeedError → Stop → Type 0
+IsFeedStop feeds.ReadFault stop = stop ≡ stops.Fault lines.ReadFault
+IsFeedStop feeds.OutOfMemory stop = stop ≡ stops.Fault lines.OutOfMemory
+IsFeedStop (feeds.Refused why) stops.Usage = ⊥
+IsFeedStop (feeds.Refused why) (stops.Refused line) = line.items ≡ refusal_line why
+IsFeedStop (feeds.Refused why) (stops.Fault fault) = fault ≡ lines.OutOfMemory

@@ -10,8 +10,8 @@ use Rattle.feed_gen.specs.Tables.{files}
 use Rattle.feed_load.specs.Loaded.{loaded}
 use Rattle.gtfs_tables.specs.Feeds.{contents_of, tables_of}
 use Rattle.mt_io.specs.Lines.{lines_of}
-use Rattle.reply_sums.specs.declared.sums.ReplySums.{ReplySums}
-use Rattle.reply_sums.specs.Summary.{summary_line}
+use Rattle.window_service.specs.declared.sums.ReplySums.{ReplySums}
+use Rattle.window_service.specs.Summary.{summary_line}
 use Rattle.schedule_build.specs.Directory.{Names}
 use Rattle.window_service.specs.Summed.{AreSummed}
 use Rattle.commands.specs.Feeds.{network}

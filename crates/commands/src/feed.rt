@@ -143,6 +143,48 @@ pub fn load_timetable<F: Feed>(
     load_with_bases(alloc, folder, first, days, &bases, opts, feed)
 }
 
+/// The timetable that the words ask for.
+pub(crate) fn load_asked<F: Feed>(
+    alloc: Global,
+    asked: &Asked<'_>,
+    feed: &mut F,
+) -> Result<LoadedTimetable, FeedError>
+    // what words that were read ask for
+    requires civil { IsCivil asked.now.first }
+    requires year { asked.now.first < 21010000 }
+    requires days { (1 ≤ asked.now.days) × (asked.now.days ≤ 31) }
+    requires options { IsInRange asked.now.opts }
+    requires lengths { day_of_wrong_length asked.now.zone asked.now.first asked.now.days ≡ None }
+
+    // the timetable that the feed holds, or why it is refused
+    ensures exact { (told : Files) → F.tables feed.old ≡ Some told
+        → Gives (λ l. (l.timetable.state, l.directory)) result
+        (asked_in told (asked_view asked.now)) }
+    ensures network { IfOk result (λ l. (told : Files) (rows : ATables) → F.tables feed.old
+        ≡ Some told → tables_in told (asked_view asked.now) ≡ Ok rows
+        → IsSame (network rows asked.now.opts) l.timetable.network) }
+
+    // no message was accepted, and names and trains are in step
+    ensures new { IfOk result (λ l. l.timetable.count ≡ 0) }
+    ensures in_step { IfOk result (λ l. AreInStep l.directory l.timetable.state) }
+
+    // a read fault comes where one read failed, and else none failed
+    ensures failed { IsErrOf result FeedError.ReadFault
+        → Some (F.faults feed.new) ≡ counted (F.faults feed.old) }
+    ensures answered { ¬ (IsErrOf result FeedError.ReadFault)
+        → F.faults feed.new ≡ F.faults feed.old }
+{
+    load_timetable(
+        alloc,
+        asked.folder,
+        asked.first,
+        asked.days,
+        &asked.zone,
+        &asked.opts,
+        feed,
+    )
+}
+
 /// The timetable that the words ask for, as a service.
 pub(crate) fn load_service<F: Feed>(
     alloc: Global,
@@ -170,14 +212,6 @@ pub(crate) fn load_service<F: Feed>(
     ensures answered { ¬ (IsErrOf result FeedError.ReadFault)
         → F.faults feed.new ≡ F.faults feed.old }
 {
-    let loaded = load_timetable(
-        alloc,
-        asked.folder,
-        asked.first,
-        asked.days,
-        &asked.zone,
-        &asked.opts,
-        feed,
-    )?;
+    let loaded = load_asked(alloc, asked, feed)?;
     Ok(InformationService::build(alloc, loaded.timetable, loaded.directory)?)
 }

@@ -6,20 +6,22 @@ ghost use Rattle.commands.specs.GenContract.{GenEndsAs, MeetsGenContract};
 ghost use Rattle.commands.specs.Summaries.{IsOnlySummary};
 
 use crate::feed::load_timetable;
+use crate::refusal::feed_stop;
 use crate::run::BYTE_BUDGET;
-use crate::status::{Fault, Status};
+use crate::status::{Status, Stop};
 use crate::telling::tell;
 use command_words::{AskedGen, default_options, read_gen_words};
 use feed_gen::{GenFeed, GenLines};
+use information_service::LinesFault;
 use mt_io::{Gate, Sink, put};
-use reply_sums::summary_text;
+use query_crew::{CrewPlan, Setting};
 use service_zones::Zone;
 use snapshot_board::NewHistory;
 use std::alloc::Global;
 use std::marker::Brand;
 use std::sync::Wait;
 use std::thread::Threads;
-use window_service::sum_windows;
+use window_service::{sum_windows, summary_text};
 
 /// The service day of the trains that are made, as the number YYYYMMDD.
 const SERVICE_DAY: u32 = 20_260_105;
@@ -31,28 +33,33 @@ fn summary<R: Threads + Wait + Sync, G: Gate + Sync>(
     alloc: Global,
     asked: AskedGen,
     gate: &G,
-) -> Result<Vec<u8>, Fault>
+) -> Result<Vec<u8>, Stop>
     requires trains { (1 ≤ asked.trains) × (asked.trains ≤ 100000) }
     requires workers { (1 ≤ asked.workers) × (asked.workers ≤ 16) }
 
     ensures ok { IfOk result (λ line. IsOnlySummary asked.trains line.items) }
-    ensures fault { IfErr result (λ f. f ≡ Fault.OutOfMemory) }
+    ensures memory { IfErr result (λ stop. stop ≡ Stop.Fault LinesFault.OutOfMemory) }
 {
     let mut feed = GenFeed::build(alloc, asked.trains);
     let mut lines = GenLines::build(alloc, asked.trains)?;
     let zone = Zone::utc();
     let opts = default_options();
-    let loaded = load_timetable(alloc, "", SERVICE_DAY, 1, &zone, &opts, &mut feed)?;
+    let loaded = match load_timetable(alloc, "", SERVICE_DAY, 1, &zone, &opts, &mut feed) {
+        Ok(loaded) => loaded,
+        Err(error) => return Err(feed_stop(alloc, error)),
+    };
     let count = loaded.timetable.graph().trains().count();
+    let setting = Setting { rt, alloc, gate };
+    let plan = CrewPlan {
+        timetable: loaded.timetable,
+        directory: loaded.directory,
+        workers: asked.workers,
+    };
     let sums = sum_windows::<Brand, R, GenLines, G>(
-        rt,
-        alloc,
+        &setting,
         NewHistory::new(),
-        loaded.timetable,
-        loaded.directory,
-        asked.workers,
+        plan,
         &mut lines,
-        gate,
         BYTE_BUDGET,
     )?;
     Ok(summary_text(alloc, &sums, count)?)
@@ -65,7 +72,7 @@ fn write_summary<R: Threads + Wait + Sync, K: Sink, G: Gate + Sync>(
     words: &[String],
     out: &mut K,
     gate: &G,
-) -> Result<(), Fault>
+) -> Result<(), Stop>
     ensures run { GenEndsAs (map string_bytes words.now)
         (stream_seen K.written K.faults out.old out.new) out.old out.new result }
 {
@@ -89,5 +96,5 @@ pub(crate) fn run_gen<R: Threads + Wait + Sync, K: Sink, E: Sink, G: Gate + Sync
         (stream_seen E.written E.faults err.old err.new) out.old out.new result }
 {
     let run = write_summary(rt, alloc, words, out, gate);
-    tell(alloc, run, err)
+    tell(&run, err)
 }

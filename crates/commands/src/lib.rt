@@ -2,13 +2,16 @@
 //! outputs.
 #![tactic(auto)]
 
+mod beginning;
 mod feed;
 mod generated;
+mod loading;
 mod refusal;
 mod run;
 mod status;
 mod telling;
 
 pub use feed::{LoadedTimetable, load_timetable};
+pub use loading::{LoadBehind, LoadFault, LoadNothing};
 pub use run::{run_lines, run_times, traind, traind_within};
 pub use status::Status;

@@ -1,9 +1,13 @@
-//! The line on the error stream that says why a feed is refused.
+//! Why a run stops where its feed is not loaded, and the line on the error stream that says why a
+//! feed is refused.
 
 ghost use Rattle.std.specs.Prelude.{◌≡◌, IfOk, string_bytes};
-ghost use Rattle.commands.specs.Statuses.{cause_words, what_word, refusal_line};
+ghost use Rattle.commands.specs.LineTasks.{long_line};
+ghost use Rattle.commands.specs.Statuses.{IsFeedStop, cause_words, what_word, refusal_line};
 
-use gtfs_tables::{Cause, FeedRefusal};
+use crate::status::Stop;
+use gtfs_tables::{Cause, FeedError, FeedRefusal};
+use information_service::LinesFault;
 use mt_base::memory::OutOfMemory;
 use mt_base::tables::What;
 use std::alloc::Global;
@@ -40,7 +44,7 @@ fn what_word(what: What) -> &'static str
 }
 
 /// The line that says why a feed is refused.
-pub(crate) fn refusal_line(alloc: Global, why: &FeedRefusal) -> Result<String, OutOfMemory>
+fn refusal_line(alloc: Global, why: &FeedRefusal) -> Result<String, OutOfMemory>
     ensures { IfOk result (λ line. string_bytes line ≡ refusal_line why.now) }
 {
     match why {
@@ -59,8 +63,28 @@ pub(crate) fn refusal_line(alloc: Global, why: &FeedRefusal) -> Result<String, O
         FeedRefusal::TooMany { what } => {
             format!(in alloc; "traind: feed refused: too many {}\n", what_word(*what))
         }
-        FeedRefusal::TooLong { table } => {
-            format!(in alloc; "traind: feed refused: {} is too long\n", table.name())
-        }
+        FeedRefusal::TooLong { table } => long_line(alloc, table.name()),
+    }
+}
+
+/// The line that says that a table has too many bytes.
+pub(crate) fn long_line(alloc: Global, name: &str) -> Result<String, OutOfMemory>
+    ensures { IfOk result (λ line. string_bytes line ≡ long_line name.now) }
+{
+    format!(in alloc; "traind: feed refused: {name} is too long\n")
+}
+
+/// Why a run stops where its feed is not loaded. A refusal is told by its line, unless there is no
+/// memory for that.
+pub(crate) fn feed_stop(alloc: Global, error: FeedError) -> Stop
+    ensures { IsFeedStop error result }
+{
+    match error {
+        FeedError::Refused(why) => match refusal_line(alloc, &why) {
+            Ok(line) => Stop::Refused(line.into_bytes()),
+            Err(_) => Stop::Fault(LinesFault::OutOfMemory),
+        },
+        FeedError::ReadFault => Stop::Fault(LinesFault::ReadFault),
+        FeedError::OutOfMemory => Stop::Fault(LinesFault::OutOfMemory),
     }
 }

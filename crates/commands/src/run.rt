@@ -5,15 +5,21 @@ ghost use Rattle.command_words.specs.GenWords.{is_gen};
 ghost use Rattle.commands.specs.Contract.{EndsAs, MeetsContract, byte_budget};
 ghost use Rattle.commands.specs.Seen.{feed_seen, stream_seen};
 ghost use Rattle.commands.specs.GenContract.{MeetsGenContract};
-ghost use Rattle.commands.specs.Runs.{AskFor, line_output, output_of};
+ghost use Rattle.commands.specs.Runs.{AskFor};
+ghost use Rattle.commands.specs.LineTasks.{line_task};
+ghost use Rattle.commands.specs.Tasks.{feed_task};
 
-use crate::feed::{load_service, load_timetable};
+use crate::beginning::begin;
+use crate::feed::{load_asked, load_service};
 use crate::generated::run_gen;
-use crate::status::{Fault, Status};
+use crate::loading::LoadBehind;
+use crate::refusal::feed_stop;
+use crate::status::{Status, Stop, run_of};
 use crate::telling::tell;
 use command_words::{Command, is_gen, read_words};
 use information_service::{AnswerLines, answer_input, write_output};
 use mt_io::{Feed, Gate, Sink, Source};
+use query_crew::{CrewPlan, Setting};
 use snapshot_board::NewHistory;
 use std::alloc::Global;
 use std::marker::Brand;
@@ -29,10 +35,10 @@ fn times_words<F: Feed, S: Source, K: Sink>(
     input: &mut S,
     out: &mut K,
     budget: u64,
-) -> Result<(), Fault>
+) -> Result<(), Stop>
     requires command { AskFor Command.Times (map string_bytes words.now) }
 
-    ensures run { EndsAs output_of budget (map string_bytes words.now)
+    ensures run { EndsAs feed_task budget (map string_bytes words.now)
         (feed_seen F.tables F.faults feed.old feed.new)
         (stream_seen S.left S.faults input.old input.new)
         (stream_seen K.written K.faults out.old out.new)
@@ -40,11 +46,13 @@ fn times_words<F: Feed, S: Source, K: Sink>(
 {
     let asked = match read_words(alloc, words) {
         Ok(asked) => asked,
-        Err(fault) => return Err(Fault::from(fault)),
+        Err(fault) => return Err(Stop::from(fault)),
     };
-    let mut service = load_service(alloc, &asked, feed)?;
-    write_output(alloc, &mut service, input, out, budget)?;
-    Ok(())
+    let mut service = match load_service(alloc, &asked, feed) {
+        Ok(service) => service,
+        Err(error) => return Err(feed_stop(alloc, error)),
+    };
+    run_of(write_output(alloc, &mut service, input, out, budget))
 }
 
 /// The same for `serve`.
@@ -57,10 +65,10 @@ fn serve_words<R: Threads + Wait + Sync, F: Feed, S: Source, K: Sink, G: Gate + 
     out: &mut K,
     gate: &G,
     budget: u64,
-) -> Result<(), Fault>
+) -> Result<(), Stop>
     requires command { AskFor Command.Serve (map string_bytes words.now) }
 
-    ensures run { EndsAs output_of budget (map string_bytes words.now)
+    ensures run { EndsAs feed_task budget (map string_bytes words.now)
         (feed_seen F.tables F.faults feed.old feed.new)
         (stream_seen S.left S.faults input.old input.new)
         (stream_seen K.written K.faults out.old out.new)
@@ -68,68 +76,71 @@ fn serve_words<R: Threads + Wait + Sync, F: Feed, S: Source, K: Sink, G: Gate + 
 {
     let asked = match read_words(alloc, words) {
         Ok(asked) => asked,
-        Err(fault) => return Err(Fault::from(fault)),
+        Err(fault) => return Err(Stop::from(fault)),
     };
-    let loaded = load_timetable(
-        alloc,
-        asked.folder,
-        asked.first,
-        asked.days,
-        &asked.zone,
-        &asked.opts,
-        feed,
-    )?;
-    write_windows::<Brand, R, S, K, G>(
-        rt,
-        alloc,
+    let loaded = match load_asked(alloc, &asked, feed) {
+        Ok(loaded) => loaded,
+        Err(error) => return Err(feed_stop(alloc, error)),
+    };
+    let setting = Setting { rt, alloc, gate };
+    let plan = CrewPlan {
+        timetable: loaded.timetable,
+        directory: loaded.directory,
+        workers: asked.workers,
+    };
+    run_of(write_windows::<Brand, R, S, K, G>(
+        &setting,
         NewHistory::new(),
-        loaded.timetable,
-        loaded.directory,
-        asked.workers,
+        plan,
         input,
         out,
-        gate,
         budget,
-    )?;
-    Ok(())
+    ))
 }
 
-/// Reads the words of a command that answers line by line, loads the feed that they ask for, and
-/// answers the input. `kept` is what the command keeps beside the timetable and its names.
-fn answer_words<T: AnswerLines<C>, C, F: Feed, S: Source, K: Sink>(
+/// The same for a command that answers line by line, with what it loads behind the feed.
+fn answer_words<T: AnswerLines<C>, L: LoadBehind<C>, C: Drop, F: Feed, S: Source, K: Sink>(
     alloc: Global,
     words: &[String],
-    kept: &mut C,
     feed: &mut F,
     input: &mut S,
     out: &mut K,
     budget: u64,
-) -> Result<(), Fault>
-    ensures run { EndsAs (λ asked. line_output T.output kept.old) budget
-        (map string_bytes words.now)
+) -> Result<(), Stop>
+    ensures run { EndsAs (line_task L.behind T.output) budget (map string_bytes words.now)
         (feed_seen F.tables F.faults feed.old feed.new)
         (stream_seen S.left S.faults input.old input.new)
         (stream_seen K.written K.faults out.old out.new)
         feed.old feed.new input.old input.new out.old out.new result }
 {
-    T::networks_are_written_alike();
-    let asked = match read_words(alloc, words) {
-        Ok(asked) => asked,
-        Err(fault) => return Err(Fault::from(fault)),
-    };
-    let mut service = load_service(alloc, &asked, feed)?;
-    answer_input::<T, C, S, K>(alloc, &mut service, kept, input, out, budget)?;
-    Ok(())
+    let mut begun = begin::<T, L, C, F>(alloc, words, feed)?;
+    run_of(answer_input::<T, C, S, K>(
+        alloc,
+        &mut begun.service,
+        &mut begun.kept,
+        input,
+        out,
+        budget,
+    ))
 }
 
 /// All that the program does for a command that answers line by line, by the words and options of
-/// `times`: it reads the tables of the feed, and answers each line of the input at once, as `T`
-/// says, with what stands before the first line and behind the last. It stops where `budget` bytes
-/// of the input were taken and no end was read. It waits for nobody and returns.
-pub fn run_lines<T: AnswerLines<C>, C, F: Feed, S: Source, K: Sink, E: Sink>(
+/// `times`: it reads the tables of the feed and, as `L` says, a table of the feed's folder that is
+/// the command's own, and begins with what it makes of them, or refuses them. Then it answers each
+/// line of the input at once, as `T` says, with what stands before the first line and behind the
+/// last. It stops where `budget` bytes of the input were taken and no end was read. It waits for
+/// nobody and returns.
+pub fn run_lines<
+    T: AnswerLines<C>,
+    L: LoadBehind<C>,
+    C: Drop,
+    F: Feed,
+    S: Source,
+    K: Sink,
+    E: Sink,
+>(
     alloc: Global,
     words: &[String],
-    kept: &mut C,
     feed: &mut F,
     input: &mut S,
     out: &mut K,
@@ -137,7 +148,7 @@ pub fn run_lines<T: AnswerLines<C>, C, F: Feed, S: Source, K: Sink, E: Sink>(
     budget: u64,
 ) -> Status
     requires budget { 1 ≤ budget }
-    ensures contract { MeetsContract (λ asked. line_output T.output kept.old) budget
+    ensures contract { MeetsContract (line_task L.behind T.output) budget
         (map string_bytes words.now)
         (feed_seen F.tables F.faults feed.old feed.new)
         (stream_seen S.left S.faults input.old input.new)
@@ -145,8 +156,8 @@ pub fn run_lines<T: AnswerLines<C>, C, F: Feed, S: Source, K: Sink, E: Sink>(
         (stream_seen E.written E.faults err.old err.new)
         feed.old feed.new input.old input.new out.old out.new result }
 {
-    let run = answer_words::<T, C, F, S, K>(alloc, words, kept, feed, input, out, budget);
-    tell(alloc, run, err)
+    let run = answer_words::<T, L, C, F, S, K>(alloc, words, feed, input, out, budget);
+    tell(&run, err)
 }
 
 /// All that the program does for `times`. It reads the tables of the feed, answers each line of the
@@ -164,7 +175,7 @@ pub fn run_times<F: Feed, S: Source, K: Sink, E: Sink>(
 ) -> Status
     requires command { AskFor Command.Times (map string_bytes words.now) }
     requires budget { 1 ≤ budget }
-    ensures contract { MeetsContract output_of budget (map string_bytes words.now)
+    ensures contract { MeetsContract feed_task budget (map string_bytes words.now)
         (feed_seen F.tables F.faults feed.old feed.new)
         (stream_seen S.left S.faults input.old input.new)
         (stream_seen K.written K.faults out.old out.new)
@@ -172,7 +183,7 @@ pub fn run_times<F: Feed, S: Source, K: Sink, E: Sink>(
         feed.old feed.new input.old input.new out.old out.new result }
 {
     let run = times_words(alloc, words, feed, input, out, budget);
-    tell(alloc, run, err)
+    tell(&run, err)
 }
 
 /// All that the program does for `serve`.
@@ -189,7 +200,7 @@ fn run_serve<R: Threads + Wait + Sync, F: Feed, S: Source, K: Sink, E: Sink, G: 
 ) -> Status
     requires command { AskFor Command.Serve (map string_bytes words.now) }
     requires budget { 1 ≤ budget }
-    ensures contract { MeetsContract output_of budget (map string_bytes words.now)
+    ensures contract { MeetsContract feed_task budget (map string_bytes words.now)
         (feed_seen F.tables F.faults feed.old feed.new)
         (stream_seen S.left S.faults input.old input.new)
         (stream_seen K.written K.faults out.old out.new)
@@ -197,7 +208,7 @@ fn run_serve<R: Threads + Wait + Sync, F: Feed, S: Source, K: Sink, E: Sink, G: 
         feed.old feed.new input.old input.new out.old out.new result }
 {
     let run = serve_words(rt, alloc, words, feed, input, out, gate, budget);
-    tell(alloc, run, err)
+    tell(&run, err)
 }
 
 /// Whether the first word is `times`.
@@ -239,7 +250,7 @@ pub fn traind_within<
 
     // every command but `gen`
     ensures contract { is_gen (map string_bytes words.now) ≡ false
-        → MeetsContract output_of budget (map string_bytes words.now)
+        → MeetsContract feed_task budget (map string_bytes words.now)
         (feed_seen F.tables F.faults feed.old feed.new)
         (stream_seen S.left S.faults input.old input.new)
         (stream_seen K.written K.faults out.old out.new)
@@ -280,7 +291,7 @@ pub fn traind<R: Threads + Wait + Sync, F: Feed, S: Source, K: Sink, E: Sink, G:
 ) -> Status
     // every command but `gen`
     ensures contract { is_gen (map string_bytes words.now) ≡ false
-        → MeetsContract output_of byte_budget (map string_bytes words.now)
+        → MeetsContract feed_task byte_budget (map string_bytes words.now)
         (feed_seen F.tables F.faults feed.old feed.new)
         (stream_seen S.left S.faults input.old input.new)
         (stream_seen K.written K.faults out.old out.new)

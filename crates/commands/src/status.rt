@@ -1,10 +1,10 @@
 //! How a run ends.
 
 ghost use Rattle.std.specs.Prelude.{◌≡◌};
-ghost use Rattle.commands.specs.Statuses.{error_line, number_of, status_of};
+ghost use Rattle.commands.specs.Statuses.{error_line, line_of, number_of, run_of, status_of};
 
+use crate::loading::LoadFault;
 use command_words::WordsFault;
-use gtfs_tables::{FeedError, FeedRefusal};
 use information_service::LinesFault;
 use mt_io::Failed;
 use std::alloc::AllocError;
@@ -65,95 +65,112 @@ impl Status {
     }
 }
 
-/// Why a run of the command stops before its end.
-#[derive(Clone, Copy, Debug, PartialEq, Eq)]
-pub(crate) enum Fault {
+/// Why a run stops before its end.
+#[derive(Debug, Drop)]
+pub(crate) enum Stop {
+    /// The words are none that the program knows.
     Usage,
-    FeedRefused(FeedRefusal),
-    ReadFault,
-    WriteFault,
-    OutOfMemory,
-    TooLong,
+    /// What the words ask for is refused, with this line on the error stream.
+    Refused(Vec<u8>),
+    /// A read or a write failed, there was no memory, or the input is too long.
+    Fault(LinesFault),
 }
 
-/// The status of a run of the command.
-pub(crate) fn status_of(run: Result<(), Fault>) -> Status
-    ensures { result ≡ status_of run }
+impl Stop {
+    /// The status of a run that stops for this.
+    pub(crate) fn status(&self) -> Status
+        ensures { result ≡ status_of self.now }
+    {
+        match self {
+            Stop::Usage => Status::Usage,
+            Stop::Refused(_) => Status::FeedRefused,
+            Stop::Fault(LinesFault::ReadFault) => Status::ReadFault,
+            Stop::Fault(LinesFault::WriteFault) => Status::WriteFault,
+            Stop::Fault(LinesFault::OutOfMemory) => Status::OutOfMemory,
+            Stop::Fault(LinesFault::TooLong) => Status::TooLong,
+        }
+    }
+
+    /// The line on the error stream.
+    pub(crate) fn line(&self) -> &[u8]
+        ensures { result.now ≡ line_of self.now }
+    {
+        match self {
+            Stop::Refused(line) => line.as_slice(),
+            _ => self.status().error_line(),
+        }
+    }
+}
+
+/// How a run ends whose lines ended so.
+pub(crate) fn run_of(answered: Result<(), LinesFault>) -> Result<(), Stop>
+    ensures { result ≡ run_of answered }
 {
-    match run {
-        Ok(()) => Status::Ok,
-        Err(Fault::Usage) => Status::Usage,
-        Err(Fault::FeedRefused(_)) => Status::FeedRefused,
-        Err(Fault::ReadFault) => Status::ReadFault,
-        Err(Fault::WriteFault) => Status::WriteFault,
-        Err(Fault::OutOfMemory) => Status::OutOfMemory,
-        Err(Fault::TooLong) => Status::TooLong,
+    match answered {
+        Ok(()) => Ok(()),
+        Err(fault) => Err(Stop::Fault(fault)),
     }
 }
 
-impl From<AllocError> for Fault {
+impl From<AllocError> for Stop {
     ghost use Rattle.std.specs.Prelude.{◌≡◌};
-    ghost use Rattle.commands.specs.declared.status.Fault.TheVariants.{OutOfMemory};
+    ghost use Rattle.information_service.specs.declared.fault.LinesFault.TheVariants.{OutOfMemory};
+    ghost use Rattle.commands.specs.declared.status.Stop.TheVariants.{Fault};
 
-    ghost from_gives = { λ _ e. e ≡ OutOfMemory };
+    ghost from_gives = { λ _ e. e ≡ Fault OutOfMemory };
 
-    fn from(_want: AllocError) -> Fault {
-        Fault::OutOfMemory
+    fn from(_want: AllocError) -> Stop {
+        Stop::Fault(LinesFault::OutOfMemory)
     }
 }
 
-impl From<Failed> for Fault {
+impl From<Failed> for Stop {
     ghost use Rattle.std.specs.Prelude.{◌≡◌};
-    ghost use Rattle.commands.specs.declared.status.Fault.TheVariants.{WriteFault};
+    ghost use Rattle.information_service.specs.declared.fault.LinesFault.TheVariants.{WriteFault};
+    ghost use Rattle.commands.specs.declared.status.Stop.TheVariants.{Fault};
 
-    ghost from_gives = { λ _ e. e ≡ WriteFault };
+    ghost from_gives = { λ _ e. e ≡ Fault WriteFault };
 
-    fn from(_failed: Failed) -> Fault {
-        Fault::WriteFault
+    fn from(_failed: Failed) -> Stop {
+        Stop::Fault(LinesFault::WriteFault)
     }
 }
 
-impl From<FeedError> for Fault {
+impl From<WordsFault> for Stop {
     ghost use Rattle.std.specs.Prelude.{◌≡◌};
-    ghost use Rattle.commands.specs.Statuses.{feed_fault};
+    ghost use Rattle.commands.specs.Statuses.{words_stop};
 
-    ghost from_gives = { λ error e. e ≡ feed_fault error };
+    ghost from_gives = { λ fault e. e ≡ words_stop fault };
 
-    fn from(error: FeedError) -> Fault {
-        match error {
-            FeedError::Refused(why) => Fault::FeedRefused(why),
-            FeedError::ReadFault => Fault::ReadFault,
-            FeedError::OutOfMemory => Fault::OutOfMemory,
+    fn from(fault: WordsFault) -> Stop {
+        match fault {
+            WordsFault::Usage => Stop::Usage,
+            WordsFault::OutOfMemory => Stop::Fault(LinesFault::OutOfMemory),
         }
     }
 }
 
-impl From<WordsFault> for Fault {
+impl From<LinesFault> for Stop {
     ghost use Rattle.std.specs.Prelude.{◌≡◌};
-    ghost use Rattle.commands.specs.Statuses.{words_fault};
+    ghost use Rattle.commands.specs.declared.status.Stop.TheVariants.{Fault};
 
-    ghost from_gives = { λ fault e. e ≡ words_fault fault };
+    ghost from_gives = { λ fault e. e ≡ Fault fault };
 
-    fn from(fault: WordsFault) -> Fault {
-        match fault {
-            WordsFault::Usage => Fault::Usage,
-            WordsFault::OutOfMemory => Fault::OutOfMemory,
-        }
+    fn from(fault: LinesFault) -> Stop {
+        Stop::Fault(fault)
     }
 }
 
-impl From<LinesFault> for Fault {
+impl From<LoadFault> for Stop {
     ghost use Rattle.std.specs.Prelude.{◌≡◌};
-    ghost use Rattle.commands.specs.Statuses.{lines_fault};
+    ghost use Rattle.commands.specs.Loading.{load_stop};
 
-    ghost from_gives = { λ fault e. e ≡ lines_fault fault };
+    ghost from_gives = { λ fault e. e ≡ load_stop fault };
 
-    fn from(fault: LinesFault) -> Fault {
+    fn from(fault: LoadFault) -> Stop {
         match fault {
-            LinesFault::ReadFault => Fault::ReadFault,
-            LinesFault::WriteFault => Fault::WriteFault,
-            LinesFault::OutOfMemory => Fault::OutOfMemory,
-            LinesFault::TooLong => Fault::TooLong,
+            LoadFault::Refused(line) => Stop::Refused(line),
+            LoadFault::OutOfMemory => Stop::Fault(LinesFault::OutOfMemory),
         }
     }
 }

@@ -1,3 +1,4 @@
+mod CheckTexts
 mod EventRows
 mod ReplyTexts
 mod RowTexts

@@ -1,3 +1,4 @@
+pub mod Checks
 pub mod Clocks
 pub mod Journeys
 pub mod Replies

@@ -64,7 +64,11 @@ fn ride_value(alloc: Global, dir: &Directory, ride: &PlanRide) -> Result<Value, 
 
 /// The list of the objects for these rides.
 #[tactic(auto, using(crate::proofs::ReplyTexts::rides_listed))]
-fn ride_values(alloc: Global, dir: &Directory, rides: &[PlanRide]) -> Result<Value, OutOfMemory>
+pub(crate) fn ride_values(
+    alloc: Global,
+    dir: &Directory,
+    rides: &[PlanRide],
+) -> Result<Value, OutOfMemory>
     ensures { IfOk result (λ v. view v ≡ array (ride_objects dir.now rides.now)) }
 {
     let mut values = Vec::with_capacity(alloc, rides.len())?;

@@ -1,11 +1,13 @@
 //! The bytes of the replies to lines and of the table of times.
 #![tactic(auto)]
 
+mod checks;
 mod clocks;
 mod journeys;
 mod objects;
 mod replies;
 mod table;
 
+pub use checks::{checked_text, claim_text};
 pub use replies::{Reply, object_text, reply_text};
 pub use table::{times_header, times_rows};

@@ -6,6 +6,7 @@ pub mod InStep
 pub mod Networks
 pub mod OneMore
 pub mod ShortLines
+pub mod Taken
 pub mod TimesAlike
 pub mod TimesReplies
 pub mod WrittenAlike

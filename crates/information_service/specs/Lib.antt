@@ -7,4 +7,5 @@ pub mod Networks
 pub mod Output
 pub mod Seen
 pub mod ServiceState
+pub mod Taking
 pub mod TimesOutput

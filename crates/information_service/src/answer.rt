@@ -8,61 +8,18 @@ ghost use Rattle.message_reader.specs.Wires.{IsLine, IsWire, IsWireQuery};
 ghost use Rattle.mt_io.specs.Lines.{short};
 ghost use Rattle.information_service.specs.Answering.{given_line, HasFewBytes};
 ghost use Rattle.information_service.specs.Output.{reply_to_message, IsReply, IsReplyTo, IsReplyToResolved};
-ghost use Rattle.information_service.specs.ServiceState.{after_line, after_said, after_message};
+ghost use Rattle.information_service.specs.ServiceState.{after_line, after_said};
 
 use crate::answering::InputLine;
-use crate::replies::{add_name, added_name, reply_to_asked, reply_to_refused};
+use crate::replies::reply_to_asked;
 use crate::service::InformationService;
+use crate::taking::{InPlace, take_wire};
 use delay_report::Reply;
-use message_reader::{
-    BadLine, Line, LineError, ResolveError, Wire, WireQuery, read_line, resolve, resolve_query,
-};
+use message_reader::{BadLine, Line, LineError, Wire, WireQuery, read_line, resolve_query};
 use mt_base::memory::OutOfMemory;
 use schedule_build::Directory;
 use std::alloc::{AllocError, Global};
-use std::marker::Brand;
-use std::sync::ledger::{Blank, Ledger};
-use train_nodes::{Msg, Steps};
-
-/// The reply to a message. The steps that it counts are not used.
-fn reply_to_message<L: Ledger>(
-    alloc: Global,
-    service: &mut InformationService,
-    number: u64,
-    wire: &Wire,
-    message: &Msg,
-    blank: Blank,
-) -> Result<Reply, OutOfMemory>
-    // the message that the line says, and room to count it
-    requires resolved { resolved service.old.names wire.now ≡ Ok message.now }
-    requires count { service.old.count < 2 ^ 64 - 1 }
-
-    // the blank has the name and the parts of the ledger
-    requires name { blank.name ≡ L.name }
-    requires parts { blank.parts ≡ L.parts }
-    requires some { 0 < blank.parts }
-
-    // the reply, and the service after it; nothing changes where there is no memory
-    ensures reply { IfOk result (λ r. r ≡ reply_to_message service.old.network service.old.names
-        service.old.state service.old.count number wire.now (Ok message.now)) }
-    ensures next { OnOk result (service.new ≡ after_message service.old wire.now
-        (Ok message.now)) }
-    ensures unchanged { IfErr result (λ _. service.new ≡ service.old) }
-{
-    let name = added_name(alloc, &service.directory, wire)?;
-    let mut steps = Steps::<L>::open(blank);
-    match service.timetable.step(message, &mut steps) {
-        Ok(changed) => {
-            add_name(&mut service.directory, name);
-            Ok(Reply::Accepted {
-                line: number,
-                number: service.timetable.count(),
-                changed,
-            })
-        }
-        Err(refusal) => reply_to_refused(alloc, &service.directory, number, wire, &refusal),
-    }
-}
+use timetable::Timetable;
 
 /// The reply to a message that speaks by names.
 fn reply_to_wire(
@@ -78,21 +35,14 @@ fn reply_to_wire(
     ensures next { OnOk result (service.new ≡ after_said service.old (Ok (Says wire.now))) }
     ensures unchanged { IfErr result (λ _. service.new ≡ service.old) }
 {
-    match resolve(alloc, wire, &service.directory) {
-        Ok(message) => reply_to_message::<Brand>(
-            alloc,
-            service,
-            number,
-            wire,
-            &message,
-            Blank::new(1),
-        ),
-        Err(ResolveError::Refused(refusal)) => Ok(Reply::Refused {
-            line: number,
-            refusal,
-        }),
-        Err(ResolveError::OutOfMemory) => Err(AllocError),
-    }
+    take_wire::<InPlace, Timetable, ()>(
+        alloc,
+        &(),
+        &mut service.timetable,
+        &mut service.directory,
+        number,
+        wire,
+    )
 }
 
 /// The reply to a query by names. Who asks it has no use here.

@@ -10,6 +10,7 @@ mod output;
 mod replies;
 mod service;
 mod table;
+mod taking;
 mod times;
 mod writing;
 
@@ -17,7 +18,8 @@ pub use answering::{AnswerLines, InputLine};
 pub use fault::LinesFault;
 pub use laws::{lines_keep_names_in_step, outputs_differ_in_journeys_alone};
 pub use output::answer_input;
-pub use replies::{add_name, added_name, reply_to_asked, reply_to_refused};
+pub use replies::reply_to_asked;
 pub use service::InformationService;
+pub use taking::{TakeMessages, take_wire};
 pub use times::write_output;
 pub use writing::write_bytes;

@@ -17,7 +17,7 @@ use timetable::Timetable;
 
 /// The name of the train that a message adds, if it adds one. `OutOfMemory` where there is no
 /// memory.
-pub fn added_name(
+pub(crate) fn added_name(
     alloc: Global,
     directory: &Directory,
     wire: &Wire,
@@ -33,7 +33,7 @@ pub fn added_name(
 }
 
 /// Adds the name of an extra train, if there is one.
-pub fn add_name(directory: &mut Directory, name: Option<ExtraName>)
+pub(crate) fn add_name(directory: &mut Directory, name: Option<ExtraName>)
     requires ready { IfSome name (λ n. CanBeAdded directory.old n) }
     ensures { directory.new ≡ with_added name directory.old }
 {
@@ -43,7 +43,7 @@ pub fn add_name(directory: &mut Directory, name: Option<ExtraName>)
 }
 
 /// The reply to a refused message. `OutOfMemory` where there is no memory.
-pub fn reply_to_refused(
+pub(crate) fn reply_to_refused(
     alloc: Global,
     directory: &Directory,
     number: u64,

@@ -1,3 +1,6 @@
+pub mod ClaimLemmas
+pub mod ClaimTexts
 pub mod FewItems
+pub mod ItemLemmas
 pub mod Rest
 pub mod SpelledLemmas

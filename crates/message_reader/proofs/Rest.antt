@@ -22,11 +22,11 @@ count-items [] = refl
 count-items (v ∷ vs) = ap suc (count-items vs)
 
 -- the rest is its first value and the rest after it
-rest_from : (vs : List Value) (i : ℕ) (v : Value) → i < length vs → v ≡ get_or vs i v → items_view (drop i vs) ≡ item (view v) (items_view (drop (i + 1) vs))
+pub rest_from : (vs : List Value) (i : ℕ) (v : Value) → i < length vs → v ≡ get_or vs i v → items_view (drop i vs) ≡ item (view v) (items_view (drop (i + 1) vs))
 rest_from vs i v lt is = rw add-one (ap items_view (drop-cons vs i v lt) ∙ ap (λ (w : Value). item (view w) (items_view (drop (suc i) vs))) (sym is))
 
 -- the cause of a step that fails is the cause of the whole
-cause_of_step : {A B C : Type 0} (cause : Option C) (r : Result A C) (f : A → Result B C) (total : Result B C) → IsCauseOf cause r → (r >>= f) ≡ total → IsCauseOf cause total
+pub cause_of_step : {A B C : Type 0} (cause : Option C) (r : Result A C) (f : A → Result B C) (total : Result B C) → IsCauseOf cause r → (r >>= f) ≡ total → IsCauseOf cause total
 cause_of_step None r f total h whole = tt
 cause_of_step (Some cause) r f total h whole = sym whole ∙ ap (λ x. x >>= f) h
 
@@ -54,7 +54,7 @@ shape_is_done vs i total le so_far = sym (ap (λ (ws : List Value). calls_shape 
 abbrev pub with_front : {X E : Type 0} → List X → Result (List X) E → Result (List X) E
 with_front front read = read >>= λ calls. Ok (front ++ calls)
 
-regroup : {X E : Type 0} (front : List X) (call : X) (read : Result (List X) E) → with_front front (read >>= λ calls. Ok (call ∷ calls)) ≡ with_front (front ++ call ∷ []) read
+pub regroup : {X E : Type 0} (front : List X) (call : X) (read : Result (List X) E) → with_front front (read >>= λ calls. Ok (call ∷ calls)) ≡ with_front (front ++ call ∷ []) read
 regroup {X = X} front call (Ok calls) = ap (λ (all : List X). Ok all) (simp append_assoc)
 regroup front call (Err e) = refl
 
@@ -84,7 +84,7 @@ calls_are_done front vs i total le so_far =
 -- ---- the calls by number
 
 -- the rest is its first call and the rest after it
-calls_from : (cs : List WireCall) (i : ℕ) (c : WireCall) → i < length cs → c ≡ get_or cs i c → drop i cs ≡ c ∷ drop (i + 1) cs
+pub calls_from : (cs : List WireCall) (i : ℕ) (c : WireCall) → i < length cs → c ≡ get_or cs i c → drop i cs ≡ c ∷ drop (i + 1) cs
 calls_from cs i c lt is = rw add-one (drop-cons cs i c lt ∙ ap (λ (d : WireCall). d ∷ drop (suc i) cs) (sym is))
 
 pub new_calls_go_on : (names : Names) (day : ℕ) (front : List NewCall) (cs : List WireCall) (i : ℕ) (c : WireCall) (call : NewCall) (total : Result (List NewCall) Refusal)

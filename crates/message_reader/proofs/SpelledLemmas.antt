@@ -27,15 +27,15 @@ use Rattle.message_reader.specs.ResolvedQueries.{stop_or_station_named, query_re
 use Rattle.message_reader.specs.Spelled.{time_text, date_text, ref_object, call_object, call_objects, object_of, query_object, IsVersion, CanBeSaidIn, HasLabels}
 use Rattle.message_reader.specs.Wires.{IsWireCall, IsProper}
 
-digit_back : (k : ℕ) → k < 10 → digit (48 + k) ≡ Some k
+pub digit_back : (k : ℕ) → k < 10 → digit (48 + k) ≡ Some k
 digit_back k lt = grind (arith, nat_tests)
 
-two_back : (n : ℕ) → n < 100 → two (48 + n / 10) (48 + n % 10) ≡ Some n
+pub two_back : (n : ℕ) → n < 100 → two (48 + n / 10) (48 + n % 10) ≡ Some n
 two_back n lt =
     let sum : 10 * (n / 10) + n % 10 ≡ n = omega arith in
     rw (digit_back (n / 10) (omega arith), digit_back (n % 10) (omega arith)) (ap (λ (m : ℕ). Some m) sum)
 
-below_back : (n : ℕ) → n < 60 → below 60 n ≡ Some n
+pub below_back : (n : ℕ) → n < 60 → below 60 n ≡ Some n
 below_back n lt = grind (arith, nat_tests)
 
 pub times_back : (s : ℕ) → s ≤ 359999 → seconds_of (time_text s) ≡ Some s
@@ -59,12 +59,12 @@ dates_back date civil =
     let sum : 1000000 * (date / 1000000) + 10000 * (date / 10000 % 100) + 100 * (date / 100 % 100) + date % 100 ≡ date = omega arith in
     rw (two_back (date / 1000000) (omega arith), two_back (date / 10000 % 100) (omega arith), two_back (date / 100 % 100) (omega arith), two_back (date % 100) (omega arith), sum, civil_tested date civil) refl
 
-label_back : (n : ℕ) → n < 2 ^ 32 → below (2 ^ 32) n ≡ Some n
+pub label_back : (n : ℕ) → n < 2 ^ 32 → below (2 ^ 32) n ≡ Some n
 label_back n lt = grind (arith, nat_tests)
 
 -- ---- messages
 
-version_tested : (v : ℕ) → IsVersion v → ((v == 1) || (v == 2)) ≡ true
+pub version_tested : (v : ℕ) → IsVersion v → ((v == 1) || (v == 2)) ≡ true
 version_tested v (inl one) = rw one refl
 version_tested v (inr two) = rw two refl
 

@@ -9,3 +9,7 @@ pub mod Lines
 pub mod Spelled
 pub mod Resolved
 pub mod ResolvedQueries
+pub mod Items
+pub mod Claims
+pub mod CheckLines
+pub mod SpelledClaims

@@ -4,6 +4,11 @@
 
 mod bad_line;
 mod calls;
+mod check_lines;
+mod claim_reached;
+mod claim_rides;
+mod claim_times;
+mod claims;
 mod connections;
 mod events;
 mod fields;
@@ -12,6 +17,7 @@ mod laws;
 mod lines;
 mod numbers;
 mod queries;
+mod resolve_claims;
 mod resolve_error;
 mod resolve_messages;
 mod resolve_queries;
@@ -19,11 +25,15 @@ mod routes;
 mod wire;
 
 pub use bad_line::{BadLine, LineError};
+pub use check_lines::{CheckLine, read_check_line};
+pub use claims::{Claim, ClaimRide};
 pub use laws::{
-    dates_are_read_back, messages_are_read_back, queries_are_read_back, queries_are_resolved,
-    times_are_read_back,
+    claim_times_are_read_back, claims_are_no_other_lines, claims_are_read_back,
+    dates_are_read_back, lines_are_the_same_to_check, messages_are_read_back,
+    queries_are_read_back, queries_are_resolved, times_are_read_back,
 };
 pub use lines::read_line;
+pub use resolve_claims::resolve_claim;
 pub use resolve_error::ResolveError;
 pub use resolve_messages::resolve;
 pub use resolve_queries::{AskedQuery, resolve_query};

@@ -20,7 +20,7 @@ use serde_json::Value;
 use std::alloc::Global;
 use train_nodes::kinds::ValueKind;
 
-fn utf8(bytes: &[u8]) -> Result<&str, BadLine>
+pub(crate) fn utf8(bytes: &[u8]) -> Result<&str, BadLine>
     ensures exact { result_map_both (λ s. s.now) (λ bad. bad) result ≡ utf8_of bytes.now }
     ensures same { IfOk result (λ s. s.now ≡ bytes.now) }
 {
@@ -30,7 +30,7 @@ fn utf8(bytes: &[u8]) -> Result<&str, BadLine>
     }
 }
 
-fn json(alloc: Global, text: &str) -> Result<Value, LineError>
+pub(crate) fn json(alloc: Global, text: &str) -> Result<Value, LineError>
     requires few { length text.now < 2 ^ 31 }
     ensures exact { GivesAs bad_in view result (json_of text.now) }
     ensures few { IfOk result (λ value. HasFewItems (view value)) }
@@ -79,7 +79,7 @@ fn message(alloc: Global, kind: Kind, value: &Value) -> Result<Line, LineError>
 }
 
 #[tactic(auto, unfolding(crate::specs::Lines::said_by_value))]
-fn said(alloc: Global, value: &Value) -> Result<Line, LineError>
+pub(crate) fn said(alloc: Global, value: &Value) -> Result<Line, LineError>
     requires few { HasFewItems (view value.now) }
     ensures exact { Gives bad_in result (said_by_value (view value.now)) }
     ensures kept { IfOk result IsLine }

@@ -82,7 +82,7 @@ pub(crate) fn node(dir: &Directory, dep: bool, call: &WireRef) -> Result<Node, R
 
 /// The stop with this id. None where no place has it, and where the place is no stop.
 #[tactic(auto, unfolding(crate::specs::Resolved::stop_named))]
-fn stop(dir: &Directory, id: &str) -> Option<StopNo>
+pub(crate) fn stop(dir: &Directory, id: &str) -> Option<StopNo>
     ensures { result ≡ stop_named dir.now id.now }
 {
     let place = dir.stop(id)?;

@@ -8,7 +8,8 @@ use Rattle.schedule_build.specs.InStep.{AreInStep}
 use Rattle.query_crew.specs.declared.worker.Worker.{Worker}
 use Rattle.query_crew.specs.Posted.{HasSearchRoom, IsRoomFor}
 use Rattle.conn_scan.specs.ScratchState.{ScratchRoom}
-use Rattle.query_crew.specs.Posting.{HasService, service_with}
+use Rattle.information_service.specs.Taking.{service_with}
+use Rattle.query_crew.specs.Posting.{HasService}
 
 pub room-more : {V : Type 0} (ws : List (Worker V)) (w : Worker V) (room : ScratchRoom) → All (λ x. x.scratch.room ≡ room) ws → w.scratch.room ≡ room → All (λ x. x.scratch.room ≡ room) (ws ++ w ∷ [])
 room-more ws w room before here = All-append (λ x. x.scratch.room ≡ room) ws (w ∷ []) before (All-cons (λ x. x.scratch.room ≡ room) w [] here (All-nil (λ x. x.scratch.room ≡ room)))

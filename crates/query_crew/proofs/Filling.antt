@@ -4,9 +4,15 @@ use Rattle.std.proofs.Common.{nat_eq}
 use Rattle.std.proofs.lemmas.List.{map-append}
 use Rattle.mt_io.specs.Reader.{work}
 use Rattle.mt_io.proofs.Gives.{gives_nothing}
-use Rattle.query_crew.specs.declared.reading.WindowEnd.{WindowEnd}
+use Rattle.std.specs.Prelude.{Err, IfErr, Ok, Result, Some}
+use Rattle.std.specs.Result.{IsErrAnd}
+use Rattle.information_service.specs.Causes.{reads_failed}
+use Rattle.information_service.specs.declared.fault.LinesFault.{LinesFault}
+use Rattle.information_service.specs.declared.fault.LinesFault.TheVariants as faults
+use Rattle.mt_io.specs.Causes.{Faults}
+use Rattle.mt_io.specs.Reader.{IsDone}
 use Rattle.query_crew.specs.declared.reading.WindowEnd.TheVariants as ends
-use Rattle.query_crew.specs.Reading.{StopsAt, IsOneLine, EndsWindow, IsReadWindow}
+use Rattle.query_crew.specs.Reading.{StopsAt, IsOneLine, IsCutWindow, IsReadWindow, StopsWindow}
 use Rattle.query_crew.proofs.Calls.{gives-both}
 use Rattle.query_crew.proofs.Ends.{shown-flush, none-more, closed-by-flush, closed-by-count, open-lines}
 
@@ -67,20 +73,32 @@ module _ {names : Names} {first mid now : Reader} {left left_mid left_now : Opti
     },
   )
 
-  stopped : (end : WindowEnd) → length lines < 256 → StopsAt end now → EndsWindow end lines first now
-  stopped ends.More few at = absurd at
-  stopped ends.End few at = (open-lines lines few b.no_flush, at)
-  stopped ends.ReadFault few at = (open-lines lines few b.no_flush, at)
-  stopped ends.Budget few at = (open-lines lines few b.no_flush, at)
+  none-taken : more ≡ [] → GivesNext first now left left_now lines
+  none-taken none = subst (GivesNext first now left left_now) (ap (λ (ls : List Line). lines ++ ls) none ∙ append-nil lines) taken-more
 
-  -- no line more
-  pub none-came : (end : WindowEnd) → more ≡ [] → length lines < 256 → StopsAt end now
-      → (all : List Line) × GivesNext first now left left_now all × IsReadWindow names end all window first now
-  none-came end none few at = (
-    lines,
-    subst (GivesNext first now left left_now) (ap (λ (ls : List Line). lines ++ ls) none ∙ append-nil lines) taken-more,
-    record { shown = b.shown; ended = stopped end few at },
-  )
+  -- no line more: the input is at its end
+  pub none-came : more ≡ [] → length lines < 256 → IsDone now → (all : List Line) × GivesNext first now left left_now all × IsReadWindow names ends.End all window first now
+  none-came none few at = (lines, none-taken none, record { shown = b.shown; ended = (open-lines lines few b.no_flush, at) })
+
+  cut : length lines < 256 → IsCutWindow names lines window
+  cut few = record { shown = b.shown; rest = open-lines lines few b.no_flush }
+
+  -- or this is why
+  pub stopped : (fault : LinesFault) → length lines < 256 → StopsAt fault more now → (all : List Line) × GivesNext first now left left_now all × StopsWindow names fault all window now
+  stopped faults.ReadFault few at = (lines, none-taken at.0, (cut few, at.1))
+  stopped faults.WriteFault few at = absurd at
+  stopped faults.OutOfMemory few at = (lines ++ more, taken-more, tt)
+  stopped faults.TooLong few at = (lines, none-taken at.0, (cut few, at.1))
+
+-- what holds of the fault that was handed on
+pub handed-on : {A E : Type 0} (run : Result A E) (f : E) (P : E → Type 0) → IsErrAnd run (λ e. e ≡ f) → P f → IfErr run P
+handed-on (Ok x) f P is p = tt
+handed-on (Err e) f P is p = subst P (sym is) p
+
+-- and how many reads failed then
+pub same-reads : {A : Type 0} (B : Type 0) (run : Result A LinesFault) (f : LinesFault) (first mid now : Faults) → IsErrAnd run (λ e. e ≡ f) → mid ≡ first → Some now ≡ reads_failed {T = B} (Err f) mid → Some now ≡ reads_failed run first
+same-reads B (Ok x) f first mid now is same failed = absurd is
+same-reads B (Err e) f first mid now is same failed = failed ∙ ap (λ (n : Faults). reads_failed {T = B} (Err f) n) same ∙ sym (ap (λ (x : LinesFault). reads_failed {T = B} (Err x) first) is)
 
 -- the window is full
 pub full : {names : Names} {first now : Reader} {left left_now : Option (List ℕ)} {lines : List Line} {window : List WindowLine} → IsBegun names first now left left_now lines window → nat_eq (length window) 256 ≡ true

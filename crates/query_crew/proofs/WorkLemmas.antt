@@ -161,9 +161,9 @@ answered-whole o list number asked t (Ok r) after is = whole-answer o list numbe
 answered-whole o list number asked t (Err e) after is = tt
 
 -- what a worker answered over the list that its viewer saw, if all of it was posted
-pub settled-within : (o : Option TimetableState) (start seen posted : List Message) (first me workers : ℕ) (lines : List WindowLine) (xs : List (Option Reply)) → HasAnsweredAll o seen (length start) first me workers lines xs → IsPrefix seen posted
+pub answered-within : (o : Option TimetableState) (start seen posted : List Message) (first me workers : ℕ) (lines : List WindowLine) (xs : List (Option Reply)) → HasAnsweredAll o seen (length start) first me workers lines xs → IsPrefix seen posted
     → HasAnsweredAll o posted (length start) first me workers lines xs
-settled-within o start seen posted first me workers lines xs worked pre = record {
+answered-within o start seen posted first me workers lines xs worked pre = record {
   answered = record {
     each = λ place line e at_line at_entry. still o seen posted (length start) (first + (place + 1)) (asked_of me workers line) e pre (worked.answered.each place line e at_line at_entry);
     rise = worked.answered.rise;
@@ -172,15 +172,15 @@ settled-within o start seen posted first me workers lines xs worked pre = record
 }
 
 -- what a worker answered that has a viewer, if all that this saw was posted
-pub settled-by-viewer : (o : Option TimetableState) (start posted : List Message) (viewer : Option (Knowledge Message)) (first me workers : ℕ) (lines : List WindowLine) (xs : List (Option Reply)) → HasWorked o start viewer first me workers lines xs
+pub answered-by-viewer : (o : Option TimetableState) (start posted : List Message) (viewer : Option (Knowledge Message)) (first me workers : ℕ) (lines : List WindowLine) (xs : List (Option Reply)) → HasWorked o start viewer first me workers lines xs
     → IsWithin true viewer posted → HasAnsweredAll o posted (length start) first me workers lines xs
-settled-by-viewer o start posted None first me workers lines xs worked within = absurd within
-settled-by-viewer o start posted (Some v) first me workers lines xs worked within = settled-within o start v.seen posted first me workers lines xs worked within
+answered-by-viewer o start posted None first me workers lines xs worked within = absurd within
+answered-by-viewer o start posted (Some v) first me workers lines xs worked within = answered-within o start v.seen posted first me workers lines xs worked within
 
 -- what the publisher answered is not older than the window's start
-pub settled-apart : (o : Option TimetableState) (start posted : List Message) (first me workers : ℕ) (lines : List WindowLine) (xs : List (Option Reply)) → IsPrefix start posted → HasAnsweredAll o posted (length posted) first me workers lines xs
+pub answered-apart : (o : Option TimetableState) (start posted : List Message) (first me workers : ℕ) (lines : List WindowLine) (xs : List (Option Reply)) → IsPrefix start posted → HasAnsweredAll o posted (length posted) first me workers lines xs
     → HasAnsweredAll o posted (length start) first me workers lines xs
-settled-apart o start posted first me workers lines xs later own = record {
+answered-apart o start posted first me workers lines xs later own = record {
   answered = record {
     each = λ place line e at_line at_entry. lower o posted (length posted) (length start) (first + (place + 1)) (asked_of me workers line) e (longer start posted later) (own.answered.each place line e at_line at_entry);
     rise = own.answered.rise;

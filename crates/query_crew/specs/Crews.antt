@@ -1,5 +1,5 @@
 -- What a crew keeps between windows, and what it does with one.
-use Rattle.std.specs.Prelude.{◌≡◌, ◌≤◌, ◌<◌, ◌^◌, ◌++◌, ℕ, List, All, length, vec_len}
+use Rattle.std.specs.Prelude.{◌≡◌, ◌++◌, ℕ, List, All, length}
 use Rattle.std.specs.declared.option.Option.{Option}
 use Rattle.delay_model.specs.declared.messages.Message.{Message}
 use Rattle.delay_model.specs.declared.network.Network.{Network}
@@ -17,14 +17,12 @@ use Rattle.query_crew.specs.Served.{AreWindowReplies}
 use Rattle.query_crew.specs.WindowLines.{window_lines}
 use Rattle.query_crew.specs.declared.window_line.WindowLine.{WindowLine}
 
--- the crew's board stands as a service with the names that are known, there is a worker at least,
--- and each has room for a search between all stops
+-- the crew's board stands as a service with the names that are known, and each worker has room for
+-- a search between all stops
 pub record IsReady (o : Option TimetableState)
     (crew : Crew (List Message) (Knowledge Message)) : Type 0 where
   pub board : HasService o crew.publisher crew.directory
-  pub some : 1 ≤ vec_len crew.workers
-  pub few : vec_len crew.workers < 2 ^ 32
-  pub room : All (λ w. HasSearchRoom o w.scratch.room) crew.workers.items
+  pub room : All (λ w. HasSearchRoom o w.scratch.room) crew.workers
 
 -- these are replies to the lines of a window, of which `first` lines of the input stand before it:
 -- whatever timetable, names and lines before the window the board stands at

@@ -7,5 +7,6 @@ pub mod Posted
 pub mod Posting
 pub mod Working
 pub mod Joining
+pub mod CrewStates
 pub mod Crews
 pub mod Keeping

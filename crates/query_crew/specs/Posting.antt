@@ -4,12 +4,12 @@ use Rattle.std.specs.declared.option.Option.{Option}
 use Rattle.std.specs.List.{filter_map}
 use Rattle.delay_model.specs.declared.messages.Message.{Message}
 use Rattle.delay_model.specs.After.{accepted}
-use Rattle.delay_model.specs.Refusals.{refusal}
 use Rattle.delay_report.specs.declared.replies.Reply.{Reply}
 use Rattle.delay_report.specs.declared.replies.Reply.TheVariants.{Bad, Flush}
 use Rattle.information_service.specs.Lines.{by_names}
 use Rattle.information_service.specs.Output.{reply_to_message}
 use Rattle.information_service.specs.ServiceState.{ServiceState, after_message}
+use Rattle.information_service.specs.Taking.{service_with}
 use Rattle.message_reader.specs.declared.bad_line.BadLine.{BadLine}
 use Rattle.message_reader.specs.declared.resolve_queries.AskedQuery.{AskedQuery}
 use Rattle.message_reader.specs.declared.wire.Wire.{Wire}
@@ -23,11 +23,6 @@ use Rattle.query_crew.specs.Posted.{timetable_after}
 use Rattle.query_crew.specs.WindowLines.{IsWindowLine}
 
 -- ---- the state of a board
-
--- a timetable after so many posted messages, with the names that are known, as a service
-abbrev pub service_with : TimetableState → ℕ → Names → ServiceState
-service_with t count names =
-    record { network = t.network; state = t.state; count = count; names = names }
 
 -- a board to which these messages were posted, with the names that are known, stands as a service
 -- in this state, and its names and its trains are in step
@@ -52,11 +47,14 @@ pub record CanBeRun (o : Option TimetableState) (posted : List Message) (names :
   pub numbers : first + length lines < 2 ^ 64
   pub posts : length posted + length lines < 2 ^ 64
 
--- the message is accepted by the board
-abbrev pub IsAccepted : Option TimetableState → List Message → Message → Type 0
-IsAccepted o posted m =
-    (t : TimetableState) → timetable_after o posted ≡ Some t
-    → refusal t.network t.state m ≡ None
+-- the board has this timetable, after so many messages that were posted to it
+abbrev pub IsTimetableAfter : Option TimetableState → List Message → TimetableState → ℕ → Type 0
+IsTimetableAfter o posted t count =
+    (timetable_after o posted ≡ Some t) × (count ≡ length posted)
+
+-- the message was posted behind the others
+abbrev pub IsPosted : List Message → Message → List Message → Type 0
+IsPosted old m new = new ≡ old ++ m ∷ []
 
 -- ---- what lines do
 

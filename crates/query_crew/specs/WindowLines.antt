@@ -1,5 +1,5 @@
 -- What a line of the input says in a window.
-use Rattle.std.specs.Prelude.{List, map, Bool, true, false, Result, Ok, Err}
+use Rattle.std.specs.Prelude.{List, map, Bool, true, false, is_ok, Result, Ok, Err}
 use Rattle.information_service.specs.Lines.{said_by}
 use Rattle.message_reader.specs.declared.bad_line.BadLine.{BadLine}
 use Rattle.message_reader.specs.declared.wire.Line.{Line as Spoken}
@@ -30,6 +30,13 @@ is_flush_line (shown.Message w) = false
 is_flush_line (shown.Query q) = false
 is_flush_line shown.Flush = true
 is_flush_line (shown.Bad b) = false
+
+-- the line asks something that a worker answers: it is a query, and its line is not bad
+abbrev pub asks : WindowLine → Bool
+asks (shown.Message w) = false
+asks (shown.Query q) = is_ok q.asked
+asks shown.Flush = false
+asks (shown.Bad b) = false
 
 -- the message of the line keeps what every message that is read keeps
 abbrev pub IsWindowLine : WindowLine → Type 0

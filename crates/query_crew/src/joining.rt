@@ -5,7 +5,6 @@ ghost use Rattle.query_crew.specs.declared.window_line.WindowLine.{WindowLine as
 ghost use Rattle.query_crew.specs.Joining.{answer_for, chosen, reply_for, IsSameBehind, AreJoined};
 ghost use Rattle.query_crew.specs.Keeping.{IsKept, AreKept};
 
-use crate::clients::worker_of;
 use crate::window_line::WindowLine;
 use crate::worker::Worker;
 use delay_report::Reply;
@@ -35,7 +34,7 @@ fn take_answer<V: Drop>(all: &mut [Worker<V>], line: &WindowLine, place: usize) 
     ensures kept { AreKept all.old all.new }
 {
     if let WindowLine::Query(query) = line {
-        let me = worker_of(query.client.text(), all.len() as u32) as usize;
+        let me = query.client.worker(all.len() as u32) as usize;
         return take_entry(&mut all[me], place);
     }
     None

@@ -10,13 +10,14 @@ mod laws;
 mod posting;
 mod reading;
 mod served_laws;
+mod setting;
 mod window;
 mod window_line;
 mod window_run;
 mod worker;
 
-pub use clients::worker_of;
-pub use crew::Crew;
+pub use clients::Client;
+pub use crew::{Crew, CrewPlan};
 pub use laws::windows_are_those_of_the_input;
 pub use reading::{WindowEnd, read_window};
 pub use served_laws::{
@@ -25,6 +26,6 @@ pub use served_laws::{
     queries_show_the_count_of_their_state, replies_in_order_are_those_of_a_window,
     single_windows_are_answered_line_by_line,
 };
-pub use window::{LINES_PER_WINDOW, Window};
+pub use setting::Setting;
+pub use window::{LINES_PER_WINDOW, NumberedLines, Window};
 pub use window_line::{ClientQuery, WindowLine};
-pub use worker::Worker;

@@ -75,3 +75,13 @@ impl Window {
         let _ = self.lines.push(line);
     }
 }
+
+/// Lines of a window, with their place in the input.
+#[derive(Clone, Copy)]
+pub struct NumberedLines<'a> {
+    /// The lines, in the order of the input.
+    pub lines: &'a [WindowLine],
+
+    /// How many lines of the input stand before them.
+    pub first: u64,
+}

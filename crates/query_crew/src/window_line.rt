@@ -1,17 +1,18 @@
 //! What a line says in a window.
 
 ghost use Rattle.std.specs.Prelude.{◌≡◌, ◌<◌, ◌^◌, Ok, IfOk, length};
+ghost use Rattle.std.specs.List.{list_any};
 ghost use Rattle.message_reader.specs.ResolvedQueries.{query_resolved};
 ghost use Rattle.message_reader.specs.Wires.{IsLine, IsWireQuery};
 ghost use Rattle.mt_io.specs.Lines.{short};
 ghost use Rattle.information_service.specs.Lines.{said_by};
-ghost use Rattle.query_crew.specs.WindowLines.{window_line, is_flush_line, IsWindowLine};
+ghost use Rattle.query_crew.specs.WindowLines.{window_line, is_flush_line, asks, IsWindowLine};
 
+use crate::clients::Client;
 use message_reader::{
     AskedQuery, BadLine, Line, LineError, Wire, WireQuery, read_line, resolve_query,
 };
 use mt_base::memory::OutOfMemory;
-use mt_base::names::Name;
 use schedule_build::Directory;
 use std::alloc::{AllocError, Global};
 
@@ -19,7 +20,7 @@ use std::alloc::{AllocError, Global};
 #[derive(Drop)]
 pub struct ClientQuery {
     /// Who asks.
-    pub client: Name,
+    pub client: Client,
 
     /// The query with the numbers for which its names stand, or why its line is bad.
     pub asked: Result<AskedQuery, BadLine>,
@@ -45,6 +46,20 @@ impl WindowLine {
     {
         matches!(self, WindowLine::Flush)
     }
+
+    /// Whether it asks something that a worker answers: it is a query, and its line is not bad.
+    fn asks(&self) -> bool
+        ensures { result ≡ asks self.now }
+    {
+        matches!(self, WindowLine::Query(ClientQuery { asked: Ok(_), .. }))
+    }
+}
+
+/// Whether one of the lines asks something that a worker answers.
+pub(crate) fn has_queries(lines: &[WindowLine]) -> bool
+    ensures { result ≡ list_any asks lines.now }
+{
+    lines.iter().any(|line| line.asks())
 }
 
 /// A query, looked up in the directory.
@@ -57,7 +72,7 @@ fn client_query(directory: &Directory, query: WireQuery) -> ClientQuery
 {
     let asked = resolve_query(&query, directory);
     ClientQuery {
-        client: query.client,
+        client: Client::build(query.client),
         asked,
     }
 }

@@ -8,7 +8,8 @@ ghost use Rattle.query_crew.specs.Keeping.{IsKept};
 ghost use Rattle.query_crew.specs.Posted.{HasSearchRoom, IsAnswerAt, IsRoomFor};
 ghost use Rattle.query_crew.specs.Working.{asked_of, IsNewEntry, IsPushed, HasWorked};
 
-use crate::clients::worker_of;
+use crate::setting::Setting;
+use crate::window::NumberedLines;
 use crate::window_line::WindowLine;
 use conn_scan::Scratch;
 use delay_report::Reply;
@@ -27,20 +28,20 @@ use train_nodes::Msg;
 #[derive(Drop)]
 pub struct Worker<V: Drop> {
     /// With what it looks at the timetable, if it has that.
-    pub viewer: Option<V>,
+    pub(crate) viewer: Option<V>,
     /// Room for the search.
-    pub scratch: Scratch,
+    pub(crate) scratch: Scratch,
     /// What was answered to each line of the last window: nothing to a line that is no query of its
     /// clients.
-    pub answers: Vec<Option<Reply>>,
+    pub(crate) answers: Vec<Option<Reply>>,
     /// Whether there was memory for all answers.
-    pub is_whole: bool,
+    pub(crate) is_whole: bool,
 }
 
 impl<V: Drop> Worker<V> {
     /// A worker that has answered nothing, with room for a search between so many stops over
     /// departures with so many numbers. `OutOfMemory` where there is no memory.
-    pub fn build(
+    pub(crate) fn build(
         alloc: Global,
         viewer: Option<V>,
         stops: u32,
@@ -65,7 +66,7 @@ pub(crate) fn asked_by(line: &WindowLine, me: u32, workers: u32) -> Option<Asked
     ensures { result ≡ asked_of me workers line.now }
 {
     if let WindowLine::Query(query) = line
-        && worker_of(query.client.text(), workers) == me
+        && query.client.worker(workers) == me
         && let Ok(asked) = &query.asked
     {
         return Some(*asked);
@@ -75,13 +76,11 @@ pub(crate) fn asked_by(line: &WindowLine, me: u32, workers: u32) -> Option<Asked
 
 /// The answer to a query in the timetable that the viewer is shown, and the scratch.
 fn look_for<H: Opening<Timetable>, R: Wait, G: Gate>(
-    rt: &R,
-    alloc: Global,
+    setting: &Setting<'_, R, G>,
     viewer: &mut Viewer<Timetable, H>,
     scratch: Scratch,
     number: u64,
     asked: &AskedQuery,
-    gate: &G,
 ) -> (Scratch, Result<Reply, OutOfMemory>)
     requires room { HasSearchRoom H.opening scratch.room }
     ensures look { IsLook viewer.old viewer.new }
@@ -89,8 +88,10 @@ fn look_for<H: Opening<Timetable>, R: Wait, G: Gate>(
         number asked.now) }
     ensures room { result.0.room ≡ scratch.room }
 {
+    let alloc = setting.alloc;
+    let gate = setting.gate;
     viewer.look(
-        rt,
+        setting.rt,
         move |timetable: &Timetable, after: u64| -> (Scratch, Result<Reply, OutOfMemory>)
             requires { IsRoomFor timetable.now scratch.room }
             ensures reply { IfOk result.1 (IsReplyToQuery timetable.now.network timetable.now.state
@@ -107,13 +108,11 @@ fn look_for<H: Opening<Timetable>, R: Wait, G: Gate>(
 
 /// The answer to a line, if it asks something, and the scratch.
 fn answer_line<H: Opening<Timetable>, R: Wait, G: Gate>(
-    rt: &R,
-    alloc: Global,
+    setting: &Setting<'_, R, G>,
     viewer: &mut Viewer<Timetable, H>,
     scratch: Scratch,
     number: u64,
     asked: &Option<AskedQuery>,
-    gate: &G,
 ) -> (Scratch, Result<Option<Reply>, OutOfMemory>)
     requires room { HasSearchRoom H.opening scratch.room }
     ensures entry { IfOk result.1 (IsNewEntry H.opening viewer.old.learnt viewer.new.seen number
@@ -123,8 +122,8 @@ fn answer_line<H: Opening<Timetable>, R: Wait, G: Gate>(
     ensures room { result.0.room ≡ scratch.room }
 {
     if let Some(query) = asked {
-        gate.at(Point::BeforeLook { line: number });
-        let (scratch, answer) = look_for(rt, alloc, viewer, scratch, number, query, gate);
+        setting.gate.at(Point::BeforeLook { line: number });
+        let (scratch, answer) = look_for(setting, viewer, scratch, number, query);
         return (scratch, answer.map(Some));
     }
     (scratch, Ok(None))
@@ -143,24 +142,21 @@ pub(crate) fn push_entry(
     }
 }
 
-/// Learns the note, and answers the queries of this worker's clients, in line order. `first` is the
-/// number of lines before the window. A worker without a viewer does nothing.
+/// Learns the note, and answers the queries of this worker's clients, in line order. A worker
+/// without a viewer does nothing.
 pub(crate) fn work<H: Opening<Timetable>, R: Wait, G: Gate>(
-    rt: &R,
-    alloc: Global,
+    setting: &Setting<'_, R, G>,
     worker: Worker<Viewer<Timetable, H>>,
-    lines: &[WindowLine],
-    first: u64,
+    window: &NumberedLines<'_>,
     note: &Note<Msg, H>,
     me: u32,
     workers: u32,
-    gate: &G,
 ) -> Worker<Viewer<Timetable, H>>
     requires some { 1 ≤ workers }
-    requires numbers { first + length lines.now < 2 ^ 64 }
+    requires numbers { window.now.first + length window.now.lines.now < 2 ^ 64 }
     requires room { HasSearchRoom H.opening worker.scratch.room }
-    ensures worked { result.is_whole ≡ true → HasWorked H.opening note.now result.viewer first me
-        workers lines.now result.answers.items }
+    ensures worked { result.is_whole ≡ true → HasWorked H.opening note.now result.viewer
+        window.now.first me workers window.now.lines.now result.answers.items }
     ensures kept { IsKept worker result }
 {
     let Worker {
@@ -180,10 +176,10 @@ pub(crate) fn work<H: Opening<Timetable>, R: Wait, G: Gate>(
     let mut is_whole = true;
     viewer.learn(note.copy());
     answers.clear();
-    for (i, line) in lines.iter().enumerate() {
+    for (i, line) in window.lines.iter().enumerate() {
         let asked = asked_by(line, me, workers);
-        let number = first + i as u64 + 1;
-        let (back, entry) = answer_line(rt, alloc, &mut viewer, scratch, number, &asked, gate);
+        let number = window.first + i as u64 + 1;
+        let (back, entry) = answer_line(setting, &mut viewer, scratch, number, &asked);
         scratch = back;
         if !push_entry(&mut answers, entry) {
             is_whole = false;

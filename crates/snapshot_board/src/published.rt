@@ -2,7 +2,6 @@
 
 ghost use Rattle.std.specs.Prelude.{◌≡◌, [], Some};
 ghost use Rattle.snapshot_board.specs.States.{meaning_after, taken_in};
-ghost use Rattle.snapshot_board.specs.Operations.{applied_to};
 
 use crate::history::{History, Prefix};
 use crate::operation::{Operation, Post};
@@ -39,7 +38,7 @@ pub struct Published<S: Replay, H: Opening<S::State>> {
 // one.
 fn take_message<S: Replay, H: Opening<S::State>>(
     value: &mut S,
-    post: &Post<S::Msg, H>,
+    post: &Post<S, H>,
     other: &Published<S, H>,
 )
     requires { ∥ meaning_after S.after H.opening post.now.before
@@ -65,7 +64,7 @@ impl<S: Replay, H: Opening<S::State>> Published<S, H> {
     }
 
     // Takes the message if it is the next one.
-    fn take_in(&mut self, post: &Post<S::Msg, H>, other: &Published<S, H>)
+    fn take_in(&mut self, post: &Post<S, H>, other: &Published<S, H>)
         ensures { (S.meaning self.new.value, self.new.prefix)
             ≡ taken_in S.after (S.meaning self.old.value, self.old.prefix)
             post.now.message post.now.before }
@@ -77,7 +76,9 @@ impl<S: Replay, H: Opening<S::State>> Published<S, H> {
     }
 }
 
-impl<S: Replay, H: Opening<S::State>> Absorb<Operation<S::Msg, H>> for Published<S, H> {
+impl<S: Replay, H: Opening<S::State>> Absorb<Operation<S, H>> for Published<S, H> {
+    ghost use Rattle.snapshot_board.specs.Operations.{applied_to};
+
     type State = (S::State, LinkedList<S::Msg>);
 
     ghost state = { λ p. (S.meaning p.value, p.prefix) };
@@ -88,7 +89,7 @@ impl<S: Replay, H: Opening<S::State>> Absorb<Operation<S::Msg, H>> for Published
 
     fn absorb_first(
         &mut self,
-        operation: &Operation<S::Msg, H>,
+        operation: &Operation<S, H>,
         other: &Published<S, H>,
     ) -> Result<(), AllocError> {
         match operation {

@@ -1,7 +1,7 @@
 //! The publisher.
 
 ghost use Rattle.std.specs.Prelude.{◌≡◌, ◌+◌, ◌^◌, ◌<◌, ◌++◌, ◌∷◌, [], length, Some, MatchResult};
-ghost use Rattle.snapshot_board.specs.States.{meaning_after};
+ghost use Rattle.snapshot_board.specs.States.{meaning_after, FitsAfter};
 
 use crate::history::{History, HistoryLength, Prefix};
 use crate::note::Note;
@@ -72,11 +72,15 @@ impl<S: Replay, H: Opening<S::State>, A: Allocator> PublisherOver<BoardWriter<S,
         Note::of(self.posted.copy())
     }
 
-    /// Posts a message: the value after it is published. It waits for viewers that look at the
-    /// older copy. `OutOfMemory` where there is no memory: the message is then handed back and the
-    /// board is unchanged; later posts may then find no memory either.
+    /// Posts a message that fits: the value after it is published. It waits for viewers that look
+    /// at the older copy. `OutOfMemory` where there is no memory: the message is then handed back
+    /// and the board is unchanged; later posts may then find no memory either.
     pub fn post<R: Wait>(&mut self, rt: &R, m: S::Msg) -> Result<(), (S::Msg, OutOfMemory)>
-        requires { length self.old + 1 < 2 ^ 64 }
+        // the messages can be counted, and this one fits in the meaning after them
+        requires room { length self.old + 1 < 2 ^ 64 }
+        requires fits { FitsAfter S.after S.fits H.opening self.old m }
+
+        // it is appended, or handed back
         ensures { MatchResult result (λ _. self.new ≡ self.old ++ m ∷ [])
             (λ e. (e.0 ≡ m) × (self.new ≡ self.old)) }
     {

@@ -13,20 +13,14 @@ use std::alloc::{Allocator, Global};
 use std::sync::Wait;
 
 /// The writer of the published copies.
-pub type BoardWriter<S, H, A = Global> = Writer<
-    Published<S, H>,
-    Operation<<S as Replay>::Msg, H>,
-    (),
-    Unruled,
-    A,
->;
+pub type BoardWriter<S, H, A = Global> = Writer<Published<S, H>, Operation<S, H>, (), Unruled, A>;
 
 // The same with the writer by value.
 fn publish_owned<S: Replay, H: Opening<S::State>, A: Allocator, R: Wait>(
     rt: &R,
     writer: BoardWriter<S, H, A>,
-    operation: Operation<S::Msg, H>,
-) -> (BoardWriter<S, H, A>, Result<(), Operation<S::Msg, H>>)
+    operation: Operation<S, H>,
+) -> (BoardWriter<S, H, A>, Result<(), Operation<S, H>>)
     ensures { let old = writer.desk.shown.value in let new = result.0.desk.shown.value in
         let waiting = drop writer.behind writer.log.items in
         let left = drop result.0.behind result.0.log.items in
@@ -51,8 +45,8 @@ fn publish_owned<S: Replay, H: Opening<S::State>, A: Allocator, R: Wait>(
 pub(crate) fn publish<S: Replay, H: Opening<S::State>, A: Allocator, R: Wait>(
     rt: &R,
     writer: &mut BoardWriter<S, H, A>,
-    operation: Operation<S::Msg, H>,
-) -> Result<(), Operation<S::Msg, H>>
+    operation: Operation<S, H>,
+) -> Result<(), Operation<S, H>>
     ensures { let old = writer.old.desk.shown.value in let new = writer.new.desk.shown.value in
         let waiting = drop writer.old.behind writer.old.log.items in
         let left = drop writer.new.behind writer.new.log.items in

@@ -6,3 +6,4 @@ mod Numbers
 pub mod SameSums
 pub mod SumLemmas
 pub mod Written
+pub mod Stops

@@ -15,7 +15,7 @@ use Rattle.mt_io.specs.Lines.{Line}
 use Rattle.schedule_build.specs.Directory.{Names}
 use Rattle.query_crew.specs.Served.{IsQueryReply, IsReplyAt, AreWindowReplies, AreRepliesFrom, text_of_replies, text_from, AreServed, IsServed}
 use Rattle.query_crew.specs.Windows.{windows_of}
-use Rattle.reply_sums.specs.declared.sums.ReplySums.{ReplySums}
+use Rattle.window_service.specs.declared.sums.ReplySums.{ReplySums}
 use Rattle.window_service.specs.Summed.{AreSummed}
 use Rattle.window_service.specs.Whole.{AreWholeWindowsServed}
 

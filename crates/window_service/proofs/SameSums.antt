@@ -17,8 +17,8 @@ use Rattle.message_reader.specs.Lines.{message_in}
 use Rattle.message_reader.specs.ResolvedQueries.{query_resolved}
 use Rattle.query_crew.specs.Served.{IsQueryReply, IsReplyAt, AreWindowReplies, replies_of}
 use Rattle.query_crew.specs.Windows.{windows_of}
-use Rattle.reply_sums.specs.declared.sums.ReplySums.{ReplySums}
-use Rattle.reply_sums.specs.Sums.{added, no_sums, reply_sums, sums_after, with_reply}
+use Rattle.window_service.specs.declared.sums.ReplySums.{ReplySums}
+use Rattle.window_service.specs.Sums.{added, no_sums, reply_sums, sums_after, with_reply}
 use Rattle.window_service.specs.SameSums.{is_query, says_query, AreApart, SumsAreTheSame}
 
 -- each of two earliest journeys arrives no later than the other

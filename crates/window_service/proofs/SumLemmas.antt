@@ -5,8 +5,8 @@ use Rattle.query_crew.specs.Served.{AreWindowReplies, replies_of, text_from}
 use Rattle.query_crew.specs.Windows.{windows_of, with_last}
 use Rattle.query_crew.proofs.Ends.{read-windows}
 use Rattle.query_crew.proofs.ServedLemmas.{counts-along, replies-more}
-use Rattle.reply_sums.specs.declared.sums.ReplySums.{ReplySums}
-use Rattle.reply_sums.specs.Sums.{no_sums, sums_after, sums_over, with_reply}
+use Rattle.window_service.specs.declared.sums.ReplySums.{ReplySums}
+use Rattle.window_service.specs.Sums.{no_sums, sums_after, sums_over, with_reply}
 use Rattle.window_service.specs.Summed.{AreSummed}
 
 module _ (nw : Network) (names : Names) (st : State) where

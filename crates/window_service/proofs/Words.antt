@@ -20,7 +20,8 @@ pub use Rattle.mt_io.specs.Lines.{Line}
 pub use Rattle.mt_io.specs.Reader.{Reader, GivesNext, IsDone, HoldsNoLine}
 pub use Rattle.schedule_build.specs.Directory.{Names}
 pub use Rattle.timetable.specs.TimetableState.{TimetableState}
-pub use Rattle.query_crew.specs.Posting.{StandsAt, HasService, service_with}
+pub use Rattle.query_crew.specs.Posting.{StandsAt, HasService}
+pub use Rattle.information_service.specs.Taking.{service_with}
 pub use Rattle.query_crew.specs.Served.{AreRepliesFrom, AreServed, IsServed, text_of_replies}
 pub use Rattle.query_crew.specs.Windows.{IsClosedWindow, IsOpenWindow}
 pub use Rattle.window_service.specs.Whole.{AreWholeWindowsServed, AppendsServed, AppendsWholeWindows, AppendsFirstWindows, AppendsServedFront}

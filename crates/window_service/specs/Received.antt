@@ -12,8 +12,8 @@ use Rattle.mt_io.specs.Causes.{Faults, no_faults}
 use Rattle.mt_io.specs.Lines.{Line, lines_of as lines_in}
 use Rattle.query_crew.specs.Served.{AreRepliesFrom, AreWindowReplies, text_of_replies}
 use Rattle.query_crew.specs.Windows.{AreReadWindows, IsClosedWindow}
-use Rattle.reply_sums.specs.declared.sums.ReplySums.{ReplySums}
-use Rattle.reply_sums.specs.Sums.{sums_after}
+use Rattle.window_service.specs.declared.sums.ReplySums.{ReplySums}
+use Rattle.window_service.specs.Sums.{sums_after}
 use Rattle.schedule_build.specs.Directory.{Names}
 
 -- ---- outputs. `Receives` says that an output was as the first, received the replies to a window

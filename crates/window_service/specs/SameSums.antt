@@ -9,7 +9,7 @@ use Rattle.message_reader.specs.declared.wire.Line.{Line as Spoken}
 use Rattle.message_reader.specs.declared.wire.Line.TheVariants as says
 use Rattle.mt_io.specs.Lines.{Line}
 use Rattle.query_crew.specs.Windows.{windows_of}
-use Rattle.reply_sums.specs.declared.sums.ReplySums.{ReplySums}
+use Rattle.window_service.specs.declared.sums.ReplySums.{ReplySums}
 use Rattle.schedule_build.specs.Directory.{Names}
 use Rattle.window_service.specs.Summed.{AreSummed}
 

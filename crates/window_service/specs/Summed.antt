@@ -4,8 +4,8 @@ use Rattle.delay_model.specs.declared.network.Network.{Network}
 use Rattle.delay_model.specs.declared.state.State.{State}
 use Rattle.mt_io.specs.Lines.{Line}
 use Rattle.query_crew.specs.Served.{IsServed, replies_of}
-use Rattle.reply_sums.specs.declared.sums.ReplySums.{ReplySums}
-use Rattle.reply_sums.specs.Sums.{sums_over}
+use Rattle.window_service.specs.declared.sums.ReplySums.{ReplySums}
+use Rattle.window_service.specs.Sums.{sums_over}
 use Rattle.schedule_build.specs.Directory.{Names}
 
 -- these are the sums over the replies of an output for these lines, which are all of an input

@@ -16,17 +16,15 @@ use crate::windows::answer_windows;
 use crate::writing::WriteTexts;
 use information_service::LinesFault;
 use mt_io::{Gate, LineReader, Sink, Source};
-use query_crew::Crew;
-use schedule_build::Directory;
+use query_crew::{Crew, CrewPlan, Setting};
 use snapshot_board::{NewHistory, Opening, Publisher, Viewer};
-use std::alloc::Global;
 use std::sync::Wait;
 use std::thread::Threads;
 use timetable::Timetable;
 use train_nodes::Msg;
 
-/// Answers the windows of the input one after another, with so many workers beside the publisher of
-/// the messages, and the output receives the replies to a window when all of it is answered.
+/// Answers the windows of the input one after another, by a crew that is made by the plan, and the
+/// output receives the replies to a window when all of it is answered.
 pub(crate) fn receive_windows<
     H: Opening<Timetable> + Send + Sync,
     T: ReceiveReplies<K>,
@@ -35,64 +33,55 @@ pub(crate) fn receive_windows<
     K,
     G: Gate + Sync,
 >(
-    rt: &R,
-    alloc: Global,
+    setting: &Setting<'_, R, G>,
     history: NewHistory<Msg>,
-    timetable: Timetable,
-    directory: Directory,
-    workers: u32,
+    plan: CrewPlan,
     input: &mut S,
     out: &mut K,
-    gate: &G,
     budget: u64,
 ) -> Result<(), LinesFault>
     // the history of the board that is opened, and how it opens
     requires book { history ≡ H.book }
-    requires opening { H.opening ≡ Some timetable }
+    requires opening { H.opening ≡ Some plan.timetable }
 
     // names and trains are in step, and one to sixteen workers
-    requires in_step { AreInStep directory timetable.state }
-    requires some { 1 ≤ workers }
-    requires few { workers ≤ 16 }
+    requires in_step { AreInStep plan.directory plan.timetable.state }
+    requires some { 1 ≤ plan.workers }
+    requires few { plan.workers ≤ 16 }
 
     // what is received at the end, or where it stops
-    ensures all { OnOk result (IsReceivedWhole T.receives timetable.network directory
-        timetable.state budget (S.left input.old) (S.left input.new) out.old out.new) }
-    ensures stopped { IfErr result (WhereLinesStop (IsReceivedInPart T.receives timetable.network
-        directory timetable.state (S.left input.old) (S.left input.new) out.old out.new)) }
+    ensures all { OnOk result (IsReceivedWhole T.receives plan.timetable.network plan.directory
+        plan.timetable.state budget (S.left input.old) (S.left input.new) out.old out.new) }
+    ensures stopped { IfErr result (WhereLinesStop (IsReceivedInPart T.receives
+        plan.timetable.network plan.directory plan.timetable.state (S.left input.old)
+        (S.left input.new) out.old out.new)) }
     ensures begun { IfErr result (λ f. IsReceivedAtFirst (f ≡ LinesFault.WriteFault) T.receives
-        (T.begins (f ≡ LinesFault.WriteFault)) timetable.network directory timetable.state budget
-        (S.left input.old) (S.left input.new) out.old out.new) }
+        (T.begins (f ≡ LinesFault.WriteFault)) plan.timetable.network plan.directory
+        plan.timetable.state budget (S.left input.old) (S.left input.new) out.old out.new) }
 
     // the faults, and how many bytes are taken
     ensures counts { HasCounts budget result (S.left input.old) (S.left input.new)
         (S.faults input.old) (S.faults input.new) (T.faults out.old) (T.faults out.new)
         (T.is_full out.new) }
 {
-    let mut reader = LineReader::build(alloc, budget)?;
+    let mut reader = LineReader::build(setting.alloc, budget)?;
     let mut crew: Crew<Publisher<Timetable, H>, Viewer<Timetable, H>> = Crew::build(
-        rt, alloc, history, timetable, directory, workers,
+        setting.rt,
+        setting.alloc,
+        history,
+        plan,
     )?;
-    let run = answer_windows::<H, T, R, S, K, G>(
-        rt,
-        alloc,
-        &mut crew,
-        &mut reader,
-        input,
-        out,
-        gate,
-    );
-    crew.close(rt, alloc);
+    let run = answer_windows::<H, T, R, S, K, G>(setting, &mut crew, &mut reader, input, out);
+    crew.close(setting.rt, setting.alloc);
     run
 }
 
-/// Answers the windows of the input one after another, with so many workers beside the publisher of
-/// the messages, and writes the replies to a window when all of it is answered. It fails with
-/// `ReadFault` where a read of the input failed, and with `TooLong` where `budget` bytes of it were
-/// taken and no end was read; then the windows that are whole among the bytes taken are answered,
-/// and no other line is. It fails with `WriteFault` where a write of the output failed, and with
-/// `OutOfMemory` where there was no memory; then a front of an output is written. It takes no more
-/// than `budget` bytes.
+/// Answers the windows of the input one after another, by a crew that is made by the plan, and
+/// writes the replies to a window when all of it is answered. It fails with `ReadFault` where a
+/// read of the input failed, and with `TooLong` where `budget` bytes of it were taken and no end
+/// was read; then the windows that are whole among the bytes taken are answered, and no other line
+/// is. It fails with `WriteFault` where a write of the output failed, and with `OutOfMemory` where
+/// there was no memory; then a front of an output is written. It takes no more than `budget` bytes.
 pub fn write_windows<
     H: Opening<Timetable> + Send + Sync,
     R: Threads + Wait + Sync,
@@ -100,47 +89,41 @@ pub fn write_windows<
     K: Sink,
     G: Gate + Sync,
 >(
-    rt: &R,
-    alloc: Global,
+    setting: &Setting<'_, R, G>,
     history: NewHistory<Msg>,
-    timetable: Timetable,
-    directory: Directory,
-    workers: u32,
+    plan: CrewPlan,
     input: &mut S,
     out: &mut K,
-    gate: &G,
     budget: u64,
 ) -> Result<(), LinesFault>
     // the history of the board that is opened, and how it opens
     requires book { history ≡ H.book }
-    requires opening { H.opening ≡ Some timetable }
+    requires opening { H.opening ≡ Some plan.timetable }
 
     // names and trains are in step, and one to sixteen workers
-    requires in_step { AreInStep directory timetable.state }
-    requires some { 1 ≤ workers }
-    requires few { workers ≤ 16 }
+    requires in_step { AreInStep plan.directory plan.timetable.state }
+    requires some { 1 ≤ plan.workers }
+    requires few { plan.workers ≤ 16 }
 
     // all went well
     ensures ok { OnOk result ((bytes : List ℕ) → S.left input.old ≡ Some bytes
-        → AppendsServed timetable.network directory timetable.state
+        → AppendsServed plan.timetable.network plan.directory plan.timetable.state
         (lines_of true bytes) (K.written out.old) (K.written out.new)) }
     ensures ended { OnOk result (IsAtEnd (S.left input.new)) }
 
     // what is written where the run stops
     ensures stopped { IfErr result (WhereLinesStop ((bytes : List ℕ)
         × Consumes (S.left input.old) (S.left input.new) bytes
-        × AppendsWholeWindows timetable.network directory timetable.state
+        × AppendsWholeWindows plan.timetable.network plan.directory plan.timetable.state
         (lines_of false bytes) (K.written out.old) (K.written out.new))) }
-    ensures front { AppendsServedFront (IsErrOf result LinesFault.WriteFault) timetable.network
-        directory timetable.state budget (S.left input.old) (S.left input.new)
-        (K.written out.old) (K.written out.new) }
+    ensures front { AppendsServedFront (IsErrOf result LinesFault.WriteFault)
+        plan.timetable.network plan.directory plan.timetable.state budget (S.left input.old)
+        (S.left input.new) (K.written out.old) (K.written out.new) }
 
     // the faults, and how many bytes are taken
     ensures counts { HasCounts budget result (S.left input.old) (S.left input.new)
         (S.faults input.old) (S.faults input.new) (K.faults out.old) (K.faults out.new)
         (IsFull (K.faults out.new) (K.written out.new)) }
 {
-    receive_windows::<H, WriteTexts, R, S, K, G>(
-        rt, alloc, history, timetable, directory, workers, input, out, gate, budget,
-    )
+    receive_windows::<H, WriteTexts, R, S, K, G>(setting, history, plan, input, out, budget)
 }

@@ -9,10 +9,11 @@ ghost use Rattle.window_service.specs.Summed.{AreSummed};
 
 use crate::output::receive_windows;
 use crate::receiving::ReceiveReplies;
+use crate::sums::ReplySums;
 use delay_report::Reply;
 use information_service::LinesFault;
 use mt_io::{Gate, Source};
-use reply_sums::ReplySums;
+use query_crew::{CrewPlan, Setting};
 use schedule_build::Directory;
 use snapshot_board::{NewHistory, Opening};
 use std::alloc::Global;
@@ -57,28 +58,25 @@ pub fn sum_windows<
     S: Source,
     G: Gate + Sync,
 >(
-    rt: &R,
-    alloc: Global,
+    setting: &Setting<'_, R, G>,
     history: NewHistory<Msg>,
-    timetable: Timetable,
-    directory: Directory,
-    workers: u32,
+    plan: CrewPlan,
     input: &mut S,
-    gate: &G,
     budget: u64,
 ) -> Result<ReplySums, LinesFault>
     // the history of the board that is opened, and how it opens
     requires book { history ≡ H.book }
-    requires opening { H.opening ≡ Some timetable }
+    requires opening { H.opening ≡ Some plan.timetable }
 
     // names and trains are in step, and one to sixteen workers
-    requires in_step { AreInStep directory timetable.state }
-    requires some { 1 ≤ workers }
-    requires few { workers ≤ 16 }
+    requires in_step { AreInStep plan.directory plan.timetable.state }
+    requires some { 1 ≤ plan.workers }
+    requires few { plan.workers ≤ 16 }
 
     // all went well
     ensures ok { IfOk result (λ sums. (bytes : List ℕ) → S.left input.old ≡ Some bytes
-        → AreSummed timetable.network directory timetable.state (lines_of true bytes) sums) }
+        → AreSummed plan.timetable.network plan.directory plan.timetable.state
+        (lines_of true bytes) sums) }
 
     // the faults, of which no write has any, and how many bytes are taken
     ensures counts { HasCounts budget result (S.left input.old) (S.left input.new)
@@ -86,7 +84,7 @@ pub fn sum_windows<
 {
     let mut sums = ReplySums::none();
     receive_windows::<H, AddReplies, R, S, ReplySums, G>(
-        rt, alloc, history, timetable, directory, workers, input, &mut sums, gate, budget,
+        setting, history, plan, input, &mut sums, budget,
     )?;
     Ok(sums)
 }

@@ -19,16 +19,15 @@ ghost use Rattle.window_service.specs.Runs.{IsAnswered, IsBegun, HasEnded, HasSt
 use crate::receiving::ReceiveReplies;
 use information_service::LinesFault;
 use mt_io::{Gate, LineReader, Source};
-use query_crew::{Crew, Window, WindowEnd, WindowLine, read_window};
+use query_crew::{Crew, NumberedLines, Setting, Window, WindowEnd, read_window};
 use snapshot_board::{Opening, Publisher, Viewer};
-use std::alloc::Global;
 use std::sync::Wait;
 use std::thread::Threads;
 use timetable::Timetable;
 
-/// Runs a window, and the output receives the replies to its lines. `first` is the number of lines
-/// before it. It fails with `WriteFault` where a write of the output failed, and with `OutOfMemory`
-/// where there was no memory; then the crew can only be closed.
+/// Runs a window, and the output receives the replies to its lines. It fails with `WriteFault`
+/// where a write of the output failed, and with `OutOfMemory` where there was no memory; then the
+/// crew can only be closed.
 fn answer_window<
     H: Opening<Timetable> + Send + Sync,
     T: ReceiveReplies<K>,
@@ -36,29 +35,29 @@ fn answer_window<
     K,
     G: Gate + Sync,
 >(
-    rt: &R,
-    alloc: Global,
+    setting: &Setting<'_, R, G>,
     crew: &mut Crew<Publisher<Timetable, H>, Viewer<Timetable, H>>,
-    lines: &[WindowLine],
-    first: u64,
+    numbered: &NumberedLines<'_>,
     out: &mut K,
-    gate: &G,
 ) -> Result<(), LinesFault>
     requires ready { IsReady H.opening crew.old }
-    requires lines { CanBeRun H.opening crew.old.publisher crew.old.directory first lines.now }
+    requires lines { CanBeRun H.opening crew.old.publisher crew.old.directory numbered.now.first
+        numbered.now.lines.now }
 
     // the replies to the window that these lines are, where the board stood as the lines before
     // leave it
     ensures answered { OnOk result ((nw : Network) (names : Names) (st : State)
         (before window : List Line) → StandsAt H.opening crew.old.publisher crew.old.directory
         (service_after nw names st before)
-        → first ≡ length before → lines.now ≡ window_lines crew.old.directory window
+        → numbered.now.first ≡ length before
+        → numbered.now.lines.now ≡ window_lines crew.old.directory window
         → IsAnswered T.receives H.opening nw names st before window crew.new.publisher
         crew.new.directory out.old out.new) }
     ensures begun { IfErr result (λ f. (nw : Network) (names : Names) (st : State)
         (before window : List Line) → StandsAt H.opening crew.old.publisher crew.old.directory
         (service_after nw names st before)
-        → first ≡ length before → lines.now ≡ window_lines crew.old.directory window
+        → numbered.now.first ≡ length before
+        → numbered.now.lines.now ≡ window_lines crew.old.directory window
         → IsBegun (f ≡ LinesFault.WriteFault) (T.begins (f ≡ LinesFault.WriteFault)) nw names st
         before window out.old out.new) }
     ensures ready { OnOk result (IsReady H.opening crew.new) }
@@ -68,8 +67,8 @@ fn answer_window<
     ensures writes { Some (T.faults out.new) ≡ writes_failed result (T.faults out.old) }
     ensures full { IsErrOf result LinesFault.WriteFault → T.is_full out.new }
 {
-    let replies = crew.run_window(rt, alloc, lines, first, gate)?;
-    T::receive(alloc, &crew.directory, replies.as_slice(), out)
+    let replies = crew.run_window(setting, numbered)?;
+    T::receive(setting.alloc, crew.directory(), replies.as_slice(), out)
 }
 
 /// Answers each window of the input, until the input is at its end: for a new reader, and a crew to
@@ -85,13 +84,11 @@ pub(crate) fn answer_windows<
     K,
     G: Gate + Sync,
 >(
-    rt: &R,
-    alloc: Global,
+    setting: &Setting<'_, R, G>,
     crew: &mut Crew<Publisher<Timetable, H>, Viewer<Timetable, H>>,
     reader: &mut LineReader,
     input: &mut S,
     out: &mut K,
-    gate: &G,
 ) -> Result<(), LinesFault>
     // a new reader, which counts bytes in 64 bits, and a crew to which nothing was posted
     requires reader { reader.old ≡ fresh reader.old.budget }
@@ -123,28 +120,22 @@ pub(crate) fn answer_windows<
     // the reader has its budget
     ensures budget { reader.new.budget ≡ reader.old.budget }
 {
-    let mut window = Window::build(alloc)?;
+    let mut window = Window::build(setting.alloc)?;
     let mut first = 0;
     'windows: loop {
-        let end = read_window(alloc, reader, input, &crew.directory, &mut window)?;
+        let end = read_window(setting.alloc, reader, input, crew.directory(), &mut window)?;
+        let numbered = NumberedLines {
+            lines: window.lines(),
+            first,
+        };
         match end {
             WindowEnd::More => {
-                answer_window::<H, T, R, K, G>(rt, alloc, crew, window.lines(), first, out, gate)?;
-                first += window.lines().len() as u64;
+                answer_window::<H, T, R, K, G>(setting, crew, &numbered, out)?;
+                first += numbered.lines.len() as u64;
             }
             WindowEnd::End => {
-                return answer_window::<H, T, R, K, G>(
-                    rt,
-                    alloc,
-                    crew,
-                    window.lines(),
-                    first,
-                    out,
-                    gate,
-                );
+                return answer_window::<H, T, R, K, G>(setting, crew, &numbered, out);
             }
-            WindowEnd::ReadFault => return Err(LinesFault::ReadFault),
-            WindowEnd::Budget => return Err(LinesFault::TooLong),
         }
     }
 }

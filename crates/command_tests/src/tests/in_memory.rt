@@ -6,8 +6,9 @@ ghost use Rattle.command_words.specs.GenWords.{gen_asked_of, is_gen};
 ghost use Rattle.command_words.specs.declared.gen_words.AskedGen.{AskedGen as Generated};
 ghost use Rattle.mt_io.specs.Tables.{table_in};
 ghost use Rattle.commands.specs.Failing.{IsFrontWritten};
-ghost use Rattle.commands.specs.Runs.{CanEnd, output_of};
+ghost use Rattle.commands.specs.Runs.{CanEnd};
 ghost use Rattle.commands.specs.Summaries.{IsOnlySummary};
+ghost use Rattle.commands.specs.Tasks.{feed_task};
 
 use commands::{Status, traind_within};
 use mt_io::{MemFeed, MemSink, MemSource, NoGate, SureFeed, SureSink, SureSource};
@@ -36,9 +37,9 @@ pub fn run_in_memory<R: Threads + Wait + Sync>(
     requires out { out.old.failing ≡ [] }
 
     // what is asked can be answered, and there is room for it
-    requires can_end { CanEnd (map string_bytes words.now) (Some (table_in feed.old.tables))
-        (Some input.old.left) budget }
-    requires room { (written : List ℕ) → IsFrontWritten output_of budget
+    requires can_end { CanEnd feed_task (map string_bytes words.now)
+        (Some (table_in feed.old.tables)) (Some input.old.left) budget }
+    requires room { (written : List ℕ) → IsFrontWritten feed_task budget
         (map string_bytes words.now) (Some (table_in feed.old.tables)) (Some input.old.left)
         (Some out.old.held) (Some written) → length written ≤ out.old.room }
 

@@ -1,6 +1,6 @@
 //! A crew of which not every worker has a viewer.
 
-ghost use Rattle.std.specs.Prelude.{◌≡◌, [], Some};
+ghost use Rattle.std.specs.Prelude.{◌≡◌, ◌≤◌, [], Some};
 ghost use Rattle.query_crew.specs.Crews.{IsReady};
 ghost use Rattle.schedule_build.specs.InStep.{AreInStep};
 
@@ -11,10 +11,9 @@ use crate::tests::{feed_of, words_of};
 use command_words::read_words;
 use commands::load_timetable;
 use delay_report::reply_text;
-use mt_base::memory::OutOfMemory;
+use information_service::LinesFault;
 use mt_io::{Gate, LineReader, Point, SureSource};
-use query_crew::{Crew, Window, read_window};
-use schedule_build::Directory;
+use query_crew::{Crew, CrewPlan, NumberedLines, Setting, Window, read_window};
 use snapshot_board::{NewHistory, Opening, Publisher, Viewer};
 use std::alloc::Global;
 use std::marker::Brand;
@@ -26,51 +25,63 @@ use train_nodes::Msg;
 
 /// The texts of the replies to the first window of this text.
 fn window_text<H: Opening<Timetable> + Send + Sync, R: Threads + Wait + Sync, G: Gate + Sync>(
-    rt: &R,
-    alloc: Global,
+    setting: &Setting<'_, R, G>,
     crew: &mut Crew<Publisher<Timetable, H>, Viewer<Timetable, H>>,
     text: &[u8],
-    gate: &G,
-) -> Result<Vec<u8>, OutOfMemory>
+) -> Result<Vec<u8>, LinesFault>
     requires ready { IsReady H.opening crew.old }
     requires new { crew.old.publisher ≡ [] }
 {
+    let alloc = setting.alloc;
     let mut input = SureSource::build(Vec::from_slice(alloc, text)?, 100);
     let mut reader = LineReader::build(alloc, 10_000)?;
     let mut window = Window::build(alloc)?;
-    let _ = read_window(alloc, &mut reader, &mut input, &crew.directory, &mut window)?;
-    let replies = crew.run_window(rt, alloc, window.lines(), 0, gate)?;
+    let _ = read_window(
+        alloc,
+        &mut reader,
+        &mut input,
+        crew.directory(),
+        &mut window,
+    )?;
+    let numbered = NumberedLines {
+        lines: window.lines(),
+        first: 0,
+    };
+    let replies = crew.run_window(setting, &numbered)?;
     let mut all = Vec::new(alloc);
     for reply in &replies {
-        all.extend_from_slice(reply_text(alloc, reply, &crew.directory)?.as_slice())?;
+        all.extend_from_slice(reply_text(alloc, reply, crew.directory())?.as_slice())?;
     }
     Ok(all)
 }
 
-/// The same with a crew of its own, of four workers of which so many have a viewer.
+/// The same with a crew of its own, of which so many workers have a viewer.
 fn limited_text<H: Opening<Timetable> + Send + Sync, R: Threads + Wait + Sync, G: Gate + Sync>(
-    rt: &R,
-    alloc: Global,
+    setting: &Setting<'_, R, G>,
     history: NewHistory<Msg>,
-    timetable: Timetable,
-    directory: Directory,
+    plan: CrewPlan,
     viewers: u32,
     text: &[u8],
-    gate: &G,
-) -> Result<Vec<u8>, OutOfMemory>
+) -> Result<Vec<u8>, LinesFault>
     requires book { history ≡ H.book }
-    requires opening { H.opening ≡ Some timetable }
-    requires in_step { AreInStep directory timetable.state }
+    requires opening { H.opening ≡ Some plan.timetable }
+    requires in_step { AreInStep plan.directory plan.timetable.state }
+    requires some { 1 ≤ plan.workers }
+    requires few { plan.workers ≤ 16 }
 {
     let mut crew: Crew<Publisher<Timetable, H>, Viewer<Timetable, H>> = Crew::build_limited(
-        rt, alloc, history, timetable, directory, 4, viewers,
+        setting.rt,
+        setting.alloc,
+        history,
+        plan,
+        viewers,
     )?;
-    let shown = window_text(rt, alloc, &mut crew, text, gate);
-    crew.close(rt, alloc);
+    let shown = window_text(setting, &mut crew, text);
+    crew.close(setting.rt, setting.alloc);
     shown
 }
 
-/// The same over the feed with a waiting rule.
+/// The same over the feed with a waiting rule, with four workers.
 fn shown_by<R: Threads + Wait + Sync, G: Gate + Sync>(
     rt: &R,
     alloc: Global,
@@ -93,16 +104,13 @@ fn shown_by<R: Threads + Wait + Sync, G: Gate + Sync>(
         &asked.opts,
         &mut feed,
     )?;
-    Ok(limited_text::<Brand, R, G>(
-        rt,
-        alloc,
-        NewHistory::new(),
-        loaded.timetable,
-        loaded.directory,
-        viewers,
-        text,
-        gate,
-    )?)
+    let setting = Setting { rt, alloc, gate };
+    let plan = CrewPlan {
+        timetable: loaded.timetable,
+        directory: loaded.directory,
+        workers: 4,
+    };
+    Ok(limited_text::<Brand, R, G>(&setting, NewHistory::new(), plan, viewers, text)?)
 }
 
 /// What is seen of a run on these lines, of whose four workers so many have a viewer.

@@ -17,7 +17,7 @@ use std::test::*;
 use timetable::Timetable;
 
 /// How many stops, stations and platforms the feed has.
-const PLACES: u32 = 6;
+pub(super) const PLACES: u32 = 6;
 
 /// The timetable of the feed, by the options that the program has without further words.
 pub(super) fn loaded_feed(alloc: Global) -> Result<LoadedTimetable, Fail> {
@@ -90,7 +90,7 @@ fn query(
 }
 
 /// Room for queries over a timetable.
-fn scratch_for(alloc: Global, timetable: &Timetable) -> Result<Scratch, OutOfMemory>
+pub(super) fn scratch_for(alloc: Global, timetable: &Timetable) -> Result<Scratch, OutOfMemory>
     ensures { IfOk result (λ scratch. IsRoomFor timetable.now scratch.room) }
 {
     let stops = timetable.graph().changes().stops();

@@ -33,6 +33,8 @@ impl Replay for Sum {
 
     ghost after = { λ n m. (n + m) % 2 ^ 64 };
 
+    ghost fits = { λ n m. Unit {0} };
+
     fn step(&mut self, m: &u32) {
         self.total = self.total.wrapping_add(u64::from(*m));
     }

@@ -6,4 +6,4 @@ abbrev pub ghosts-sum_windows-H-History : goal.ghosts-sum_windows-H-History
 ghosts-sum_windows-H-History g a = record { book = a.history }
 
 abbrev pub ghosts-sum_windows-H-Opening : goal.ghosts-sum_windows-H-Opening
-ghosts-sum_windows-H-Opening g a = record { opening = Some a.timetable }
+ghosts-sum_windows-H-Opening g a = record { opening = Some a.plan.timetable }

@@ -2,4 +2,4 @@ use Rattle.commands.proofs.Statuses.{contract-met}
 use Rattle.commands.proofs.run.run_times.Goals as goal
 
 pub returns : goal.returns
-returns g c = record { contract = contract-met c.times_words-run.result c.tell.result c.times_words-run.ensures.run c.tell.ensures.status c.tell.ensures.memory c.tell.ensures.refused_line c.tell.ensures.error_line }
+returns g c = record { contract = contract-met c.times_words-run.result c.tell.result c.times_words-run.ensures.run c.tell.ensures.status c.tell.ensures.told }

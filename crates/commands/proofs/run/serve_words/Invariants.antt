@@ -6,4 +6,4 @@ abbrev pub ghosts-write_windows-H-History : goal.ghosts-write_windows-H-History
 ghosts-write_windows-H-History g a = record { book = a.history }
 
 abbrev pub ghosts-write_windows-H-Opening : goal.ghosts-write_windows-H-Opening
-ghosts-write_windows-H-Opening g a = record { opening = Some a.timetable }
+ghosts-write_windows-H-Opening g a = record { opening = Some a.plan.timetable }

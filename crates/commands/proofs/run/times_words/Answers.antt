@@ -1,33 +1,25 @@
 use Rattle.std.proofs.Common.{Err, ap, refl}
-use Rattle.command_words.specs.Held.{asked_view}
-use Rattle.commands.proofs.Endings.{words-not-read, feed-not-loaded, all-answered, lines-stopped, not-error, same-error}
-use Rattle.commands.specs.Runs.{output_of}
-use Rattle.commands.proofs.Tables.{by-command, by-none}
+use Rattle.command_words.specs.declared.words.Command.TheVariants.{Times}
+use Rattle.commands.proofs.Endings.{early-feed, early-run, early-words, lines-end, not-error, same-error}
+use Rattle.commands.proofs.Tables.{by-command, by-none, was-loaded}
 use Rattle.commands.proofs.run.times_words.Goals as goal
 
 pub returns-in-Err : goal.returns-in-Err
-returns-in-Err g c = record { run = words-not-read {output = output_of} by-none (Err c.from.result) c.in-Err.fault c.from.ensures (λ is. c.in-Err.ensures.usage (ap Err is)) refl }
+returns-in-Err g c = record { run = early-run by-none (Err c.from.result) _ c.from.ensures (early-words (λ absent. refl) c.in-Err.fault refl (λ is. c.in-Err.ensures.usage (ap Err is))) }
 
-pub returns-in_err-service : goal.returns-in_err-service
-returns-in_err-service g c = record {
+pub returns-in-Err-load_service : goal.returns-in-Err-load_service
+returns-in-Err-load_service g c = record {
   run =
-      feed-not-loaded _ _ (asked_view c.in-Ok.asked) c.in-Ok.ensures.ok {output = output_of} by-none c.from_residual.result c.in_err-service.field-0.0 c.from_residual.ensures.1
-      c.in_err-service.ensures.exact (λ is. c.in_err-service.ensures.failed (ap Err is))
-      (λ other. c.in_err-service.ensures.answered (λ is. other (same-error _ _ _ refl is)));
-}
-
-pub returns-in_err-write_output : goal.returns-in_err-write_output
-returns-in_err-write_output g c = record {
-  run =
-      lines-stopped c.in-Ok.ensures.ok c.in_ok-service.ensures.exact c.in_ok-service.ensures.network (by-command _ _ (c.requires.command _ c.in-Ok.ensures.ok))
-      (c.in_ok-service.ensures.answered (not-error _ _)) c.from_residual-in_err-write_output.result c.in_err-write_output.field-0.0
-      c.from_residual-in_err-write_output.ensures.1 c.in_err-write_output.ensures.stopped c.in_err-write_output.ensures.front c.in_err-write_output.ensures.counts;
+      early-run by-none (Err c.feed_stop.result) c.feed_stop.result refl
+      (early-feed c.in-Ok.ensures.ok c.in-Err-load_service.error c.feed_stop.result c.feed_stop.ensures c.in-Err-load_service.ensures.exact (λ is. c.in-Err-load_service.ensures.failed (ap Err is))
+      (λ other. c.in-Err-load_service.ensures.answered (λ is. other (same-error _ _ _ refl is))));
 }
 
 pub returns : goal.returns
-returns g c = record {
-  run =
-      all-answered c.in-Ok.ensures.ok c.in_ok-service.ensures.exact c.in_ok-service.ensures.network (by-command _ _ (c.requires.command _ c.in-Ok.ensures.ok))
-      (c.in_ok-service.ensures.answered (not-error _ _))
-      c.in_ok-write_output.ensures.ok c.in_ok-write_output.ensures.ended c.in_ok-write_output.ensures.front c.in_ok-write_output.ensures.counts;
-}
+returns g c =
+    let was = was-loaded c.in-Ok.ensures.ok c.in-Ok-load_service.ensures.exact c.in-Ok-load_service.ensures.network in
+    record {
+      run =
+          lines-end (by-command Times was (c.requires.command _ c.in-Ok.ensures.ok)) (c.in-Ok-load_service.ensures.answered (not-error _ _)) c.run_of.result c.write_output.result c.run_of.ensures
+          c.write_output.ensures.ok c.write_output.ensures.ended c.write_output.ensures.stopped c.write_output.ensures.front c.write_output.ensures.counts;
+    }

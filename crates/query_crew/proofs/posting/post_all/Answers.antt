@@ -5,7 +5,7 @@ use Rattle.query_crew.proofs.posting.post_all.Goals as goal
 
 pub loop-i-init : goal.loop-i-init
 loop-i-init g c = record {
-  begun = λ s h. (s, takes-none g.H.Opening.opening s c.args.first c.args.lines.now c.args.publisher.now c.args.directory.now c.args.replies.now.items h);
+  begun = λ s h. (s, takes-none g.H.Opening.opening s c.args.window.now.first c.args.window.now.lines.now c.args.publisher.now c.args.directory.now c.args.replies.now.items h);
   later = ([], append-nil c.args.publisher.now);
   few = omega arith;
 }
@@ -18,8 +18,8 @@ post_line-requires-clause-board g c =
 pub loop-i-preserved : goal.loop-i-preserved
 loop-i-preserved g c =
     let inv = c.loop-i.invariant in
-    let line = c.index-lines-i.result in
-    let rest = drop_more c.args.lines.now c.loop-i.i line (omega (arith, c.loop-i-test.true)) ∙ ap (λ (x : WindowLine). x ∷ drop (c.loop-i.i + 1) c.args.lines.now) (sym c.index-lines-i.is) in
+    let line = c.line-item.result in
+    let rest = drop_more c.args.window.now.lines.now c.loop-i.i line (omega (arith, c.loop-i-test.true)) ∙ ap (λ (x : WindowLine). x ∷ drop (c.loop-i.i + 1) c.args.window.now.lines.now) (sym c.line-item.is) in
     let first = inv.begun c.requires.ready.board.0 c.requires.ready.board.1 in
     record {
       begun = λ s h.
@@ -32,4 +32,4 @@ loop-i-preserved g c =
 pub returns-clause-posted : goal.returns-clause-posted
 returns-clause-posted g c = λ s h.
     let b = c.loop-i.invariant.begun s h in
-    takes-all b.1 (drop_all c.loop-i.i c.args.lines.now (omega (arith, c.loop-i-test.false)))
+    takes-all b.1 (drop_all c.loop-i.i c.args.window.now.lines.now (omega (arith, c.loop-i-test.false)))

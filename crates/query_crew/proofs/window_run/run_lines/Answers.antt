@@ -10,7 +10,7 @@ pub join_replies-requires-clause-own : goal.join_replies-requires-clause-own
 join_replies-requires-clause-own g c =
     let s = c.requires.ready.board.0 in
     let p = c.in_ok-post_and_answer.ensures.posted s c.requires.ready.board.1 in
-    ap length (own-replies c.new-own.ensures.items p) ∙ replies-length s c.args.first c.args.lines.now
+    ap length (own-replies c.new-own.ensures.items p) ∙ replies-length s c.args.window.now.first c.args.window.now.lines.now
 
 pub join_replies-requires-clause-covered : goal.join_replies-requires-clause-covered
 join_replies-requires-clause-covered g c = λ place line d at.
@@ -36,7 +36,7 @@ pub returns-clause-board : goal.returns-clause-board
 returns-clause-board g c =
     let s = c.requires.ready.board.0 in
     let p = c.in_ok-post_and_answer.ensures.posted s c.requires.ready.board.1 in
-    both c.join_replies.result c.join_replies.ensures.one_each c.join_replies.ensures.one_each (λ replies count too. (after_lines s c.args.lines.now, p.stands))
+    both c.join_replies.result c.join_replies.ensures.one_each c.join_replies.ensures.one_each (λ replies count too. (after_lines s c.args.window.now.lines.now, p.stands))
 
 pub returns-clause-kept : goal.returns-clause-kept
 returns-clause-kept g c = all-kept-again c.args.all.now c.post_and_answer.new.all c.join_replies.new.all c.in_ok-post_and_answer.ensures.kept c.join_replies.ensures.kept

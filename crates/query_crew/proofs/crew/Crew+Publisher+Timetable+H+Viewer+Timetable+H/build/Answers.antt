@@ -5,4 +5,4 @@ use Rattle.query_crew.proofs.crew.Crew+Publisher+Timetable+H+Viewer+Timetable+H.
 
 pub returns-clause-viewers : goal.returns-clause-viewers
 returns-clause-viewers g c =
-    both c.build_limited.result c.build_limited.ensures.workers c.build_limited.ensures.viewers (λ crew count have. all-have c.args.workers crew.workers.items have (omega (arith, count, crew.workers.ok.0)))
+    both c.build_limited.result c.build_limited.ensures.workers c.build_limited.ensures.viewers (λ crew count have. all-have c.args.plan.workers crew.workers have count)

@@ -1,8 +1,8 @@
-use Rattle.timetable.proofs.Words.{None, refusal, subst, refl, ◌≡◌, ◌+◌, ◌*◌, ◌∙◌, arith, ap, sym, effect, events, length, length-map, live_only, names_of, node_of, time_change_at, TimetableState}
+use Rattle.timetable.proofs.Words.{subst, refl, ◌≡◌, ◌+◌, ◌*◌, ◌∙◌, arith, ap, sym, effect, events, length, length-map, live_only, names_of, node_of, time_change_at, TimetableState}
 use Rattle.timetable.specs.Reads.{renewed_count}
 use Rattle.timetable.specs.TimetableState.{stepped}
 use Rattle.timetable.proofs.{Followed.others, Followed.taken-names, Listing.live-held, Moving.gone-fit, Moving.gone-there, LabelPlaces.places-kept, Moving.departures-live, Moving.time-changes-fit, Numbers.still-left, Prepared.names-are, ReadCounts.renewed-length}
-use Rattle.timetable.proofs.Stepping.{step-made}
+use Rattle.timetable.proofs.Stepping.{accepted-inside, step-made}
 use Rattle.timetable.proofs.timetable.Timetable.follow_accepted.Goals as goal
 
 pub take_departures-requires-clause-live : goal.take_departures-requires-clause-live
@@ -77,7 +77,7 @@ renew_departures-requires g c =
       old = a.state;
       before = c.self.inside.departures;
       times = c.apply.new.times;
-      step = step-made c.self.invariant.settled.valid c.apply.ensures.well_formed (subst (λ (r : TimetableState). refusal r.network r.state c.args.m.now ≡ None) (sym c.self.view_is) c.requires.accepted);
+      step = step-made c.self.invariant.settled.valid c.apply.ensures.well_formed (accepted-inside c.args.m.now c.self.view_is c.requires.accepted);
       prepared = c.apply.ensures.prepared;
       order = c.self.invariant.order;
       room = c.self.invariant.departures_room;

@@ -1,6 +1,0 @@
-use Rattle.std.proofs.Common.{◌≡◌, drop}
-use Rattle.reply_sums.specs.Sums.{sums_after}
-use Rattle.reply_sums.proofs.sums.ReplySums.add.Given as goal
-
-abbrev pub invariant-loop-reply : goal.invariant-loop-reply
-invariant-loop-reply l = sums_after l.self (drop l.reply-index l.replies) ≡ sums_after l.initial.self l.replies
