@@ -4,6 +4,9 @@ import json
 import math
 from dataclasses import dataclass, field
 
+from plain_draw import SERVED
+
+COMMANDS = "times", "serve", *(["check"] if "check" in SERVED else [])
 BLOCK = 1 << 20
 LONG = 65_536
 MILLION = 1_000_000
@@ -130,7 +133,8 @@ def lengths():
         (FLUSH[:-1] + b',"x":"' + "é".encode() * 30_000 + b'"}', {"flush": 0}),
         (FLUSH[:-1] + b',"x":"' + b"e" * 60_000 + b"\xc3" + b'"}', bad("utf8")),
     ]
-    for command, table in (("times", [TABLE]), ("serve", [])):
+    for command in COMMANDS:
+        table = [TABLE] if command == "times" else []
         for last in edges[:2]:
             name = f"{command}: lines about the greatest length, the last one of {len(last[0]):,} bytes without LF"
             yield asked(name, [*edges, last], command=command, table=table)
@@ -218,6 +222,38 @@ def names():
     yield asked("names of 60,000 bytes in lines", edges, command="times", table=table)
 
 
+HALTS = [f"H{number:04}" for number in range(2_000)]
+HALTS_TABLE = {"stops.txt": ["stop_id\nA\nB1\nB2\nC\nD\n".encode(), *(f"{halt}\n".encode() for halt in HALTS)]}
+RIDE = {"trip": "T1", "date": DAY, "board": 0, "alight": 1}
+
+
+def claim(size, time="08:00:00", halts=HALTS, taken=()):
+    """A claim of this size that nobody gets from C to D, with as many stops that are reached as fit."""
+    where = {"client": "q", "from": "C", "to": "D", "date": DAY, "time": time, "arrives": None, "rides": taken}
+    room = size - len(line_of("claim", **where, reached=[]))
+    reached = [{"stop": halt, "time": "0:00:00"} for halt in halts[: room // 34]]
+    line = line_of("claim", **where, reached=reached)
+    return line[:-1] + b" " * (size - len(line)) + b"}"
+
+
+def rides(size):
+    """A claim of this size with as many rides as fit, which are no journey."""
+    return claim(size, taken=[RIDE] * ((size - 200) // 55), halts=[])
+
+
+def claims():
+    """Claims about the greatest length."""
+    edges = [
+        (claim(LONG - 1), {"claim": True}),
+        (claim(LONG), bad("long")),
+        (claim(LONG - 1, halts=HALTS[::-1]), {"claim": False}),
+        (claim(LONG - 1, time="x"), bad("time")),
+        (rides(LONG - 1), {"claim": False}),
+    ]
+    if "check" in COMMANDS:
+        yield asked("claims about the greatest length", edges, command="check", tables=HALTS_TABLE)
+
+
 def members(size):
     """A flush line of this size, with as many members as fit."""
     count = (size - len(FLUSH)) // 9
@@ -274,9 +310,9 @@ def lines_of(line, every, answer):
     return lambda n: Case(input=[(line, n // every)], output=[same(answer, n // every)])
 
 
-def wide(make, answer):
+def wide(make, answer, **others):
     """The case of a size: 100 lines that grow to the greatest length."""
-    return lambda n: Case(input=[(make(65_532 * n // MILLION) + b"\n", 100)], output=[same(answer, 100)])
+    return lambda n: Case(input=[(make(65_532 * n // MILLION) + b"\n", 100)], output=[same(answer, 100)], **others)
 
 
 def growing_lines():
@@ -298,5 +334,7 @@ def growing_lines():
     yield "members of each of 100 lines", wide(members, {"flush": 0})
     yield "members of one name in each of 100 lines", wide(twice, {"flush": 0})
     yield "new calls of each of 100 lines", wide(via, refusal("Unknown"))
+    for name, make, good in (("stops", claim, True), ("rides", rides, False)) if "check" in COMMANDS else ():
+        yield f"{name} of each of 100 claims", wide(make, {"claim": good}, command="check", tables=HALTS_TABLE)
     yield "extra trains with names that are nearly equal", extras
     yield "queries of clients of one worker", clients

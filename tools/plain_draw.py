@@ -11,6 +11,7 @@ from collections import Counter
 from pathlib import Path
 from random import Random
 
+from plain_claims import changed, right_claim
 from plain_feed import WEEKDAYS, time_text
 from plain_lines import OF_VERSION_2
 from plain_program import place_of
@@ -138,9 +139,9 @@ class Messages:
     def __init__(self, maker, plain):
         self.random, self.pick, self.maker, self.plain = maker.random, maker.pick, maker, plain
         self.pairs = [self.pair() for _ in range(5)]
-        self.drawn = []
+        self.drawn, self.claims = [], []
 
-    def lines(self, number):
+    def lines(self, number, with_claims=False):
         """Each line is drawn when the plain program has answered the lines before it."""
         draws = [self.value] * 12 + [self.choice] * 9 + [lambda: {"type": "flush"}]
         for feature, kinds in (
@@ -148,6 +149,7 @@ class Messages:
             ("queries", [self.query] * 8), ("corrections", [self.correct] * 4 + [self.withdraw] * 2),
         ):  # fmt: skip
             draws += kinds if feature in SERVED else []
+        draws += [self.claim] * 16 if with_claims else []
         for _ in range(number):
             if self.pick(range(8)) == 0:
                 self.pairs[self.pick(range(5))] = self.pair()
@@ -271,6 +273,15 @@ class Messages:
         members = {"client": self.pick("abc"), "from": origin, "to": destination}
         message = {"type": "query"} | members | {"date": date, "time": time_text(time)}
         return message | self.pick((*BAD, *[{}] * 150))
+
+    def claim(self):
+        """A claim that is right, at times in an earlier state; half have changes."""
+        if not self.claims or self.pick(range(2)) == 0:
+            self.claims.append(right_claim(self.plain, self.query()))
+        claim = self.pick(self.claims[-4:])
+        for _ in range(self.pick((0, 0, 0, 1, 1, 2))):
+            claim = changed(self.random, claim, self.plain)
+        return claim
 
     def ride(self):
         """A departure and a later arrival of a watched train, across a cancelled part where there is one."""

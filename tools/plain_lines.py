@@ -1,7 +1,7 @@
 """The lines of the input as docs/FORMATS.md has them: what a line says, or the word for a bad one.
 
 The places, the date and the time of a query are looked at by tools/plain_program.py,
-which knows the stops and the loaded days.
+which knows the stops and the loaded days, and all that a claim names by tools/plain_certificates.py.
 """
 
 import re
@@ -157,6 +157,12 @@ TYPES = {
     "query": dict.fromkeys(("client", "from", "to", "date", "time"), text),
     "flush": {},
 }
+# The type that `check` alone knows.
+CLAIM = TYPES["query"] | {
+    "arrives": text_or_null,
+    "rides": [{"trip": text, "date": text, "board": label, "alight": label}],
+    "reached": [{"stop": text, "time": text}],
+}
 # The types that no line of version 1 has.
 OF_VERSION_2 = ("correct", "withdraw")
 
@@ -187,8 +193,11 @@ def check_times(message):
         raise Bad("time")
 
 
-def read_line(line):
-    """What the bytes of a line say: its type and the members that the type needs; or it raises Bad."""
+def read_line(line, is_checked=False):
+    """What the bytes of a line say: its type and the members that the type needs; or it raises Bad.
+
+    A line that is checked may be a claim.
+    """
     if len(line) >= LONG:
         raise Bad("long")
     try:
@@ -197,12 +206,13 @@ def read_line(line):
         raise Bad("utf8") from None
     value = Json(words).whole()
     head = shaped(value, {"v": version, "type": text})
-    if head["type"] not in TYPES or (head["v"] == 1 and head["type"] in OF_VERSION_2):
+    types = TYPES | ({"claim": CLAIM} if is_checked else {})
+    if head["type"] not in types or (head["v"] == 1 and head["type"] in OF_VERSION_2):
         raise Bad("shape")
-    message = {"type": head["type"]} | shaped(value, TYPES[head["type"]])
+    message = {"type": head["type"]} | shaped(value, types[head["type"]])
     if len(message.get("calls", "..")) < 2:
         raise Bad("shape")
-    if head["type"] not in ("query", "flush"):
+    if head["type"] not in ("query", "claim", "flush"):
         check_times(message)
     return message
 

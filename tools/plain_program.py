@@ -18,6 +18,7 @@ from collections import namedtuple
 from plain_feed import Feed, Train, seconds_of, time_text
 from plain_journeys import Journeys, rides_of
 from plain_lines import Bad, read_line
+from plain_tables import is_time
 from plain_zone import UTC
 
 DEFAULTS = {
@@ -235,21 +236,23 @@ class Plain:
             self.rides = rides_of(self.trains, self.times)
         return self.rides
 
-    def answer(self, query, after, rides):
-        """The answer to a query after so many accepted messages, by the rides of the state that they leave.
-
-        It has journeys in place of one; a reply may show any of them that arrives then.
-        """
+    def asked(self, query):
+        """The base of the service day of a query, and its time; or it raises Bad with the fault of its names."""
         places, bases = (query["from"], query["to"]), self.feed.bases
         if not all(place in self.feed.stops and self.feed.place_type(place) in "01" for place in places):
-            return {"bad": "stop"}
-        if query["date"] not in bases or not re.fullmatch("[0-9]{1,2}:[0-5][0-9]:[0-5][0-9]", query["time"]):
-            return {"bad": "time"}
+            raise Bad("stop")
+        if query["date"] not in bases or not is_time(query["time"]):
+            raise Bad("time")
         base = bases[query["date"]]
-        journeys = Journeys(self.feed, rides, *places, seconds_of(query["time"], base))
-        if journeys.arrives is None:
-            return {"after": after, "arrives": None}
-        return {"after": after, "arrives": time_text(journeys.arrives - base), "rides": journeys}
+        return base, seconds_of(query["time"], base)
+
+    def answer(self, query, after, rides):
+        """The answer to a query after so many accepted messages, by the rides of the state that they leave."""
+        try:
+            base, time = self.asked(query)
+        except Bad as bad:
+            return {"bad": str(bad)}
+        return answer_of(Journeys(self.feed, rides, query["from"], query["to"], time), base, after)
 
     def are_at_stops(self, calls):
         return all(self.feed.is_stop(call["stop"]) for call in calls)
@@ -317,6 +320,16 @@ TAKES = {
     "drop": Plain.take_choice,
     "rule": Plain.take_choice,
 }
+
+
+def answer_of(journeys, base, after):
+    """The answer to a query of the service day of a base.
+
+    It has journeys in place of one; a reply may show any of them that arrives then.
+    """
+    if journeys.arrives is None:
+        return {"after": after, "arrives": None}
+    return {"after": after, "arrives": time_text(journeys.arrives - base), "rides": journeys}
 
 
 def due_time(v, edges, times):

@@ -65,13 +65,27 @@ def count_shown(text):
 
 
 def is_right(want, number, line):
-    """Whether a line of the output is a wanted reply or row; of the journeys that arrive as early, it may show any."""
+    """Whether a line of the output is a wanted reply or row.
+
+    Of the journeys that arrive as early, it may show any; and so of the stops that show that it is right.
+    """
     if not isinstance(want, dict):
         return line == want
-    if "rides" not in want:
+    if "rides" not in want and "reached" not in want:
         return line == numbered(want, number)
     try:
-        rides = want["rides"].named(json.loads(line)["rides"])
-        return want["rides"].have(rides) and line == numbered(want | {"rides": [*map(shown, rides)]}, number)
+        found = found_in(want, json.loads(line))
+        return found is not None and line == numbered(want | found, number)
     except (ValueError, KeyError, TypeError):
         return False
+
+
+def found_in(want, reply):
+    """What a reply to a query shows of a journey and of what is reached, in its one form; or None where it is wrong."""
+    found, rides = {}, []
+    if "rides" in want:
+        rides = want["rides"].named(reply["rides"])
+        found["rides"] = [*map(shown, rides)] if want["rides"].have(rides) else None
+    if "reached" in want:
+        found["reached"] = want["reached"].shown(reply["reached"], rides)
+    return None if None in found.values() else found

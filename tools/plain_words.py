@@ -18,12 +18,12 @@ RANGES = {
 }
 # The options whose values are no numbers.
 TEXTS = ("from", "zone")
-USAGE = "usage: traind times FEED --from DATE or traind serve FEED --from DATE or traind gen N"
+USAGE = "usage: traind COMMAND FEED --from DATE or traind gen N"
 
 
 def read_words(words):
     """The command, its FEED or N, and the options by name, each with its value; or None where the words are others."""
-    if not words or words[0] not in ("times", "serve", "gen"):
+    if not words or words[0] not in ("times", "serve", "check", "gen"):
         return None
     given = parts(words[1:])
     if given is None or given[0] is None:

@@ -12,7 +12,7 @@ use Rattle.service_zones.specs.Zones.{ZoneRules, utc}
 use Rattle.service_zones.specs.ZoneTexts.{zone_of}
 use Rattle.command_words.specs.Commands.{command_app}
 use Rattle.command_words.specs.declared.words.Command.{Command}
-use Rattle.command_words.specs.declared.words.Command.TheVariants.{Times, Serve}
+use Rattle.command_words.specs.declared.words.Command.TheVariants.{Times, Serve, Check}
 
 -- the command, the folder of the feed, the first service day as the number YYYYMMDD, how many
 -- service days there are, the options of the timetable, how many workers answer queries, and the
@@ -71,10 +71,11 @@ zone_given text = option_map_or zone_of text (Some utc)
 abbrev pub asked_bases : Asked → List ℕ
 asked_bases a = base_seconds a.zone a.first a.days
 
--- the command of this name
+-- the command of this name, of those that read a feed
 abbrev pub command_of : Text → Option Command
 command_of name = if bytes_eq name (codes "times") then Some Times
-    else (if bytes_eq name (codes "serve") then Some Serve else None)
+    else (if bytes_eq name (codes "serve") then Some Serve
+    else (if bytes_eq name (codes "check") then Some Check else None))
 
 -- what the values of a command's arguments ask for
 abbrev pub values_ask : Command → List Row → Option Asked

@@ -2,7 +2,7 @@
 
 ghost use Rattle.command_words.specs.Defaults.{DefaultsAreAsked};
 
-/// Words of `times` and `serve` that give no option ask for the default options, for one service
+/// Words of the commands that read a feed, where they give no option, ask for the default options, for one service
 /// day and for four workers.
 pub fn defaults_are_asked()
     ensures { DefaultsAreAsked }

@@ -26,6 +26,10 @@ pub enum Command {
 
     /// Answers queries in several threads while the messages are applied.
     Serve,
+
+    /// Answers each line at once, each query with what shows that its answer is right, and says of
+    /// each claim whether it is right.
+    Check,
 }
 
 /// What the words ask for.
@@ -81,14 +85,17 @@ impl From<AllocError> for WordsFault {
     }
 }
 
-/// The command of this name.
-fn command_of(name: &str) -> Option<Command>
-    ensures { result ≡ command_of name.now }
-{
-    match name {
-        "times" => Some(Command::Times),
-        "serve" => Some(Command::Serve),
-        _ => None,
+impl Command {
+    /// The command of this name, of those that read a feed.
+    pub fn named(name: &str) -> Option<Command>
+        ensures { result ≡ command_of name.now }
+    {
+        match name {
+            "times" => Some(Command::Times),
+            "serve" => Some(Command::Serve),
+            "check" => Some(Command::Check),
+            _ => None,
+        }
     }
 }
 
@@ -154,7 +161,7 @@ pub fn read_words<'a>(alloc: Global, words: &'a [String]) -> Result<Asked<'a>, W
     ensures lengths { IfOk result (λ a. day_of_wrong_length a.zone a.first a.days ≡ None) }
 {
     let name = words.first().ok_or(WordsFault::Usage)?.as_str();
-    let command = command_of(name).ok_or(WordsFault::Usage)?;
+    let command = Command::named(name).ok_or(WordsFault::Usage)?;
     let given = command_matches(alloc, name, words)?;
     match values_ask(command, &given) {
         Some(asked) => Ok(asked),

@@ -1,10 +1,11 @@
 -- Which command words ask for.
-use Rattle.std.proofs.Common.{◌≡◌, ◌∙◌, ◌≤◌, ◌<◌, length, get_or, map, subst, ℕ, List, [], ◌∷◌, Option, Some, None, Bool, true, false, if◌then◌else◌, is_none, bytes_eq, codes, ap, sym, refl, arith}
+use Rattle.std.proofs.Common.{◌≡◌, ◌∙◌, ◌≤◌, ◌<◌, length, get_or, map, subst, ℕ, List, [], ◌∷◌, Option, Some, None, Bool, true, false, if◌then◌else◌, is_none, codes, ap, sym, refl, arith}
 use Rattle.std.proofs.lemmas.Option.{same_Some}
+use Rattle.std.specs.Option.{unwrap_or}
 use Rattle.clap.specs.Words.{Row, fault_of, first_of, matches_of}
 use Rattle.clap.specs.Walk.{is_empty}
 use Rattle.command_words.specs.declared.words.Command.{Command}
-use Rattle.command_words.specs.declared.words.Command.TheVariants.{Times, Serve}
+use Rattle.command_words.specs.declared.words.Command.TheVariants.{Serve}
 use Rattle.command_words.specs.Commands.{command_app}
 use Rattle.command_words.specs.Words.{◌>>=◌, Asked, asked_of, command_asked, command_of, first_date, number_within, options_of, values_ask, zone_given}
 use Rattle.service_zones.specs.Bases.{day_of_wrong_length}
@@ -49,20 +50,9 @@ named name rest a e =
     let command = bound (command_of name) (λ c. command_asked c app words) a e in
     command.1 ∙ ap Some (sym (values-command command.0 (matches_of app words) a (read-well (is_empty (fault_of app words)) (values_ask command.0 (matches_of app words)) a command.2)))
 
-times-or-not : (is_times : Bool) (other : Option Command) (c : Command) → (if is_times then Some Times else other) ≡ Some c → is_times ≡ true → c ≡ Times
-times-or-not true other c e is = sym (same_Some Times c e)
-times-or-not false other c e is = absurd cc
-
-serve-or-none : (is_times is_serve : Bool) (c : Command) → (if is_times then Some Times else if is_serve then Some Serve else None) ≡ Some c → is_times ≡ false → c ≡ Serve
-serve-or-none true is_serve c e is = absurd cc
-serve-or-none false true c e is = sym (same_Some Serve c e)
-serve-or-none false false c e is = absurd cc
-
-pub times-asked : (name : List ℕ) (rest : List (List ℕ)) → bytes_eq name (codes "times") ≡ true → AskFor Times (name ∷ rest)
-times-asked name rest is a asked = times-or-not (bytes_eq name (codes "times")) _ a.command (named name rest a asked) is
-
-pub serve-asked : (name : List ℕ) (rest : List (List ℕ)) → bytes_eq name (codes "times") ≡ false → AskFor Serve (name ∷ rest)
-serve-asked name rest is a asked = serve-or-none (bytes_eq name (codes "times")) (bytes_eq name (codes "serve")) a.command (named name rest a asked) is
+-- where words ask for something, their first one names its command
+pub command-asked : (name : List ℕ) (rest : List (List ℕ)) → AskFor (unwrap_or (command_of name) Serve) (name ∷ rest)
+command-asked name rest a asked = sym (ap (λ (o : Option Command). unwrap_or o Serve) (named name rest a asked))
 
 pub none-asked : (c : Command) → AskFor c []
 unfolding asked_of

@@ -13,7 +13,7 @@ use Rattle.gtfs_tables.specs.declared.refusals.FeedRefusal.{FeedRefusal}
 use Rattle.gtfs_tables.specs.Feeds.{Files}
 use Rattle.gtfs_tables.specs.Refusals.{IsErrorOf}
 use Rattle.information_service.specs.Answering.{LineOutput}
-use Rattle.information_service.specs.Causes.{HasCounts, TookAll, TookFewer, WhereLinesStop}
+use Rattle.information_service.specs.Causes.{HasCounts, TookFewer, WhereLinesStop}
 use Rattle.information_service.specs.declared.fault.LinesFault.{LinesFault}
 use Rattle.information_service.specs.declared.fault.LinesFault.TheVariants as lines
 use Rattle.information_service.specs.Fronts.{AppendsAll, AppendsTakenFront}
@@ -39,7 +39,7 @@ use Rattle.commands.specs.declared.loading.LoadFault.{LoadFault}
 use Rattle.commands.specs.declared.loading.LoadFault.TheVariants as faults
 use Rattle.commands.specs.declared.status.Stop.{Stop}
 use Rattle.commands.specs.declared.status.Stop.TheVariants.{Usage, Refused, Fault}
-use Rattle.commands.proofs.Tables.{WasLoaded, WritesNothing, by-no_line, none-written, none-front, only-behind, says-behind}
+use Rattle.commands.proofs.Tables.{WasLoaded, WritesNothing, none-written, none-front, only-behind, says-behind}
 
 pub not-error : {T E : Type 0} (x : T) (e : E) → ¬ (Ok x ≡ Err e)
 not-error x e is = absurd cc

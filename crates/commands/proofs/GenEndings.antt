@@ -25,7 +25,7 @@ use Rattle.commands.specs.declared.status.Status.{Status}
 use Rattle.commands.specs.declared.status.Status.TheVariants as statuses
 use Rattle.commands.specs.declared.status.Stop.{Stop}
 use Rattle.commands.specs.declared.status.Stop.TheVariants.{Usage, Refused, Fault}
-use Rattle.commands.proofs.Endings.{is-err, not-error}
+use Rattle.commands.proofs.Endings.{is-err}
 use Rattle.commands.proofs.Failing.{full-by, more-of, never-counted, rose, same-room, told-after}
 use Rattle.commands.proofs.Statuses.{ended-well, few-taken, had-usage, read-failed, told-line, wanted-memory, was-long, was-refused, write-failed}
 

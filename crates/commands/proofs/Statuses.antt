@@ -9,7 +9,7 @@ use Rattle.information_service.proofs.Ends.{all_taken}
 use Rattle.information_service.proofs.Fronts.{taken_if}
 use Rattle.commands.specs.Contract.{EndsAs, MeetsContract}
 use Rattle.commands.specs.Failing.{NothingFails, Tells}
-use Rattle.commands.specs.Promises.{IsRefusedWith, KeepsPromises, run_ends, status_ends}
+use Rattle.commands.specs.Promises.{IsRefusedWith, KeepsPromises, status_ends}
 use Rattle.commands.specs.Runs.{Begins}
 use Rattle.commands.specs.Seen.{FeedSeen, StreamSeen}
 use Rattle.commands.specs.Statuses.{error_line, run_line, run_status}

@@ -5,7 +5,7 @@ use Rattle.std.proofs.lemmas.Option.{none-some}
 use Rattle.delay_model.specs.declared.network.Network.{Network}
 use Rattle.delay_model.specs.declared.state.State.{State}
 use Rattle.command_words.specs.declared.words.Command.{Command}
-use Rattle.command_words.specs.declared.words.Command.TheVariants.{Times, Serve}
+use Rattle.command_words.specs.declared.words.Command.TheVariants.{Times, Serve, Check}
 use Rattle.command_words.specs.Words.{Asked, asked_of}
 use Rattle.gtfs_tables.specs.declared.refusals.FeedRefusal.{FeedRefusal}
 use Rattle.feed_load.specs.Loaded.{loaded}
@@ -15,7 +15,7 @@ use Rattle.schedule_build.specs.Directory.{Names}
 use Rattle.mt_base.specs.declared.tables.Tables.{Tables}
 use Rattle.mt_io.specs.Lines.{Line, lines_of}
 use Rattle.information_service.specs.Fronts.{AppendsAll, AppendsTakenFront}
-use Rattle.information_service.specs.Answering.{IsBeginning, IsWhole as IsWholeOutput, LineOutput}
+use Rattle.information_service.specs.Answering.{LineOutput}
 use Rattle.information_service.specs.Networks.{IsSame, IsWrittenAlike, over}
 use Rattle.information_service.specs.ServiceState.{ServiceState}
 use Rattle.information_service.proofs.Networks.{output-same, replies-same}
@@ -24,13 +24,14 @@ use Rattle.information_service.proofs.WrittenAlike.{beginning-alike, whole-over}
 use Rattle.mt_io.proofs.Gives.{consumes_none}
 use Rattle.window_service.proofs.Networks.{served-same, whole-same}
 use Rattle.window_service.proofs.Written.{nothing-served}
+use Rattle.checked_answers.proofs.Alike.{checked-alike}
 use Rattle.commands.specs.Beginnings.{IsBegun}
 use Rattle.commands.specs.Feeds.{network, tables_in, asked_in}
 use Rattle.commands.specs.LineTasks.{Behind, IsBegunAlike, Refuses, Start, begins_by, begun_over, is_long, line_output, line_task, long_line, table_among, unless_long}
 use Rattle.commands.specs.Loading.{IsFetched}
 use Rattle.commands.specs.declared.loading.Fetched.{Fetched}
 use Rattle.commands.specs.Runs.{Begins, IsFeedRefused, IsLoadRefused, IsRefused, Loads, Refusal, SaysWhy, by_feed, by_command, line_of_refusal}
-use Rattle.commands.specs.Tasks.{Task, feed_task, first_service, output_for, output_of}
+use Rattle.commands.specs.Tasks.{Task, check_output, feed_task, first_service, output_for, output_of}
 
 -- the timetable that was loaded is the one that the words ask for
 pub record IsStart (words : List (List ℕ)) (tables : Option Files) (a : Asked) (nw loaded : Network)
@@ -75,20 +76,23 @@ pub begun-not-refused : {B : Type 0} {task : Task B} {words : List (List ℕ)} {
 begun-not-refused b (by_feed why) r = let l = b.loads in grind (arith, l.asked_is, r.asked_is, l.told_is, r.told_is, l.holds, r.refused)
 begun-not-refused b (by_command line) r = let one = are-one b.loads r.loads in absurd (cc (one.asked, one.told, one.service, b.begins, r.refused))
 
--- ---- `times` and `serve`
+-- ---- commands that load nothing behind the feed
 
 -- networks alike have the same outputs and the same replies, whatever the command
 whole-alike : (c : Command) (a b : Network) → IsSame a b → (names : Names) (st : State) (lines : List Line) (bytes : List ℕ) → (output_for c).IsWhole (first_service b names st) lines bytes → (output_for c).IsWhole (first_service a names st) lines bytes
-whole-alike Times a b h = output-same a b h
-whole-alike Serve a b h = served-same a b h
+whole-alike Times a b h names st lines bytes w = output-same a b h names st lines bytes w
+whole-alike Serve a b h names st lines bytes w = served-same a b h names st lines bytes w
+whole-alike Check a b h names st lines bytes w = whole-over checked-alike a (first_service b names st) tt h lines bytes w
 
 replies-alike : (c : Command) (a b : Network) → IsSame a b → (names : Names) (st : State) (lines : List Line) (bytes : List ℕ) → (output_for c).AreReplies (first_service b names st) lines bytes → (output_for c).AreReplies (first_service a names st) lines bytes
 replies-alike Times a b h names st lines bytes r = replies-same a b h names st [] lines bytes r
 replies-alike Serve a b h names st lines bytes r = whole-same a b h names st lines bytes r
+replies-alike Check a b h names st lines bytes r = elim r [ inl some ↦ inl (beginning-alike checked-alike a (first_service b names st) tt h lines bytes some) | inr nothing ↦ inr nothing ]
 
 no-replies : (c : Command) (t : ServiceState) → (output_for c).AreReplies t [] []
 no-replies Times t = refl
 no-replies Serve t = nothing-served t.network t.names t.state
+no-replies Check t = inr (refl, refl)
 
 -- what a command begins with, and the line by which it refuses
 abbrev made : {A : Type 0} → A → Result A (List ℕ)
@@ -111,7 +115,7 @@ same-service : {words : List (List ℕ)} {tables : Option Files} {a : Asked} {nw
     → IsStart words tables a nw loaded st names loads st_loaded names_loaded → first_service nw names st ≡ first_service nw names_loaded st_loaded
 same-service {nw = nw} {st = st} {names_loaded = names_loaded} s = ap (λ (ns : Names). first_service nw ns st) s.named ∙ ap (λ (t : State). first_service nw names_loaded t) s.state
 
--- `times` and `serve` begin with the service that was loaded
+-- they begin with the service that was loaded
 pub by-command : {words : List (List ℕ)} {tables : Option Files} {a : Asked} {loaded : Network} {st : State} {names : Names} (c : Command) → WasLoaded words tables a loaded st names → a.command ≡ c
     → IsBegun feed_task words tables ((output_for c).IsWhole (first_service loaded names st)) ((output_for c).AreReplies (first_service loaded names st))
 by-command {words = words} {tables = tables} {a = a} {loaded = loaded} {st = st} {names = names} c was is = record {
@@ -134,6 +138,10 @@ by-command {words = words} {tables = tables} {a = a} {loaded = loaded} {st = st}
 -- a service that has accepted no message is the first one
 at-first : (t : ServiceState) → t.count ≡ 0 → t ≡ first_service t.network t.names t.state
 at-first t none = ap (λ (n : ℕ). record { network = t.network; state = t.state; count = n; names = t.names }) none
+
+-- `check` begins with it as it was loaded
+pub by-check : {words : List (List ℕ)} {tables : Option Files} {a : Asked} {t : ServiceState} → t.count ≡ 0 → WasLoaded words tables a t.network t.state t.names → a.command ≡ Check → IsBegun feed_task words tables (check_output.IsWhole t) (check_output.AreReplies t)
+by-check {words = words} {tables = tables} {t = t} none was is = subst (λ (s : ServiceState). IsBegun feed_task words tables (check_output.IsWhole s) (check_output.AreReplies s)) (sym (at-first t none)) (by-command Check was is)
 
 -- what begins the same over networks alike does so also where its table is too long
 alike-if : {C : Type 0} (nw : Network) (long : Bool) (line : List ℕ) (x y : Result (Start C) (List ℕ)) → x ≡ begun_over nw y → (if long then Err line else x) ≡ begun_over nw (if long then Err line else y)

@@ -1,6 +1,6 @@
 -- What a command that answers line by line is to do: what it loads behind the feed, which is a table
 -- of the feed's folder that is its own, and what it writes.
-use Rattle.std.specs.Prelude.{ℕ, ◌≡◌, ◌⊎◌, ◌++◌, List, [], Bool, true, false, nat_lt, if◌then◌else◌, codes, length, Result, Ok, Err, None, Some}
+use Rattle.std.specs.Prelude.{ℕ, ◌≡◌, ◌⊎◌, ◌++◌, List, [], Bool, false, nat_lt, if◌then◌else◌, codes, length, Result, Ok, Err, None, Some}
 use Rattle.std.specs.declared.option.Option.{Option}
 use Rattle.command_words.specs.Words.{Asked}
 use Rattle.delay_model.specs.declared.network.Network.{Network}

@@ -30,8 +30,7 @@ number_of TooLong = 7
 -- the line of a status: none where all went well. That of a refused feed says why, and stands below
 abbrev pub error_line : Status → List ℕ
 error_line Ok = []
-error_line Usage = codes "traind: usage: traind times FEED --from DATE " ++ codes
-    "or traind serve FEED --from DATE or traind gen N\n"
+error_line Usage = codes "traind: usage: traind COMMAND FEED --from DATE or traind gen N\n"
 error_line FeedRefused = []
 error_line ReadFault = codes "traind: read fault\n"
 error_line WriteFault = codes "traind: write fault\n"

@@ -1,11 +1,13 @@
 -- What a command is to do: what it begins with, and what it writes.
-use Rattle.std.specs.Prelude.{ℕ, List, [], Result, Ok}
+use Rattle.std.specs.Prelude.{ℕ, ◌≡◌, ◌⊎◌, List, [], Result, Ok}
 use Rattle.command_words.specs.declared.words.Command.{Command}
-use Rattle.command_words.specs.declared.words.Command.TheVariants.{Times, Serve}
+use Rattle.command_words.specs.declared.words.Command.TheVariants.{Times, Serve, Check}
 use Rattle.command_words.specs.Words.{Asked}
+use Rattle.checked_answers.specs.CheckedLines.{checked_output}
 use Rattle.delay_model.specs.declared.network.Network.{Network}
 use Rattle.delay_model.specs.declared.state.State.{State}
 use Rattle.gtfs_tables.specs.Feeds.{Files}
+use Rattle.information_service.specs.Answering.{IsBeginning, IsWhole, LineOutput}
 use Rattle.information_service.specs.Output.{AreReplies, IsOutput}
 use Rattle.information_service.specs.ServiceState.{ServiceState}
 use Rattle.mt_io.specs.Lines.{Line}
@@ -52,15 +54,30 @@ served_output = record {
   AreReplies = λ t. AreWholeWindowsServed t.network t.names t.state;
 }
 
+-- what a command writes that answers line by line and keeps nothing beside the service. Where
+-- nothing was read it may have written nothing
+abbrev pub plain_output : LineOutput (Unit {0}) → Output ServiceState
+plain_output o = record {
+  IsWhole = λ t. IsWhole o t tt;
+  AreReplies = λ t lines bytes. IsBeginning o t tt lines bytes ⊎ ((lines ≡ []) × (bytes ≡ []));
+}
+
+-- what `check` writes: a reply to each line. Each query is answered in the state after the messages
+-- that were accepted before it, with a good certificate of its answer; and each claim is found right
+-- exactly where it has a good certificate in that state (`IsReplyText` in checked_answers)
+abbrev pub check_output : Output ServiceState
+check_output = plain_output checked_output
+
 -- what a command writes
 abbrev pub output_for : Command → Output ServiceState
 output_for Times = times_output
 output_for Serve = served_output
+output_for Check = check_output
 
 -- what the command writes that the words ask for
 abbrev pub output_of : Asked → Output ServiceState
 output_of asked = output_for asked.command
 
--- `times` and `serve` begin with the service that was loaded, and refuse nothing behind the feed
+-- these commands begin with the service that was loaded, and refuse nothing behind the feed
 abbrev pub feed_task : Task ServiceState
 feed_task = record { begins = λ told asked t. Ok t; Refuses = λ line. ⊥; output = output_of }

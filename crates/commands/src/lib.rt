@@ -1,5 +1,4 @@
-//! The program as a call: the commands `times`, `serve` and `gen`, each over any feed, input and
-//! outputs.
+//! The program as a call: its commands, each over any feed, input and outputs.
 #![tactic(auto)]
 
 mod beginning;
@@ -13,5 +12,5 @@ mod telling;
 
 pub use feed::{LoadedTimetable, load_timetable};
 pub use loading::{LoadBehind, LoadFault, LoadNothing};
-pub use run::{run_lines, run_times, traind, traind_within};
+pub use run::{run_check, run_lines, run_times, traind, traind_within};
 pub use status::Status;

@@ -16,6 +16,7 @@ use crate::loading::LoadBehind;
 use crate::refusal::feed_stop;
 use crate::status::{Status, Stop, run_of};
 use crate::telling::tell;
+use checked_answers::CheckLines;
 use command_words::{Command, is_gen, read_words};
 use information_service::{AnswerLines, answer_input, write_output};
 use mt_io::{Feed, Gate, Sink, Source};
@@ -96,6 +97,34 @@ fn serve_words<R: Threads + Wait + Sync, F: Feed, S: Source, K: Sink, G: Gate + 
         out,
         budget,
     ))
+}
+
+/// The same for `check`.
+fn check_words<F: Feed, S: Source, K: Sink>(
+    alloc: Global,
+    words: &[String],
+    feed: &mut F,
+    input: &mut S,
+    out: &mut K,
+    budget: u64,
+) -> Result<(), Stop>
+    requires command { AskFor Command.Check (map string_bytes words.now) }
+
+    ensures run { EndsAs feed_task budget (map string_bytes words.now)
+        (feed_seen F.tables F.faults feed.old feed.new)
+        (stream_seen S.left S.faults input.old input.new)
+        (stream_seen K.written K.faults out.old out.new)
+        feed.old feed.new input.old input.new out.old out.new result }
+{
+    let asked = match read_words(alloc, words) {
+        Ok(asked) => asked,
+        Err(fault) => return Err(Stop::from(fault)),
+    };
+    let mut service = match load_service(alloc, &asked, feed) {
+        Ok(service) => service,
+        Err(error) => return Err(feed_stop(alloc, error)),
+    };
+    run_of(answer_input::<CheckLines, (), S, K>(alloc, &mut service, &mut (), input, out, budget))
 }
 
 /// The same for a command that answers line by line, with what it loads behind the feed.
@@ -211,21 +240,46 @@ fn run_serve<R: Threads + Wait + Sync, F: Feed, S: Source, K: Sink, E: Sink, G: 
     tell(&run, err)
 }
 
-/// Whether the first word is `times`.
-fn is_times(words: &[String]) -> bool
-    ensures times { result ≡ true → AskFor Command.Times (map string_bytes words.now) }
-    ensures serve { result ≡ false → AskFor Command.Serve (map string_bytes words.now) }
+/// All that the program does for `check`. It reads the tables of the feed, and answers each line of
+/// the input at once: a query with what shows that its answer is right, and a claim by whether it is
+/// right, by the times after the messages of the lines before it. It stops where `budget` bytes of
+/// the input were taken and no end was read. It waits for nobody and returns.
+pub fn run_check<F: Feed, S: Source, K: Sink, E: Sink>(
+    alloc: Global,
+    words: &[String],
+    feed: &mut F,
+    input: &mut S,
+    out: &mut K,
+    err: &mut E,
+    budget: u64,
+) -> Status
+    requires command { AskFor Command.Check (map string_bytes words.now) }
+    requires budget { 1 ≤ budget }
+    ensures contract { MeetsContract feed_task budget (map string_bytes words.now)
+        (feed_seen F.tables F.faults feed.old feed.new)
+        (stream_seen S.left S.faults input.old input.new)
+        (stream_seen K.written K.faults out.old out.new)
+        (stream_seen E.written E.faults err.old err.new)
+        feed.old feed.new input.old input.new out.old out.new result }
+{
+    let run = check_words(alloc, words, feed, input, out, budget);
+    tell(&run, err)
+}
+
+/// The command that words ask for, if they ask for anything.
+fn command_for(words: &[String]) -> Command
+    ensures { AskFor result (map string_bytes words.now) }
 {
     match words {
-        [command, ..] => command.as_str() == "times",
-        [] => false,
+        [name, ..] => Command::named(name.as_str()).unwrap_or(Command::Serve),
+        [] => Command::Serve,
     }
 }
 
-/// The program. For `times` it does what `run_times` does. For `serve` it reads the tables of the
-/// feed and answers the input window after window, and queries beside the messages; the gate is
-/// called after each message and before each query. It stops where `budget` bytes of the input were
-/// taken and no end was read. For `gen` it does what it does for `serve` over a feed and an input
+/// The program. For `times` it does what `run_times` does, and for `check` what `run_check` does.
+/// For `serve` it reads the tables of the feed and answers the input window after window, and
+/// queries beside the messages; the gate is called after each message and before each query. It
+/// stops where `budget` bytes of the input were taken and no end was read. For `gen` it does what it does for `serve` over a feed and an input
 /// that it makes from a number of trains, and writes one line with the sums over the replies; it
 /// asks nothing of `feed` and `input`.
 pub fn traind_within<
@@ -268,10 +322,11 @@ pub fn traind_within<
     if is_gen(words) {
         return run_gen(rt, alloc, words, out, err, gate);
     }
-    if is_times(words) {
-        return run_times(alloc, words, feed, input, out, err, budget);
+    match command_for(words) {
+        Command::Times => run_times(alloc, words, feed, input, out, err, budget),
+        Command::Check => run_check(alloc, words, feed, input, out, err, budget),
+        Command::Serve => run_serve(rt, alloc, words, feed, input, out, err, gate, budget),
     }
-    run_serve(rt, alloc, words, feed, input, out, err, gate, budget)
 }
 
 /// How many bytes of the input the program takes at most.

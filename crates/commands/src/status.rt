@@ -30,8 +30,7 @@ pub enum Status {
 }
 
 /// How the program is called.
-const USAGE: &[u8] =
-    b"traind: usage: traind times FEED --from DATE or traind serve FEED --from DATE or traind gen N\n";
+const USAGE: &[u8] = b"traind: usage: traind COMMAND FEED --from DATE or traind gen N\n";
 
 impl Status {
     /// The exit status of the program.

@@ -60,7 +60,7 @@ known-same a b h reading st names (x ∷ xs) =
 reply-to-message-same : (a b : Network) → IsSame a b → (names : Names) (st : State) (count line : ℕ) (w : Wire) (read : Result Message Refusal) → reply_to_message b names st count line w read ≡ reply_to_message a names st count line w read
 reply-to-message-same a b h names st count line w read = grind (arith, refusal-same a b h, changed-same a b h)
 
-ride-same : (a b : Network) → IsSame a b → (st : State) (r : PlanRide) → IsRide b st r → IsRide a st r
+pub ride-same : (a b : Network) → IsSame a b → (st : State) (r : PlanRide) → IsRide b st r → IsRide a st r
 ride-same a b h st r x = grind (arith, times-same a b h st)
 
 goes-on-same : (a b : Network) → IsSame a b → (st : State) (p t : ℕ) (rides : List PlanRide) (to at : ℕ) → GoesOn b st p t rides to at → GoesOn a st p t rides to at
@@ -68,15 +68,15 @@ goes-on-same a b h st p t [] to at g = grind (arith, h.station)
 goes-on-same a b h st p t (r ∷ rs) to at g = grind (arith, h.change, ride-same a b h st, goes-on-same a b h st r.alight_stop r.alight_time rs to at)
 
 -- the same journeys
-journey-same : (a b : Network) → IsSame a b → (st : State) (q : Query) (rides : List PlanRide) (at : ℕ) → IsJourney b st q rides at → IsJourney a st q rides at
+pub journey-same : (a b : Network) → IsSame a b → (st : State) (q : Query) (rides : List PlanRide) (at : ℕ) → IsJourney b st q rides at → IsJourney a st q rides at
 journey-same a b h st q [] at j = grind (arith, h.station)
 journey-same a b h st q (r ∷ rs) at j = grind (arith, h.station, h.change, ride-same a b h st, goes-on-same a b h st)
 
 -- likeness turns round
-same-back : (a b : Network) → IsSame a b → IsSame b a
+pub same-back : (a b : Network) → IsSame a b → IsSame b a
 same-back a b h = grind arith
 
-query-same : (a b : Network) → IsSame a b → (st : State) (count line day : ℕ) (q : Query) (reply : Reply) → IsReplyToQuery b st count line day q reply → IsReplyToQuery a st count line day q reply
+pub query-same : (a b : Network) → IsSame a b → (st : State) (count line day : ℕ) (q : Query) (reply : Reply) → IsReplyToQuery b st count line day q reply → IsReplyToQuery a st count line day q reply
 query-same a b h st count line day q reply is = grind (arith, journey-same a b h st q, journey-same b a (same-back a b h) st q)
 
 pub resolved-same : (a b : Network) → IsSame a b → (st : State) (count line : ℕ) (asked : Result AskedQuery BadLine) (reply : Reply) → IsReplyToResolved b st count line asked reply → IsReplyToResolved a st count line asked reply

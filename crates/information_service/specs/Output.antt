@@ -4,6 +4,8 @@ use Rattle.std.specs.Option.{option_map_or}
 use Rattle.std.specs.declared.option.Option.{Option}
 use Rattle.mt_base.specs.declared.journeys.PlanRide.{PlanRide}
 use Rattle.mt_base.specs.declared.journeys.Query.{Query}
+use Rattle.conn_scan.specs.declared.earliest_arrival.Found.{Found}
+use Rattle.conn_scan.specs.declared.earliest_arrival.Found.TheVariants.{Arrives, NoWay}
 use Rattle.delay_model.specs.declared.network.Network.{Network}
 use Rattle.delay_model.specs.declared.messages.Message.{Message}
 use Rattle.delay_model.specs.declared.messages.Refusal.{Refusal}
@@ -52,6 +54,11 @@ abbrev pub reply_to_message : Network → Names → State → ℕ → ℕ → Wi
 reply_to_message nw names st count line w (Err r) = Refused line r
 reply_to_message nw names st count line w (Ok m) =
     reply_by_refusal nw names st count line w m (refusal nw st m)
+
+-- the reply that shows an answer to a query of a service day, with these rides
+abbrev pub reply_to_found : ℕ → ℕ → ℕ → Found → List PlanRide → Reply
+reply_to_found line count day (Arrives at) rides = Journey line count day at rides
+reply_to_found line count day NoWay rides = NoJourney line count
 
 -- this is a reply to a query in a state after so many accepted messages: it shows a journey, and no
 -- other arrives earlier; or there is no journey, and the reply says so

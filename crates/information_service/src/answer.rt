@@ -73,30 +73,6 @@ fn reply_to_wire_query(
     }
 }
 
-/// The reply to what a line says, which may change the timetable and add a name.
-fn reply_to_said(
-    alloc: Global,
-    service: &mut InformationService,
-    number: u64,
-    said: &Line,
-) -> Result<Reply, OutOfMemory>
-    requires kept { IsLine said.now }
-    requires count { service.old.count < 2 ^ 64 - 1 }
-    ensures reply { IfOk result (IsReply service.old.network service.old.names service.old.state
-        service.old.count number (Ok said.now)) }
-    ensures next { OnOk result (service.new ≡ after_said service.old (Ok said.now)) }
-    ensures unchanged { IfErr result (λ _. service.new ≡ service.old) }
-{
-    match said {
-        Line::Message(wire) => reply_to_wire(alloc, service, number, wire),
-        Line::Query(query) => reply_to_wire_query(alloc, service, number, query),
-        Line::Flush => Ok(Reply::Flush {
-            line: number,
-            count: service.timetable.count(),
-        }),
-    }
-}
-
 /// The reply to a line that is not long, without its line end.
 fn reply_to_bytes(
     alloc: Global,
@@ -111,13 +87,38 @@ fn reply_to_bytes(
     ensures unchanged { IfErr result (λ _. service.new ≡ service.old) }
 {
     match read_line(alloc, line) {
-        Ok(said) => reply_to_said(alloc, service, number, &said),
+        Ok(said) => service.answer_said(alloc, number, &said),
         Err(LineError::Bad(bad)) => Ok(Reply::Bad { line: number, bad }),
         Err(LineError::OutOfMemory) => Err(AllocError),
     }
 }
 
 impl InformationService {
+    /// The reply to what a line of this number says, which may change the timetable and add a name.
+    /// Want of memory is the only error, and then nothing has changed.
+    pub fn answer_said(
+        &mut self,
+        alloc: Global,
+        number: u64,
+        said: &Line,
+    ) -> Result<Reply, OutOfMemory>
+        requires kept { IsLine said.now }
+        requires count { self.old.count < 2 ^ 64 - 1 }
+        ensures reply { IfOk result (IsReply self.old.network self.old.names self.old.state
+            self.old.count number (Ok said.now)) }
+        ensures next { OnOk result (self.new ≡ after_said self.old (Ok said.now)) }
+        ensures unchanged { IfErr result (λ _. self.new ≡ self.old) }
+    {
+        match said {
+            Line::Message(wire) => reply_to_wire(alloc, self, number, wire),
+            Line::Query(query) => reply_to_wire_query(alloc, self, number, query),
+            Line::Flush => Ok(Reply::Flush {
+                line: number,
+                count: self.timetable.count(),
+            }),
+        }
+    }
+
     /// The reply to a line of the input, which has this number from 1 on. Its message is taken if
     /// the timetable accepts it, its query is answered by a journey, a flush by the number of
     /// accepted messages, and a bad line by its fault. Want of memory is the only error, and then

@@ -3,6 +3,7 @@
 
 mod answer;
 mod answering;
+mod asking;
 mod fault;
 mod laws;
 mod lines;
@@ -15,10 +16,11 @@ mod times;
 mod writing;
 
 pub use answering::{AnswerLines, InputLine};
+pub use asking::AskTimetable;
 pub use fault::LinesFault;
 pub use laws::{lines_keep_names_in_step, outputs_differ_in_journeys_alone};
 pub use output::answer_input;
-pub use replies::reply_to_asked;
+pub use replies::{reply_to_asked, reply_to_found};
 pub use service::InformationService;
 pub use taking::{TakeMessages, take_wire};
 pub use times::write_output;

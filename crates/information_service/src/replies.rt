@@ -2,7 +2,7 @@
 
 ghost use Rattle.std.specs.Prelude.{◌≡◌, ◌≤◌, ◌<◌, length, IfOk, IfSome};
 ghost use Rattle.information_service.specs.Lines.{added_name, with_added, CanBeAdded};
-ghost use Rattle.information_service.specs.Output.{reply_to_refused, IsReplyToQuery};
+ghost use Rattle.information_service.specs.Output.{reply_to_found, reply_to_refused, IsReplyToQuery};
 
 use conn_scan::{Found, Scratch, earliest};
 use delay_model::messages::Refusal;
@@ -10,6 +10,7 @@ use delay_report::Reply;
 use message_reader::{AskedQuery, Wire};
 use mt_base::journeys::PlanRide;
 use mt_base::memory::OutOfMemory;
+use mt_base::numbers::Day;
 use mt_base::rows::Rows;
 use schedule_build::{Directory, ExtraName};
 use std::alloc::Global;
@@ -79,6 +80,34 @@ fn copy_rides(alloc: Global, rides: &[PlanRide]) -> Result<Rows<PlanRide>, OutOf
     Ok(Rows::build(copy))
 }
 
+/// The reply that shows an answer to a query, and these rides of it. The query stands in the line of
+/// this number, its time lies on this service day, and it is answered after so many accepted
+/// messages. `OutOfMemory` where there is no memory.
+pub fn reply_to_found(
+    alloc: Global,
+    number: u64,
+    after: u64,
+    day: Day,
+    found: &Found,
+    rides: &[PlanRide],
+) -> Result<Reply, OutOfMemory>
+    ensures { IfOk result (λ r. r ≡ reply_to_found number after day found.now rides.now) }
+{
+    match found {
+        Found::Arrives { at } => Ok(Reply::Journey {
+            line: number,
+            after,
+            day,
+            arrives: *at,
+            rides: copy_rides(alloc, rides)?,
+        }),
+        Found::NoWay => Ok(Reply::NoJourney {
+            line: number,
+            after,
+        }),
+    }
+}
+
 /// The reply to a query by number, which stands in the line of this number and is answered after so
 /// many accepted messages. `OutOfMemory` where there is no memory.
 pub fn reply_to_asked(
@@ -98,17 +127,6 @@ pub fn reply_to_asked(
         after number asked.now.day asked.now.query) }
     ensures room { scratch.new.room ≡ scratch.old.room }
 {
-    match earliest(timetable, &asked.query, scratch) {
-        Found::Arrives { at } => Ok(Reply::Journey {
-            line: number,
-            after,
-            day: asked.day,
-            arrives: at,
-            rides: copy_rides(alloc, scratch.rides())?,
-        }),
-        Found::NoWay => Ok(Reply::NoJourney {
-            line: number,
-            after,
-        }),
-    }
+    let found = earliest(timetable, &asked.query, scratch);
+    reply_to_found(alloc, number, after, asked.day, &found, scratch.rides())
 }

@@ -156,6 +156,17 @@ pub(super) const QUERY_REPLIES: &str =
 {\"after\":1,\"arrives\":null,\"line\":3}
 ";
 
+/// Claims that no journey from A to D at 08:00:00 arrives before 09:10:00.
+pub(super) const CLAIM: &str =
+    r#"{"v":2,"type":"claim","client":"c1","from":"A","to":"D","date":"20260105","time":"08:00:00","arrives":"09:10:00","rides":[{"trip":"T1","date":"20260105","board":0,"alight":1},{"trip":"T2","date":"20260105","board":0,"alight":1}],"reached":[{"stop":"B1","time":"08:30:00"},{"stop":"C","time":"09:00:00"}]}"#;
+
+/// The replies to the claim, to the forecast of T1, to the claim once more, and to the query.
+pub(super) const CLAIM_REPLIES: &str = "{\"claim\":true,\"line\":1}
+{\"accepted\":1,\"changed\":3,\"line\":2}
+{\"claim\":false,\"line\":3}
+{\"after\":1,\"arrives\":null,\"line\":4,\"reached\":[{\"stop\":\"B1\",\"time\":\"08:38:01\"},{\"stop\":\"C\",\"time\":\"09:07:01\"}]}
+";
+
 /// Queries from a station to its platform, from a place that is not there, and on a day that is not
 /// loaded.
 pub(super) const SHORT_QUERIES: &str =
@@ -183,5 +194,4 @@ pub(super) const HELD: &str =
 pub(super) const FLUSH: &str = r#"{"v":1,"type":"flush"}"#;
 
 /// How the program is called, as the error stream has it.
-pub(super) const USAGE: &str =
-    "traind: usage: traind times FEED --from DATE or traind serve FEED --from DATE or traind gen N\n";
+pub(super) const USAGE: &str = "traind: usage: traind COMMAND FEED --from DATE or traind gen N\n";

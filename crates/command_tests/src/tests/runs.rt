@@ -1,9 +1,9 @@
 //! Runs of each command, one by one, with all that each must write.
 
 use crate::tests::example_feed::{
-    ACCEPTED, BACKWARDS, BACKWARDS_REPLY, CANCEL, EARLIER, EXTRA, EXTRA_REPLIES, FLUSH, FORECAST,
-    HEADER, KEEP, MISSED, NO_TRAIN, QUERY, QUERY_REPLIES, REPLIES, REPORT, SHORT_QUERIES,
-    SHORT_REPLIES, T1, T1_LATE, T1_MISSED, T2, T2_HELD, USAGE, X1,
+    ACCEPTED, BACKWARDS, BACKWARDS_REPLY, CANCEL, CLAIM, CLAIM_REPLIES, EARLIER, EXTRA,
+    EXTRA_REPLIES, FLUSH, FORECAST, HEADER, KEEP, MISSED, NO_TRAIN, QUERY, QUERY_REPLIES, REPLIES,
+    REPORT, SHORT_QUERIES, SHORT_REPLIES, T1, T1_LATE, T1_MISSED, T2, T2_HELD, USAGE, X1,
 };
 use crate::tests::{CASE, Case, Ended, bytes_of, is_end, is_next, run, words_of};
 use commands::{Status, traind};
@@ -133,6 +133,18 @@ const TIMES_RUNS: [Run; 11] = [
         ..WELL
     },
 ];
+
+/// A run of `check` on the same feed.
+const CHECK_RUNS: [Run; 1] = [Run {
+    shows: "a claim, before and after a missed connection, and a query that has no journey then",
+    case: Case {
+        words: "check feed --from 20260105 --slack 0",
+        ..CASE
+    },
+    input: &[CLAIM, "\n", MISSED, "\n", CLAIM, "\n", QUERY],
+    out: &[CLAIM_REPLIES],
+    ..WELL
+}];
 
 /// Runs that end before the end of their input, and one that takes the whole of it.
 const ENDED_RUNS: [Run; 6] = [
@@ -359,6 +371,12 @@ pub(super) fn first_wrong<R: Threads + Wait + Sync>(
 #[test]
 fn lines_are_answered(rt: HostRuntime) -> Result<(), Fail> {
     assert_eq!(rt; first_wrong(&rt, rt.alloc(), &TIMES_RUNS)?, None);
+    Ok(())
+}
+
+#[test]
+fn claims_are_judged(rt: HostRuntime) -> Result<(), Fail> {
+    assert_eq!(rt; first_wrong(&rt, rt.alloc(), &CHECK_RUNS)?, None);
     Ok(())
 }
 

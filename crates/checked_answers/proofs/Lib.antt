@@ -1,0 +1,3 @@
+pub mod Alike
+mod Judged
+mod Leaving

@@ -1,0 +1,3 @@
+pub mod CheckedClaims
+pub mod CheckedLines
+pub mod CheckedQueries
