@@ -6,7 +6,7 @@ from dataclasses import dataclass, field
 
 from plain_draw import SERVED
 
-COMMANDS = "times", "serve", *(["check"] if "check" in SERVED else [])
+COMMANDS = "times", "serve", *(command for command in ("check", "plans") if command in SERVED)
 BLOCK = 1 << 20
 LONG = 65_536
 MILLION = 1_000_000
@@ -287,11 +287,13 @@ def extras(n):
     return Case(input=[lines()], output=[accepted], words=["--spare-trains=2000"], megabytes=128)
 
 
-def clients(n):
-    """Queries of clients whose names have one sum, so that one worker of 16 answers them all."""
-    where = {"from": "A", "to": "D", "date": DAY, "time": "08:00:00"}
+FROM_A_TO_D = {"from": "A", "to": "D", "date": DAY, "time": "08:00:00"}
+
+
+def rides_from_a_to_d():
+    """The rides of the journey from A to D, as a reply shows them."""
     ends = ("T1", "A", "08:00:00", "B1", "08:30:00"), ("T2", "B2", "08:36:00", "D", "09:10:00")
-    rides = [
+    return [
         {
             "alight": {"call": 1, "stop": stop, "time": comes},
             "board": {"call": 0, "stop": start, "time": leaves},
@@ -300,9 +302,20 @@ def clients(n):
         }
         for trip, start, leaves, stop, comes in ends
     ]
-    found = {"after": 0, "arrives": "09:10:00", "rides": rides}
-    lines = (line_of("query", client=alike(number, 1_000), **where) + b"\n" for number in range(n // 100))
+
+
+def clients(n):
+    """Queries of clients whose names have one sum, so that one worker of 16 answers them all."""
+    found = {"after": 0, "arrives": "09:10:00", "rides": rides_from_a_to_d()}
+    lines = (line_of("query", client=alike(number, 1_000), **FROM_A_TO_D) + b"\n" for number in range(n // 100))
     return Case(input=[lines], output=[same(found, n // 100)], words=["--workers=16"])
+
+
+def planned(n):
+    """Queries of `plans`, each with one plan."""
+    found = {"after": 0, "plans": [{"arrives": "09:10:00", "rides": rides_from_a_to_d()}]}
+    line = line_of("query", client="q", **FROM_A_TO_D) + b"\n"
+    return Case(input=[(line, n // 100)], output=[same(found, n // 100)], command="plans", words=["--rides=8"])
 
 
 def lines_of(line, every, answer):
@@ -338,3 +351,5 @@ def growing_lines():
         yield f"{name} of each of 100 claims", wide(make, {"claim": good}, command="check", tables=HALTS_TABLE)
     yield "extra trains with names that are nearly equal", extras
     yield "queries of clients of one worker", clients
+    if "plans" in COMMANDS:
+        yield "queries of plans", planned

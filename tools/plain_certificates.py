@@ -37,19 +37,20 @@ def ride_name(ride):
     return ride["trip"], ride["date"], ride["board"], ride["alight"]
 
 
-def reached_stop(feed, stop, base):
+def reached_stop(stop, base):
     """A stop with a time of a claim."""
-    if not feed.is_stop(stop["stop"]):
-        raise Bad("stop")
     return stop["stop"], claim_time(stop["time"], base)
 
 
 def read_claim(plain, message):
     """What a claim says in the present state; or it raises Bad with the first fault behind those of its shape."""
+    plain.check_places(message)
+    if not all(plain.feed.is_stop(stop["stop"]) for stop in message["reached"]):
+        raise Bad("stop")
     base, time = plain.asked(message)
     arrives = None if message["arrives"] is None else claim_time(message["arrives"], base)
     rides = [ride_name(ride) for ride in message["rides"]]
-    reached = [reached_stop(plain.feed, stop, base) for stop in message["reached"]]
+    reached = [reached_stop(stop, base) for stop in message["reached"]]
     question = Question(plain.feed, plain.current_rides(), message["from"], message["to"], time)
     return Claim(question, arrives, rides, reached)
 

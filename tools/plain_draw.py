@@ -1,6 +1,7 @@
 """Draws feeds and lines for tools/compare and tools/fuzz, each the same at each run with one number.
 
-A feed has hubs with platforms, halts, trips between them, transfers and waiting rules.
+A feed has hubs with platforms, halts, trips between them, transfers and waiting rules; in
+some feeds the trips come in waves along a row of them, for journeys of many rides.
 The lines are drawn in the present state of a plain program, so that they name what is
 there most times, and trains that wait for one another.
 """
@@ -133,6 +134,35 @@ class Maker:
         return self.pick(("", *self.routes)), self.pick(("", *self.routes)), stop, self.pick((0, 0, 60, 300, 900))
 
 
+class Waves(Maker):
+    """Makes feeds whose hubs and halts stand in a row, with trains along it that come in waves.
+
+    In a wave a train goes from each place to the next, and the one from there leaves when there was time to change.
+    Others go farther, and the slower the farther. So the more often a passenger changes, the earlier they arrive.
+    """
+
+    halt_counts, trip_counts = (5, 6, 8), (80, 100)
+
+    def __init__(self, number, days=None):
+        self.hops = 0
+        super().__init__(number, days)
+
+    def calls(self):
+        """The stop, arrival and departure of each call of a trip: two of three go to the next place, wave by wave."""
+        steps = self.random.randrange
+        row = [*self.hubs.values(), *([halt] for halt in self.halts)]
+        wave, first = divmod(self.hops, len(row) - 1)
+        far, self.hops = 1, self.hops + 1
+        if steps(3) == 0:
+            self.hops -= 1
+            wave, first, far = steps(wave + 1), steps(len(row) - 1), self.pick((2, 2, 3, 4, len(row)))
+        time, running = 60 * (20 * wave + 16 * first), 60 * (6 + 4 * far)
+        for stops in row[first : first + far + 1]:
+            standing = self.unit * steps(2)
+            yield self.pick(stops), time, time + standing
+            time += standing + running + self.unit * steps(2)
+
+
 class Messages:
     """Draws lines in the present state of a plain program, for a few connections and their trains."""
 
@@ -141,7 +171,7 @@ class Messages:
         self.pairs = [self.pair() for _ in range(5)]
         self.drawn, self.claims = [], []
 
-    def lines(self, number, with_claims=False):
+    def lines(self, number, with_claims=False, with_more_queries=False):
         """Each line is drawn when the plain program has answered the lines before it."""
         draws = [self.value] * 12 + [self.choice] * 9 + [lambda: {"type": "flush"}]
         for feature, kinds in (
@@ -150,6 +180,7 @@ class Messages:
         ):  # fmt: skip
             draws += kinds if feature in SERVED else []
         draws += [self.claim] * 16 if with_claims else []
+        draws += [self.query] * 8 + [self.far_query] * 16 if with_more_queries else []
         for _ in range(number):
             if self.pick(range(8)) == 0:
                 self.pairs[self.pick(range(5))] = self.pair()
@@ -274,6 +305,9 @@ class Messages:
         message = {"type": "query"} | members | {"date": date, "time": time_text(time)}
         return message | self.pick((*BAD, *[{}] * 150))
 
+    def far_query(self):
+        return far_query(self.random, [*self.plain.current_rides().values()])
+
     def claim(self):
         """A claim that is right, at times in an earlier state; half have changes."""
         if not self.claims or self.pick(range(2)) == 0:
@@ -302,6 +336,14 @@ class Messages:
         """The message, at times with a name that is not known."""
         other = self.pick((*UNKNOWN, *[{}] * 150))
         return message | other if other.keys() <= message.keys() else message
+
+
+def far_query(random, rides):
+    """A query from where a ride begins to where one ends, at any time before the first of the two leaves."""
+    u, v = random.choice(rides).u, random.choice(rides).v
+    time = random.randrange(max(0, u.scheduled - u.train.base) + 1)
+    members = {"client": random.choice("abc"), "from": u.stop, "to": v.stop}
+    return {"type": "query"} | members | {"date": u.train.date, "time": time_text(time)}
 
 
 def is_cut(u, v):

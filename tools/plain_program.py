@@ -236,11 +236,16 @@ class Plain:
             self.rides = rides_of(self.trains, self.times)
         return self.rides
 
-    def asked(self, query):
-        """The base of the service day of a query, and its time; or it raises Bad with the fault of its names."""
-        places, bases = (query["from"], query["to"]), self.feed.bases
+    def check_places(self, query):
+        """Raises Bad where a place of a query is none."""
+        places = query["from"], query["to"]
         if not all(place in self.feed.stops and self.feed.place_type(place) in "01" for place in places):
             raise Bad("stop")
+
+    def asked(self, query):
+        """The base of the service day of a query, and its time; or it raises Bad with the fault of its names."""
+        self.check_places(query)
+        bases = self.feed.bases
         if query["date"] not in bases or not is_time(query["time"]):
             raise Bad("time")
         base = bases[query["date"]]

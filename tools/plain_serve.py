@@ -67,25 +67,28 @@ def count_shown(text):
 def is_right(want, number, line):
     """Whether a line of the output is a wanted reply or row.
 
-    Of the journeys that arrive as early, it may show any; and so of the stops that show that it is right.
+    Of the journeys that arrive as early, it may show any; and so of the stops that show that it is right, and of the
+    journeys that arrive as early with as many rides.
     """
     if not isinstance(want, dict):
         return line == want
-    if "rides" not in want and "reached" not in want:
+    if want.keys().isdisjoint(("rides", "reached", "plans")):
         return line == numbered(want, number)
     try:
         found = found_in(want, json.loads(line))
         return found is not None and line == numbered(want | found, number)
-    except (ValueError, KeyError, TypeError):
+    except (ValueError, KeyError, TypeError, AttributeError):
         return False
 
 
 def found_in(want, reply):
-    """What a reply to a query shows of a journey and of what is reached, in its one form; or None where it is wrong."""
+    """What a reply to a query shows of journeys and of what is reached, in its one form; or None where it is wrong."""
     found, rides = {}, []
     if "rides" in want:
         rides = want["rides"].named(reply["rides"])
         found["rides"] = [*map(shown, rides)] if want["rides"].have(rides) else None
     if "reached" in want:
         found["reached"] = want["reached"].shown(reply["reached"], rides)
+    if "plans" in want:
+        found["plans"] = want["plans"].shown(reply["plans"])
     return None if None in found.values() else found

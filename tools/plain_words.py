@@ -15,7 +15,9 @@ RANGES = {
     "spare-calls": (0, 40_000),
     "overrides": (0, 100_000),
     "workers": (1, 16),
+    "rides": (1, 8),
 }
+COMMANDS = "times", "serve", "check", "plans", "gen"
 # The options whose values are no numbers.
 TEXTS = ("from", "zone")
 USAGE = "usage: traind COMMAND FEED --from DATE or traind gen N"
@@ -23,12 +25,14 @@ USAGE = "usage: traind COMMAND FEED --from DATE or traind gen N"
 
 def read_words(words):
     """The command, its FEED or N, and the options by name, each with its value; or None where the words are others."""
-    if not words or words[0] not in ("times", "serve", "check", "gen"):
+    if not words or words[0] not in COMMANDS:
         return None
     given = parts(words[1:])
     if given is None or given[0] is None:
         return None
     main, options = given
+    if "rides" in options and words[0] != "plans":
+        return None
     if words[0] == "gen":
         if options.keys() - {"workers"} or not (is_number(main, 100_000) and int(main) > 0):
             return None

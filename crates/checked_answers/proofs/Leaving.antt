@@ -38,7 +38,8 @@ claim-keeps t names d =
     let version : Result ℕ BadLine = need Shape (number_at (codes "v") d) in
     let known : ℕ → Result (Unit {0}) BadLine = λ v. unless ((v == 1) || (v == 2)) Shape in
     let last : Unit {0} → Result CheckLine BadLine = λ u. claim_of names d >>= λ claim. Ok (checks.Claim claim) in
-    keeps-by {A = ℕ} t version (λ v. known v >>= last) (λ v. keeps-by {A = Unit {0}} t (known v) last (λ u. keeps-by {A = Claim} t (claim_of names d) (λ claim. Ok (checks.Claim claim)) (λ claim. refl)))
+    keeps-by {A = ℕ} t version (λ v. known v >>= last)
+    (λ v. keeps-by {A = Unit {0}} t (known v) last (λ u. keeps-by {A = Claim} t (claim_of names d) (λ claim. Ok (checks.Claim claim)) (λ claim. refl)))
 
 chosen-keeps : (t : ServiceState) (names : Names) (d : Data) → is_claim d ≡ true → after_checked t (check_said names d) ≡ t
 unfolding check_said

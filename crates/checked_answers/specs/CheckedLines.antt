@@ -36,8 +36,8 @@ pub record IsCommonText (t : ServiceState) (line : ℕ) (said : Spoken) (text : 
   pub is_reply : IsReply t.network t.names t.state t.count line (Ok said) reply
   pub text_is : text ≡ text_of_reply now.names reply
 
--- this is the text of the reply to a line that is no claim: that of a query has more than the common
--- one. Afterwards the service is the second
+-- this is the text of the reply to a line that is no claim: that of a query has more than the
+-- common one. Afterwards the service is the second
 abbrev pub IsSaidText : ServiceState → ℕ → Spoken → List ℕ → ServiceState → Type 0
 IsSaidText t line (Asks q) text now = IsQueryText t line (query_resolved t.names q) text
 IsSaidText t line (Says w) text now = IsCommonText t line (Says w) text now

@@ -1,4 +1,4 @@
-//! Claims, and whether they are right.
+//! Claims, and whether what comes with them shows that they are right.
 
 ghost use Rattle.std.specs.Prelude.{◌≡◌, ◌↔◌, ◌≤◌, ◌<◌, IfOk, IsTrue, length};
 ghost use Rattle.conn_scan.specs.ScratchState.{IsGoodCertificate};
@@ -76,9 +76,9 @@ impl AskTimetable<ClaimedAnswer, bool> for CheckCertificate {
     }
 }
 
-/// Whether a claim is right in the timetable as it is now. It is not where it names a train that is
-/// not known.
-fn is_right(
+/// Whether what comes with a claim shows that it is right in the timetable as it is now. It does not
+/// where the claim names a train that is not known.
+fn is_shown_right(
     alloc: Global,
     service: &mut InformationService,
     claim: Claim,
@@ -106,6 +106,6 @@ pub(crate) fn judged_text(
     ensures text { IfOk result (λ text. IsClaimText service.old line claim text.items) }
     ensures kept { service.new ≡ service.old }
 {
-    let good = is_right(alloc, service, claim)?;
+    let good = is_shown_right(alloc, service, claim)?;
     claim_text(alloc, line, good)
 }

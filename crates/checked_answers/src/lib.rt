@@ -1,4 +1,5 @@
-//! Answers with what shows that they are right, and whether claims are right: what `check` writes.
+//! Answers with what shows that they are right, and whether what comes with claims shows that they
+//! are: what `check` writes.
 #![tactic(auto)]
 
 mod claims;

@@ -91,8 +91,8 @@ fn short_text(
     }
 }
 
-/// Answers each query with what shows that its answer is right, and says of each claim whether it
-/// is right. It writes no table.
+/// Answers each query with what shows that its answer is right, and says of each claim whether what
+/// comes with it shows that it is right. It writes no table.
 pub struct CheckLines;
 
 impl AnswerLines<()> for CheckLines {

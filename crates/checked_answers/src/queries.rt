@@ -32,8 +32,7 @@ pub(crate) struct CheckedReply {
     /// The reply.
     pub(crate) reply: Reply,
 
-    /// The stops where one can arrive before the arrival of the reply, with times before which one
-    /// cannot.
+    /// Stops with times that show that no journey arrives earlier than the reply says.
     pub(crate) reached: Rows<Reach>,
 }
 

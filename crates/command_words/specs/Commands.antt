@@ -2,6 +2,8 @@
 use Rattle.std.specs.Prelude.{[], ◌∷◌, true, Some, codes, fold}
 use Rattle.clap.specs.Words.{App, Rule, Text, new_app, new_rule, with_rule}
 use Rattle.clap.specs.Simple.{on_top}
+use Rattle.command_words.specs.declared.words.Command.{Command}
+use Rattle.command_words.specs.declared.words.Command.TheVariants.{Times, Serve, Check, Plans}
 
 -- the word `FEED`: the folder of the feed
 abbrev pub feed_rule : Rule
@@ -24,7 +26,7 @@ abbrev pub bare_app : Text → App
 bare_app name = on_top (λ s. record s { disable_help_flag = true; disable_version_flag = true })
     (new_app name)
 
--- `NAME FEED --from DATE` with its options: the commands differ in their name alone
+-- `NAME FEED --from DATE` with the options that all commands have
 unfoldable pub command_app : Text → App
 command_app name = fold with_rule (bare_app name) (
     feed_rule
@@ -40,6 +42,17 @@ command_app name = fold with_rule (bare_app name) (
     ∷ option_rule (codes "workers") (codes "4")
     ∷ zone_rule
     ∷ [])
+
+-- with one more: up to how many rides plans have
+unfoldable pub plans_app : Text → App
+plans_app name = with_rule (command_app name) (option_rule (codes "rides") (codes "4"))
+
+-- the command of this name as clap reads it
+abbrev pub app_for : Command → Text → App
+app_for Times name = command_app name
+app_for Serve name = command_app name
+app_for Check name = command_app name
+app_for Plans name = plans_app name
 
 -- the word `N`: how many trains are made
 abbrev pub trains_rule : Rule

@@ -3,7 +3,7 @@ use Rattle.std.specs.Prelude.{◌≡◌, List, [], ◌∷◌, Some, codes}
 use Rattle.clap.specs.Words.{Text}
 use Rattle.service_zones.specs.Zones.{utc}
 use Rattle.command_words.specs.declared.words.Command.{Command}
-use Rattle.command_words.specs.declared.words.Command.TheVariants.{Times, Serve, Check}
+use Rattle.command_words.specs.declared.words.Command.TheVariants.{Times, Serve, Check, Plans}
 use Rattle.command_words.specs.GenWords.{default_options}
 use Rattle.command_words.specs.Words.{Asked, asked_of}
 
@@ -20,6 +20,7 @@ asked_by_default command = record {
   days = 1;
   opts = default_options;
   workers = 4;
+  rides = 4;
   zone = utc;
 }
 
@@ -28,3 +29,4 @@ DefaultsAreAsked =
     (asked_of (words_without_options (codes "times")) ≡ Some (asked_by_default Times))
     × (asked_of (words_without_options (codes "serve")) ≡ Some (asked_by_default Serve))
     × (asked_of (words_without_options (codes "check")) ≡ Some (asked_by_default Check))
+    × (asked_of (words_without_options (codes "plans")) ≡ Some (asked_by_default Plans))

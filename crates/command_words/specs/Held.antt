@@ -11,5 +11,6 @@ asked_view a = record {
   days = a.days;
   opts = a.opts;
   workers = a.workers;
+  rides = a.rides;
   zone = a.zone;
 }

@@ -10,13 +10,13 @@ use Rattle.mt_base.specs.declared.options.Opts.{Opts}
 use Rattle.service_zones.specs.Bases.{base_seconds, day_of_wrong_length}
 use Rattle.service_zones.specs.Zones.{ZoneRules, utc}
 use Rattle.service_zones.specs.ZoneTexts.{zone_of}
-use Rattle.command_words.specs.Commands.{command_app}
+use Rattle.command_words.specs.Commands.{app_for}
 use Rattle.command_words.specs.declared.words.Command.{Command}
-use Rattle.command_words.specs.declared.words.Command.TheVariants.{Times, Serve, Check}
+use Rattle.command_words.specs.declared.words.Command.TheVariants.{Times, Serve, Check, Plans}
 
 -- the command, the folder of the feed, the first service day as the number YYYYMMDD, how many
--- service days there are, the options of the timetable, how many workers answer queries, and the
--- zone in which service days begin
+-- service days there are, the options of the timetable, how many workers answer queries, up to how
+-- many rides plans have, and the zone in which service days begin
 pub record Asked : Type 0 where
   pub command : Command
   pub folder : Text
@@ -24,6 +24,7 @@ pub record Asked : Type 0 where
   pub days : ℕ
   pub opts : Opts
   pub workers : ℕ
+  pub rides : ℕ
   pub zone : ZoneRules
 
 infixl 10 ◌>>=◌
@@ -67,6 +68,11 @@ options_of given =
 abbrev pub zone_given : Option Text → Option ZoneRules
 zone_given text = option_map_or zone_of text (Some utc)
 
+-- up to how many rides plans have: the value of the option, one to nine digits that spell a number
+-- from 1 to 8; where there is no such option, 4
+abbrev pub rides_given : Option Text → Option ℕ
+rides_given text = option_map_or (λ t. number_of t >>= within 1 8) text (Some 4)
+
 -- the bases of the service days that are asked for, in seconds from that of day 0
 abbrev pub asked_bases : Asked → List ℕ
 asked_bases a = base_seconds a.zone a.first a.days
@@ -75,7 +81,8 @@ asked_bases a = base_seconds a.zone a.first a.days
 abbrev pub command_of : Text → Option Command
 command_of name = if bytes_eq name (codes "times") then Some Times
     else (if bytes_eq name (codes "serve") then Some Serve
-    else (if bytes_eq name (codes "check") then Some Check else None))
+    else (if bytes_eq name (codes "check") then Some Check
+    else (if bytes_eq name (codes "plans") then Some Plans else None)))
 
 -- what the values of a command's arguments ask for
 abbrev pub values_ask : Command → List Row → Option Asked
@@ -85,6 +92,7 @@ values_ask command given =
     number_within (codes "days") 1 31 given >>= λ days.
     options_of given >>= λ opts.
     number_within (codes "workers") 1 16 given >>= λ workers.
+    rides_given (first_of (codes "rides") given) >>= λ rides.
     zone_given (first_of (codes "zone") given) >>= λ zone.
     if is_none (day_of_wrong_length zone first days) then Some (record {
       command = command;
@@ -93,11 +101,13 @@ values_ask command given =
       days = days;
       opts = opts;
       workers = workers;
+      rides = rides;
       zone = zone;
     }) else None
 
--- what these words ask of the command that clap reads as this app: clap reads them without a fault,
--- each value is well spelt and in its range, and no service day is too short or too long in the zone
+-- what these words ask of the command that clap reads as this app: clap reads them without a
+-- fault, each value is well spelt and in its range, and no service day is too short or too long in
+-- the zone
 abbrev pub command_asked : Command → App → List Text → Option Asked
 command_asked command app words = if is_empty (fault_of app words)
     then values_ask command (matches_of app words) else None
@@ -106,4 +116,4 @@ command_asked command app words = if is_empty (fault_of app words)
 unfoldable pub asked_of : List Text → Option Asked
 asked_of [] = None
 asked_of (name ∷ rest) = command_of name >>= λ command.
-    command_asked command (command_app name) (name ∷ rest)
+    command_asked command (app_for command name) (name ∷ rest)

@@ -2,7 +2,7 @@
 
 ghost use Rattle.std.specs.Prelude.{◌≡◌, IfOk, false};
 ghost use Rattle.clap.specs.Words.{app_of, rule_of};
-ghost use Rattle.command_words.specs.Commands.{command_app, gen_app, bare_app, feed_rule, from_rule, option_rule, trains_rule, zone_rule};
+ghost use Rattle.command_words.specs.Commands.{command_app, plans_app, gen_app, bare_app, feed_rule, from_rule, option_rule, trains_rule, zone_rule};
 
 use clap::Arg;
 use std::alloc::{AllocError, Global};
@@ -68,6 +68,16 @@ pub(crate) fn named_command<'a>(
         .arg(option(alloc, "overrides", "10000"))?
         .arg(option(alloc, "workers", "4"))?
         .arg(zone_option(alloc))
+}
+
+/// The command `NAME FEED --from DATE` with its options and one more, `--rides`.
+pub(crate) fn plans_command<'a>(
+    alloc: Global,
+    name: &'a str,
+) -> Result<clap::Command<'a>, AllocError>
+    ensures { IfOk result (λ c. app_of c ≡ plans_app name.now) }
+{
+    named_command(alloc, name)?.arg(option(alloc, "rides", "4"))
 }
 
 /// The word `N`.

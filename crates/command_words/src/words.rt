@@ -1,19 +1,20 @@
 //! What the words after the program's name ask for.
 
 ghost use Rattle.std.specs.Prelude.{◌≡◌, ◌≤◌, ◌<◌, [], IfOk, IfSome, IsErrOf, Some, None, map, option_map, string_bytes};
-ghost use Rattle.clap.specs.Words.{fault_of, found_of, matches_of, rows_of};
+ghost use Rattle.clap.specs.Words.{app_of, fault_of, found_of, matches_of, rows_of};
 ghost use Rattle.mt_base.specs.Civil.{IsCivil};
 ghost use Rattle.mt_base.specs.Options.{IsInRange};
-ghost use Rattle.command_words.specs.Commands.{command_app};
+ghost use Rattle.command_words.specs.Commands.{app_for};
 ghost use Rattle.command_words.specs.Held.{asked_view};
 ghost use Rattle.service_zones.specs.Bases.{day_of_wrong_length};
-ghost use Rattle.command_words.specs.Words.{asked_of, command_of, values_ask, zone_given};
+ghost use Rattle.command_words.specs.Words.{asked_of, command_of, rides_given, values_ask, zone_given};
 ghost use Rattle.command_words.specs.declared.words.WordsFault.TheVariants.{OutOfMemory};
 
 use crate::arguments::given_arguments;
-use crate::command::named_command;
+use crate::command::{named_command, plans_command};
 use crate::values::{first_date, number_within, options, value};
 use clap::ArgMatches;
+use gtfs_tables::fields;
 use mt_base::Opts;
 use service_zones::Zone;
 use std::alloc::{AllocError, Global};
@@ -28,8 +29,11 @@ pub enum Command {
     Serve,
 
     /// Answers each line at once, each query with what shows that its answer is right, and says of
-    /// each claim whether it is right.
+    /// each claim whether what comes with it shows that it is right.
     Check,
+
+    /// Answers each line at once, each query with all best plans by arrival and number of rides.
+    Plans,
 }
 
 /// What the words ask for.
@@ -53,8 +57,23 @@ pub struct Asked<'a> {
     /// How many workers answer queries: 1 to 16.
     pub workers: u32,
 
+    /// Up to how many rides plans have: 1 to 8; 4 where the command has no such option.
+    pub rides: u32,
+
     /// The zone in which service days begin.
     pub zone: Zone,
+}
+
+/// Up to how many rides plans have: what the option gives, one to nine digits that spell a number
+/// from 1 to 8; where there is no such option, 4.
+fn rides_given(text: Option<&str>) -> Option<u32>
+    ensures value { result ≡ rides_given (option_map (λ t. t.now) text.entry) }
+    ensures range { IfSome result (λ n. (1 ≤ n) × (n ≤ 8)) }
+{
+    match text {
+        Some(text) => fields::number(text.as_bytes()).filter(|n| 1 <= *n && *n <= 8),
+        None => Some(4),
+    }
 }
 
 /// The zone of a zone text, if it is one; where no text is given, universal time.
@@ -94,25 +113,41 @@ impl Command {
             "times" => Some(Command::Times),
             "serve" => Some(Command::Serve),
             "check" => Some(Command::Check),
+            "plans" => Some(Command::Plans),
             _ => None,
         }
+    }
+}
+
+/// The command of this name as clap reads it.
+fn app_for<'a>(
+    alloc: Global,
+    command: Command,
+    name: &'a str,
+) -> Result<clap::Command<'a>, AllocError>
+    ensures { IfOk result (λ c. app_of c ≡ app_for command name.now) }
+{
+    match command {
+        Command::Plans => plans_command(alloc, name),
+        _ => named_command(alloc, name),
     }
 }
 
 /// What the words give to the arguments of the command of this name.
 fn command_matches<'a>(
     alloc: Global,
+    command: Command,
     name: &'a str,
     words: &'a [String],
 ) -> Result<ArgMatches<'a>, WordsFault>
     ensures taken { IfOk result (λ _.
-        fault_of (command_app name.now) (map string_bytes words.now) ≡ []) }
+        fault_of (app_for command name.now) (map string_bytes words.now) ≡ []) }
     ensures values { IfOk result (λ m. rows_of (found_of m)
-        ≡ matches_of (command_app name.now) (map string_bytes words.now)) }
+        ≡ matches_of (app_for command name.now) (map string_bytes words.now)) }
     ensures usage { IsErrOf result WordsFault.Usage
-        → fault_of (command_app name.now) (map string_bytes words.now) ≡ [] → ⊥ }
+        → fault_of (app_for command name.now) (map string_bytes words.now) ≡ [] → ⊥ }
 {
-    given_arguments(named_command(alloc, name)?, words)
+    given_arguments(app_for(alloc, command, name)?, words)
 }
 
 /// What the values of the arguments ask for.
@@ -124,6 +159,7 @@ fn values_ask<'a>(command: Command, given: &ArgMatches<'a>) -> Option<Asked<'a>>
     ensures days { IfSome result (λ a. (1 ≤ a.days) × (a.days ≤ 31)) }
     ensures options { IfSome result (λ a. IsInRange a.opts) }
     ensures workers { IfSome result (λ a. (1 ≤ a.workers) × (a.workers ≤ 16)) }
+    ensures rides { IfSome result (λ a. (1 ≤ a.rides) × (a.rides ≤ 8)) }
     ensures lengths { IfSome result (λ a. day_of_wrong_length a.zone a.first a.days ≡ None) }
 {
     let asked = Asked {
@@ -133,6 +169,7 @@ fn values_ask<'a>(command: Command, given: &ArgMatches<'a>) -> Option<Asked<'a>>
         days: number_within(given, "days", 1, 31)?,
         opts: options(given)?,
         workers: number_within(given, "workers", 1, 16)?,
+        rides: rides_given(value(given, "rides"))?,
         zone: zone_given(value(given, "zone"))?,
     };
     if asked.zone.has_day_of_wrong_length(asked.first, asked.days) {
@@ -156,13 +193,14 @@ pub fn read_words<'a>(alloc: Global, words: &'a [String]) -> Result<Asked<'a>, W
     ensures days { IfOk result (λ a. (1 ≤ a.days) × (a.days ≤ 31)) }
     ensures options { IfOk result (λ a. IsInRange a.opts) }
     ensures workers { IfOk result (λ a. (1 ≤ a.workers) × (a.workers ≤ 16)) }
+    ensures rides { IfOk result (λ a. (1 ≤ a.rides) × (a.rides ≤ 8)) }
 
     // no service day is too short or too long
     ensures lengths { IfOk result (λ a. day_of_wrong_length a.zone a.first a.days ≡ None) }
 {
     let name = words.first().ok_or(WordsFault::Usage)?.as_str();
     let command = Command::named(name).ok_or(WordsFault::Usage)?;
-    let given = command_matches(alloc, name, words)?;
+    let given = command_matches(alloc, command, name, words)?;
     match values_ask(command, &given) {
         Some(asked) => Ok(asked),
         None => Err(WordsFault::Usage),

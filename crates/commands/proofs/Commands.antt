@@ -6,22 +6,23 @@ use Rattle.clap.specs.Words.{Row, fault_of, first_of, matches_of}
 use Rattle.clap.specs.Walk.{is_empty}
 use Rattle.command_words.specs.declared.words.Command.{Command}
 use Rattle.command_words.specs.declared.words.Command.TheVariants.{Serve}
-use Rattle.command_words.specs.Commands.{command_app}
-use Rattle.command_words.specs.Words.{◌>>=◌, Asked, asked_of, command_asked, command_of, first_date, number_within, options_of, values_ask, zone_given}
+use Rattle.command_words.specs.Commands.{app_for}
+use Rattle.command_words.specs.Words.{◌>>=◌, Asked, asked_of, command_asked, command_of, first_date, number_within, options_of, rides_given, values_ask, zone_given}
 use Rattle.service_zones.specs.Bases.{day_of_wrong_length}
 use Rattle.commands.specs.Runs.{AskFor}
 
 -- a chain that ends in a record, or in none
-chained : {A B C D E F : Type 0} (x : Option A) (y : Option B) (z : Option C) (u : Option D) (v : Option E) (w : Option F) (make : A → B → C → D → E → F → Option Asked) (command : Command) (r : Asked)
-    → ((a : A) (b : B) (c : C) (d : D) (e : E) (f : F) → make a b c d e f ≡ Some r → r.command ≡ command)
-    → (x >>= λ a. y >>= λ b. z >>= λ c. u >>= λ d. v >>= λ e. w >>= λ f. make a b c d e f) ≡ Some r → r.command ≡ command
-chained (Some a) (Some b) (Some c) (Some d) (Some e) (Some f) make command r h is = h a b c d e f is
-chained None y z u v w make command r h is = absurd cc
-chained (Some a) None z u v w make command r h is = absurd cc
-chained (Some a) (Some b) None u v w make command r h is = absurd cc
-chained (Some a) (Some b) (Some c) None v w make command r h is = absurd cc
-chained (Some a) (Some b) (Some c) (Some d) None w make command r h is = absurd cc
-chained (Some a) (Some b) (Some c) (Some d) (Some e) None make command r h is = absurd cc
+chained : {A B C D E F G : Type 0} (x : Option A) (y : Option B) (z : Option C) (u : Option D) (v : Option E) (p : Option F) (w : Option G) (make : A → B → C → D → E → F → G → Option Asked)
+    (command : Command) (r : Asked) → ((a : A) (b : B) (c : C) (d : D) (e : E) (f : F) (g : G) → make a b c d e f g ≡ Some r → r.command ≡ command)
+    → (x >>= λ a. y >>= λ b. z >>= λ c. u >>= λ d. v >>= λ e. p >>= λ f. w >>= λ g. make a b c d e f g) ≡ Some r → r.command ≡ command
+chained (Some a) (Some b) (Some c) (Some d) (Some e) (Some f) (Some g) make command r h is = h a b c d e f g is
+chained None y z u v p w make command r h is = absurd cc
+chained (Some a) None z u v p w make command r h is = absurd cc
+chained (Some a) (Some b) None u v p w make command r h is = absurd cc
+chained (Some a) (Some b) (Some c) None v p w make command r h is = absurd cc
+chained (Some a) (Some b) (Some c) (Some d) None p w make command r h is = absurd cc
+chained (Some a) (Some b) (Some c) (Some d) (Some e) None w make command r h is = absurd cc
+chained (Some a) (Some b) (Some c) (Some d) (Some e) (Some f) None make command r h is = absurd cc
 
 made : (well : Bool) (q r : Asked) → (if well then Some q else None) ≡ Some r → q ≡ r
 made true q r is = same_Some q r is
@@ -29,9 +30,12 @@ made false q r is = absurd cc
 
 values-command : (command : Command) (given : List Row) (a : Asked) → values_ask command given ≡ Some a → a.command ≡ command
 values-command command given a e =
-    chained (first_of (codes "feed") given) (first_date given) (number_within (codes "days") 1 31 given) (options_of given) (number_within (codes "workers") 1 16 given) (zone_given (first_of (codes "zone") given))
-    (λ folder first days opts workers zone. if is_none (day_of_wrong_length zone first days) then Some (record { command = command; folder = folder; first = first; days = days; opts = opts; workers = workers; zone = zone }) else None) command a
-    (λ f d n o w z is. sym (ap (λ (q : Asked). q.command) (made (is_none (day_of_wrong_length z d n)) _ a is))) e
+    chained (first_of (codes "feed") given) (first_date given)
+    (number_within (codes "days") 1 31 given) (options_of given) (number_within (codes "workers") 1 16 given)
+    (rides_given (first_of (codes "rides") given)) (zone_given (first_of (codes "zone") given))
+    (λ folder first days opts workers rides zone. if is_none (day_of_wrong_length zone first days)
+    then Some (record { command = command; folder = folder; first = first; days = days; opts = opts; workers = workers; rides = rides; zone = zone }) else None) command a
+    (λ f d n o w p z is. sym (ap (λ (q : Asked). q.command) (made (is_none (day_of_wrong_length z d n)) _ a is))) e
 
 bound : (x : Option Command) (f : Command → Option Asked) (a : Asked) → (x >>= f) ≡ Some a → (c : Command) × (x ≡ Some c) × (f c ≡ Some a)
 bound None f a e = absurd cc
@@ -45,9 +49,9 @@ read-well false x a e = absurd cc
 named : (name : List ℕ) (rest : List (List ℕ)) (a : Asked) → asked_of (name ∷ rest) ≡ Some a → command_of name ≡ Some a.command
 unfolding asked_of
 named name rest a e =
-    let app = command_app name in
     let words = name ∷ rest in
-    let command = bound (command_of name) (λ c. command_asked c app words) a e in
+    let command = bound (command_of name) (λ c. command_asked c (app_for c name) words) a e in
+    let app = app_for command.0 name in
     command.1 ∙ ap Some (sym (values-command command.0 (matches_of app words) a (read-well (is_empty (fault_of app words)) (values_ask command.0 (matches_of app words)) a command.2)))
 
 -- where words ask for something, their first one names its command

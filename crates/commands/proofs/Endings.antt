@@ -61,7 +61,8 @@ abbrev pub still : Option (List ℕ) → Faults → StreamSeen
 still bytes faults = record { bytes = bytes; bytes_after = bytes; faults = faults; faults_after = faults }
 
 -- then the input and the output are as they were
-pub stopped-early : {B F S K : Type 0} {task : Task B} → WritesNothing task → {budget : ℕ} {words : List (List ℕ)} {feed : FeedSeen} {left written : Option (List ℕ)} {reads writes : Faults} {before after : F} {input : S} {out : K} (s : Stop) → StopsEarly task words feed (after ≡ before) s
+pub stopped-early : {B F S K : Type 0} {task : Task B} → WritesNothing task → {budget : ℕ} {words : List (List ℕ)} {feed : FeedSeen}
+    {left written : Option (List ℕ)} {reads writes : Faults} {before after : F} {input : S} {out : K} (s : Stop) → StopsEarly task words feed (after ≡ before) s
     → EndsAs task budget words feed (still left reads) (still written writes) before after input input out out (stops s)
 stopped-early {task = task} none {budget = budget} {feed = feed} {left = left} {written = written} {reads = reads} {writes = writes} s e =
     let one : stops s ≡ stops (Fault lines.ReadFault) → FeedReadFailed feed (still left reads) (still written writes) = λ is. record { feed_reads = e.failed is; input_reads = refl; writes = refl } in
@@ -127,12 +128,15 @@ module _ {B : Type 0} {task : Task B} {words : List (List ℕ)} {feed : FeedSeen
   early-words words_faults.OutOfMemory answered usage = early-memory answered
 
 -- a feed that is refused for this is refused with its line
-feed-says : {B : Type 0} {task : Task B} {words : List (List ℕ)} {tables : Option Files} {a : Asked} → asked_of words ≡ Some a → (why : FeedRefusal) (line : List ℕ) → line ≡ refusal_line why → ((told : Files) → tables ≡ Some told → asked_in told a ≡ Err why)
+feed-says : {B : Type 0} {task : Task B} {words : List (List ℕ)} {tables : Option Files} {a : Asked} → asked_of words ≡ Some a
+    → (why : FeedRefusal) (line : List ℕ) → line ≡ refusal_line why → ((told : Files) → tables ≡ Some told → asked_in told a ≡ Err why)
     → SaysWhy task words tables line
-feed-says {a = a} asked why line is gives = record { why = by_feed why; line_is = is; can = tt; is = λ told t. record { asked = a; told = told; asked_is = asked; told_is = t; refused = gives told t } }
+feed-says {a = a} asked why line is gives =
+    record { why = by_feed why; line_is = is; can = tt; is = λ told t. record { asked = a; told = told; asked_is = asked; told_is = t; refused = gives told t } }
 
 -- and for no other reason
-feed-exactly : {B : Type 0} (task : Task B) (words : List (List ℕ)) (tables : Option Files) (a : Asked) → asked_of words ≡ Some a → (why : FeedRefusal) (line : List ℕ) → line ≡ refusal_line why → ((told : Files) → tables ≡ Some told → asked_in told a ≡ Err why)
+feed-exactly : {B : Type 0} (task : Task B) (words : List (List ℕ)) (tables : Option Files) (a : Asked) → asked_of words ≡ Some a
+    → (why : FeedRefusal) (line : List ℕ) → line ≡ refusal_line why → ((told : Files) → tables ≡ Some told → asked_in told a ≡ Err why)
     → (other : Refusal) → IsRefused task words tables other → line_of_refusal other ≡ line
 feed-exactly task words tables a asked why line is gives (by_feed other) r = ap refusal_line (same-refusal r.asked r.told r.asked_is (gives r.told r.told_is) r.refused) ∙ sym is where
   same-refusal : {other : FeedRefusal} (b : Asked) (told : Files) → asked_of words ≡ Some b → asked_in told a ≡ Err why → asked_in told b ≡ Err other → other ≡ why
@@ -157,7 +161,8 @@ module _ {B : Type 0} {task : Task B} {words : List (List ℕ)} {feed : FeedSeen
   }
 
   -- what they ask for is refused
-  pub early-refused : (s : Stop) (line : List ℕ) → IsRefusedWith line (stops s) → SaysWhy task words feed.tables line → ((why : Refusal) → IsRefused task words feed.tables why → line_of_refusal why ≡ line) → feed.faults_after ≡ feed.faults
+  pub early-refused : (s : Stop) (line : List ℕ) → IsRefusedWith line (stops s) → SaysWhy task words feed.tables line
+      → ((why : Refusal) → IsRefused task words feed.tables why → line_of_refusal why ≡ line) → feed.faults_after ≡ feed.faults
       → StopsEarly task words feed Same s
   early-refused Usage line is says exactly answered = absurd is
   early-refused (Fault f) line is says exactly answered = absurd is
@@ -172,16 +177,19 @@ module _ {B : Type 0} {task : Task B} {words : List (List ℕ)} {feed : FeedSeen
     answered = λ other. answered;
   }
 
-  pub early-feed : (f : FeedError) (s : Stop) → IsFeedStop f s → ((told : Files) → feed.tables ≡ Some told → IsErrorOf f (asked_in told a)) → (f ≡ feeds.ReadFault → Some feed.faults_after ≡ counted feed.faults) → (¬ (f ≡ feeds.ReadFault) → feed.faults_after ≡ feed.faults)
+  pub early-feed : (f : FeedError) (s : Stop) → IsFeedStop f s → ((told : Files) → feed.tables ≡ Some told → IsErrorOf f (asked_in told a))
+      → (f ≡ feeds.ReadFault → Some feed.faults_after ≡ counted feed.faults) → (¬ (f ≡ feeds.ReadFault) → feed.faults_after ≡ feed.faults)
       → StopsEarly task words feed Same s
   early-feed feeds.ReadFault s is gives failed answered = subst (StopsEarly task words feed Same) (sym is) (early-read (failed refl))
   early-feed feeds.OutOfMemory s is gives failed answered = subst (StopsEarly task words feed Same) (sym is) (early-memory (not-none words a asked) (answered (λ e. absurd cc)))
   early-feed (feeds.Refused why) Usage is gives failed answered = absurd is
   early-feed (feeds.Refused why) (Refused told) is gives failed answered =
       early-refused (Refused told) told.items refl (feed-says asked why told.items is gives) (feed-exactly task words feed.tables a asked why told.items is gives) (answered (λ e. absurd cc))
-  early-feed (feeds.Refused why) (Fault f) is gives failed answered = subst (λ (g : LinesFault). StopsEarly task words feed Same (Fault g)) (sym is) (early-memory (not-none words a asked) (answered (λ e. absurd cc)))
+  early-feed (feeds.Refused why) (Fault f) is gives failed answered =
+      subst (λ (g : LinesFault). StopsEarly task words feed Same (Fault g)) (sym is) (early-memory (not-none words a asked) (answered (λ e. absurd cc)))
 
-module _ {B F S K : Type 0} {task : Task B} (none : WritesNothing task) {budget : ℕ} {words : List (List ℕ)} {feed : FeedSeen} {left written : Option (List ℕ)} {reads writes : Faults} {before after : F} {input : S} {out : K} where
+module _ {B F S K : Type 0} {task : Task B} (none : WritesNothing task) {budget : ℕ}
+    {words : List (List ℕ)} {feed : FeedSeen} {left written : Option (List ℕ)} {reads writes : Faults} {before after : F} {input : S} {out : K} where
   -- a run that stops early, where that is handed on
   pub early-run : (run : Result (Unit {0}) Stop) (s : Stop) → IsErrAnd run (λ e. e ≡ s) → StopsEarly task words feed (after ≡ before) s
       → EndsAs task budget words feed (still left reads) (still written writes) before after input input out out run
@@ -192,22 +200,28 @@ pub early-same : {B : Type 0} {task : Task B} {words : List (List ℕ)} {feed : 
 early-same {task = task} {words = words} {feed = feed} {Same = Same} s u is early = subst (StopsEarly task words feed Same) (sym is) early
 
 -- and where it is handed on
-pub early-handed : {X B : Type 0} {task : Task B} {words : List (List ℕ)} {feed : FeedSeen} {Same : Type 0} (run : Result X Stop) (s : Stop) → IsErrAnd run (λ e. e ≡ s) → StopsEarly task words feed Same s → IfErr run (StopsEarly task words feed Same)
+pub early-handed : {X B : Type 0} {task : Task B} {words : List (List ℕ)} {feed : FeedSeen} {Same : Type 0} (run : Result X Stop) (s : Stop)
+    → IsErrAnd run (λ e. e ≡ s) → StopsEarly task words feed Same s → IfErr run (StopsEarly task words feed Same)
 early-handed (Ok x) s is early = tt
 early-handed {task = task} {words = words} {feed = feed} {Same = Same} (Err e) s is early = subst (StopsEarly task words feed Same) (sym is) early
 
 -- a table of the command's own is not fetched
 module _ {B : Type 0} {task : Task B} {words : List (List ℕ)} {feed : FeedSeen} {Same : Type 0} {a : Asked} where
-  pub early-own : asked_of words ≡ Some a → (f : LinesFault) → IsOfFeed f → (f ≡ lines.ReadFault → Some feed.faults_after ≡ counted feed.faults) → (¬ (f ≡ lines.ReadFault) → feed.faults_after ≡ feed.faults) → StopsEarly task words feed Same (Fault f)
+  pub early-own : asked_of words ≡ Some a → (f : LinesFault) → IsOfFeed f → (f ≡ lines.ReadFault → Some feed.faults_after ≡ counted feed.faults)
+      → (¬ (f ≡ lines.ReadFault) → feed.faults_after ≡ feed.faults) → StopsEarly task words feed Same (Fault f)
   early-own asked lines.ReadFault of_feed failed answered = early-read asked (failed refl)
   early-own asked lines.WriteFault of_feed failed answered = absurd of_feed
   early-own asked lines.OutOfMemory of_feed failed answered = early-memory (not-none words a asked) (answered (λ e. absurd cc))
   early-own asked lines.TooLong of_feed failed answered = absurd of_feed
 
 -- the command does not begin
-pub early-behind : {C : Type 0} {b : Behind C} {o : LineOutput C} {words : List (List ℕ)} {feed : FeedSeen} {Same : Type 0} {a : Asked} {t : ServiceState} (now : ServiceState) → IsBegunAlike b → t.count ≡ 0 → WasLoaded words feed.tables a t.network t.state t.names → feed.faults_after ≡ feed.faults → (f : LoadFault)
-    → ((told : Files) → feed.tables ≡ Some told → IsLoaded (begins_by b a (table_among b.table (told a.folder)) t) now (Err f)) → HasOwnLine b f → StopsEarly (line_task b o) words feed Same (load_stop f)
-early-behind {o = o} now alike none was answered (faults.Refused line) due own = early-refused was.asked (Refused line) line.items refl (says-behind alike none was due own) (only-behind alike none was due o) answered
+pub early-behind : {C : Type 0} {b : Behind C} {o : LineOutput C}
+    {words : List (List ℕ)} {feed : FeedSeen} {Same : Type 0} {a : Asked} {t : ServiceState} (now : ServiceState)
+    → IsBegunAlike b → t.count ≡ 0 → WasLoaded words feed.tables a t.network t.state t.names → feed.faults_after ≡ feed.faults → (f : LoadFault)
+    → ((told : Files) → feed.tables ≡ Some told → IsLoaded (begins_by b a (table_among b.table (told a.folder)) t) now (Err f))
+    → HasOwnLine b f → StopsEarly (line_task b o) words feed Same (load_stop f)
+early-behind {o = o} now alike none was answered (faults.Refused line) due own =
+    early-refused was.asked (Refused line) line.items refl (says-behind alike none was due own) (only-behind alike none was due o) answered
 early-behind {words = words} {a = a} now alike none was answered faults.OutOfMemory due own = early-memory (not-none words a was.asked) answered
 
 -- ---- when lines are answered
@@ -251,7 +265,8 @@ module _ {budget : ℕ} {feed : FeedSeen} {input out : StreamSeen} (loads : feed
   none-of-lines lines.OutOfMemory counts not_read not_written = record { feed_reads = ap Some loads; input_reads = counts.reads; writes = counts.writes }
   none-of-lines lines.TooLong counts not_read not_written = record { feed_reads = ap Some loads; input_reads = counts.reads; writes = counts.writes }
 
-module _ {B F S K : Type 0} {task : Task B} {budget : ℕ} {words : List (List ℕ)} {feed : FeedSeen} {input out : StreamSeen} {feed_old feed_new : F} {input_old input_new : S} {out_old out_new : K} {IsAll Are : List Line → List ℕ → Type 0}
+module _ {B F S K : Type 0} {task : Task B} {budget : ℕ} {words : List (List ℕ)}
+    {feed : FeedSeen} {input out : StreamSeen} {feed_old feed_new : F} {input_old input_new : S} {out_old out_new : K} {IsAll Are : List Line → List ℕ → Type 0}
     (begun : IsBegun task words feed.tables IsAll Are) (loads : feed.faults_after ≡ feed.faults) where
   -- all lines are answered
   all-answered : {Failed : Type 0} → ((bytes : List ℕ) → input.bytes ≡ Some bytes → AppendsAll (IsAll (lines_of true bytes)) out.bytes out.bytes_after) → IsAtEnd input.bytes_after
@@ -302,7 +317,9 @@ module _ {B F S K : Type 0} {task : Task B} {budget : ℕ} {words : List (List �
     too_long = λ is. counts.too_long (ap Err (same-fault f lines.TooLong is));
   }
 
-  answered-lines : (run : Result (Unit {0}) LinesFault) → OnOk run ((bytes : List ℕ) → input.bytes ≡ Some bytes → AppendsAll (IsAll (lines_of true bytes)) out.bytes out.bytes_after) → OnOk run (IsAtEnd input.bytes_after)
+  answered-lines : (run : Result (Unit {0}) LinesFault)
+      → OnOk run ((bytes : List ℕ) → input.bytes ≡ Some bytes → AppendsAll (IsAll (lines_of true bytes)) out.bytes out.bytes_after)
+      → OnOk run (IsAtEnd input.bytes_after)
       → IfErr run (WhereLinesStop ((bytes : List ℕ) × Consumes input.bytes input.bytes_after bytes × AppendsAll (Are (lines_of false bytes)) out.bytes out.bytes_after))
       → AppendsTakenFront (IsErrOf run lines.WriteFault) IsAll Are budget input.bytes input.bytes_after out.bytes out.bytes_after
       → Counts budget input out run → EndsAs task budget words feed input out feed_old feed_new input_old input_new out_old out_new (run_of run)
@@ -310,7 +327,9 @@ module _ {B F S K : Type 0} {task : Task B} {budget : ℕ} {words : List (List �
   answered-lines (Err f) whole end stopped front counts = stopped-at f stopped front counts
 
   -- the lines end, or stop
-  pub lines-end : (result : Result (Unit {0}) Stop) (run : Result (Unit {0}) LinesFault) → result ≡ run_of run → OnOk run ((bytes : List ℕ) → input.bytes ≡ Some bytes → AppendsAll (IsAll (lines_of true bytes)) out.bytes out.bytes_after) → OnOk run (IsAtEnd input.bytes_after)
+  pub lines-end : (result : Result (Unit {0}) Stop) (run : Result (Unit {0}) LinesFault)
+      → result ≡ run_of run → OnOk run ((bytes : List ℕ) → input.bytes ≡ Some bytes → AppendsAll (IsAll (lines_of true bytes)) out.bytes out.bytes_after)
+      → OnOk run (IsAtEnd input.bytes_after)
       → IfErr run (WhereLinesStop ((bytes : List ℕ) × Consumes input.bytes input.bytes_after bytes × AppendsAll (Are (lines_of false bytes)) out.bytes out.bytes_after))
       → AppendsTakenFront (IsErrOf run lines.WriteFault) IsAll Are budget input.bytes input.bytes_after out.bytes out.bytes_after
       → Counts budget input out run → EndsAs task budget words feed input out feed_old feed_new input_old input_new out_old out_new result

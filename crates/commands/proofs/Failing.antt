@@ -38,7 +38,8 @@ told-after (Some xs) None held bytes is grows = absurd grows
 told-after (Some xs) (Some ys) held bytes is grows = (ys, refl)
 
 -- a front, and what is left of it, is a front
-pub more-of : {Failed : Type 0} (old : Option (List ℕ)) (new bytes : List ℕ) → Failed → AppendsFront Failed old (Some new) bytes → (more : List ℕ) × (0 < length more) × AppendsFront ⊥ old (Some (new ++ more)) bytes
+pub more-of : {Failed : Type 0} (old : Option (List ℕ)) (new bytes : List ℕ)
+    → Failed → AppendsFront Failed old (Some new) bytes → (more : List ℕ) × (0 < length more) × AppendsFront ⊥ old (Some (new ++ more)) bytes
 more-of old new bytes failed f = (
   f.rest,
   f.not_all failed,
@@ -59,16 +60,19 @@ abbrev IsLonger : List ℕ → (List ℕ → Type 0) → Type 0
 IsLonger new IsFront = (more : List ℕ) × (0 < length more) × IsFront (new ++ more)
 
 -- where a write failed, there is a longer front than the one that is written
-longer-first : {Failed : Type 0} {Are : List Line → List ℕ → Type 0} {lines : List Line} {old : Option (List ℕ)} (new : List ℕ) → Failed → AppendsFirst Failed Are lines old (Some new) → IsLonger new (λ w. AppendsFirst ⊥ Are lines old (Some w))
+longer-first : {Failed : Type 0} {Are : List Line → List ℕ → Type 0} {lines : List Line} {old : Option (List ℕ)} (new : List ℕ)
+    → Failed → AppendsFirst Failed Are lines old (Some new) → IsLonger new (λ w. AppendsFirst ⊥ Are lines old (Some w))
 longer-first {old = old} new failed f =
     let more = more-of old new f.shown failed f.front in
     (more.0, more.1, record { first = f.first; later = f.later; shown = f.shown; split = f.split; is = f.is; front = more.2 })
 
-longer-whole : {Failed : Type 0} (IsWhole Are : List Line → List ℕ → Type 0) {lines : List Line} {old : Option (List ℕ)} (new : List ℕ) → Failed → AppendsWholeFront Failed IsWhole Are lines old (Some new) → IsLonger new (λ w. AppendsWholeFront ⊥ IsWhole Are lines old (Some w))
+longer-whole : {Failed : Type 0} (IsWhole Are : List Line → List ℕ → Type 0) {lines : List Line} {old : Option (List ℕ)} (new : List ℕ)
+    → Failed → AppendsWholeFront Failed IsWhole Are lines old (Some new) → IsLonger new (λ w. AppendsWholeFront ⊥ IsWhole Are lines old (Some w))
 longer-whole IsWhole Are new failed (inl first) = let more = longer-first new failed first in (more.0, more.1, inl more.2)
 longer-whole IsWhole Are {old = old} new failed (inr all) = let more = more-of old new all.0 failed all.2 in (more.0, more.1, inr (all.0, all.1, more.2))
 
-pub longer : {Failed : Type 0} (IsWhole Are : List Line → List ℕ → Type 0) {budget : ℕ} {left left_now old : Option (List ℕ)} (new : List ℕ) → Failed → AppendsTakenFront Failed IsWhole Are budget left left_now old (Some new)
+pub longer : {Failed : Type 0} (IsWhole Are : List Line → List ℕ → Type 0) {budget : ℕ} {left left_now old : Option (List ℕ)} (new : List ℕ)
+    → Failed → AppendsTakenFront Failed IsWhole Are budget left left_now old (Some new)
     → IsLonger new (λ w. AppendsTakenFront ⊥ IsWhole Are budget left left_now old (Some w))
 longer IsWhole Are new failed t = elim t.front [
   | inl first ↦ (let more = longer-first new failed first in (more.0, more.1, record { bytes = t.bytes; took = t.took; front = inl more.2 }))
@@ -76,7 +80,8 @@ longer IsWhole Are new failed t = elim t.front [
 ]
 
 -- what was written of a front is told where it was told before
-front-told : {Failed : Type 0} {IsWhole Are : List Line → List ℕ → Type 0} {budget : ℕ} {left left_now : Option (List ℕ)} (old new : Option (List ℕ)) (held : List ℕ) → old ≡ Some held → AppendsTakenFront Failed IsWhole Are budget left left_now old new
+front-told : {Failed : Type 0} {IsWhole Are : List Line → List ℕ → Type 0} {budget : ℕ} {left left_now : Option (List ℕ)}
+    (old new : Option (List ℕ)) (held : List ℕ) → old ≡ Some held → AppendsTakenFront Failed IsWhole Are budget left left_now old new
     → (written : List ℕ) × (new ≡ Some written)
 front-told old new held is t = elim t.front [
   | inl first ↦ told-after old new held first.front.front is first.front.written
@@ -92,8 +97,10 @@ module _ {B : Type 0} (task : Task B) {budget : ℕ} {words : List (List ℕ)} {
   no-read (inr cannot) (inr of_input) = never-counted input.faults input.faults_after cannot.input_reads of_input.0.input_reads
 
   -- an output that has room for each front is not full before the end of one
-  has-room : {start : B} → TookAtMost budget input.bytes input.bytes_after → HasRoom (IsFrontWritten task budget words feed.tables input.bytes out.bytes) out → WriteFailed feed input out → (begins : Begins task words feed.tables start)
-      → AppendsTakenFront (Unit {0}) ((task.output begins.loads.asked).IsWhole start) ((task.output begins.loads.asked).AreReplies start) budget input.bytes input.bytes_after out.bytes out.bytes_after → ⊥
+  has-room : {start : B} → TookAtMost budget input.bytes input.bytes_after → HasRoom (IsFrontWritten task budget words feed.tables input.bytes out.bytes) out
+      → WriteFailed feed input out → (begins : Begins task words feed.tables start)
+      → AppendsTakenFront (Unit {0}) ((task.output begins.loads.asked).IsWhole start) ((task.output begins.loads.asked).AreReplies start)
+      budget input.bytes input.bytes_after out.bytes out.bytes_after → ⊥
   has-room {start = start} few room failed begins front =
       let now = front-told out.bytes out.bytes_after room.held room.told front in
       let more = longer _ _ now.0 tt (rw now.1 at front) in
@@ -101,7 +108,8 @@ module _ {B : Type 0} (task : Task B) {budget : ℕ} {words : List (List ℕ)} {
       absurd (omega (arith, full, more.1, length-append now.0 more.0, room.fits (now.0 ++ more.0) (start, begins, input.bytes_after, few, more.2)))
 
   -- and no write did
-  pub no-write : {Failed : Type 0} {start : B} → TookAtMost budget input.bytes input.bytes_after → WritesFront Failed task budget words feed.tables input.bytes input.bytes_after out.bytes out.bytes_after → Begins task words feed.tables start
+  pub no-write : {Failed : Type 0} {start : B} → TookAtMost budget input.bytes input.bytes_after
+      → WritesFront Failed task budget words feed.tables input.bytes input.bytes_after out.bytes out.bytes_after → Begins task words feed.tables start
       → NothingFails task budget words feed input out → Failed → WriteFailed feed input out → ⊥
   no-write few front begins (inl none) is failed = none.writes (rose out.faults.can out.faults.count out.faults_after.count out.faults_after.can failed.0.writes)
   no-write {start = start} few front begins (inr cannot) is failed = elim cannot.writes [

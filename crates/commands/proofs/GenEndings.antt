@@ -32,14 +32,16 @@ use Rattle.commands.proofs.Statuses.{ended-well, few-taken, had-usage, read-fail
 -- ---- why there is no summary
 
 -- a timetable that is held is loaded, unless there is no memory
-pub only-memory : {T : Type 0} (f : FeedError) (held : Result T FeedRefusal) (t : T) → held ≡ Ok t → IsErrorOf f held → (f ≡ feeds.ReadFault → Some no_faults ≡ counted no_faults) → f ≡ feeds.OutOfMemory
+pub only-memory : {T : Type 0} (f : FeedError) (held : Result T FeedRefusal) (t : T)
+    → held ≡ Ok t → IsErrorOf f held → (f ≡ feeds.ReadFault → Some no_faults ≡ counted no_faults) → f ≡ feeds.OutOfMemory
 only-memory (feeds.Refused why) held t is gives failed = grind (arith, is, gives)
 only-memory feeds.ReadFault held t is gives failed = absurd (never-counted no_faults no_faults refl (failed refl))
 only-memory feeds.OutOfMemory held t is gives failed = refl
 
 -- lines that are given without a fault, and that are fewer than may be taken, are answered, unless
 -- there is no memory
-pub only-memory-left : {T : Type 0} (f : LinesFault) (budget : ℕ) (all : List ℕ) (left : Option (List ℕ)) → length all < budget → HasCounts {T = T} budget (Err f) (Some all) left no_faults no_faults no_faults no_faults ⊥ → Fault f ≡ Fault lines.OutOfMemory
+pub only-memory-left : {T : Type 0} (f : LinesFault) (budget : ℕ) (all : List ℕ) (left : Option (List ℕ))
+    → length all < budget → HasCounts {T = T} budget (Err f) (Some all) left no_faults no_faults no_faults no_faults ⊥ → Fault f ≡ Fault lines.OutOfMemory
 only-memory-left lines.ReadFault budget all left short counts = absurd (never-counted no_faults no_faults refl counts.reads)
 only-memory-left lines.WriteFault budget all left short counts = absurd (never-counted no_faults no_faults refl counts.writes)
 only-memory-left lines.OutOfMemory budget all left short counts = refl
@@ -54,7 +56,8 @@ handed-on (Err e) s u is same = is ∙ same
 
 module _ {K : Type 0} (words : List (List ℕ)) (out : StreamSeen) (old new : K) where
   -- a summary that is not written
-  pub gen-not-written : (run : Result (Unit {0}) Stop) (asked : AskedGen) (line : List ℕ) → gen_asked_of words ≡ Some asked → IsOnlySummary asked.trains line → IsErrAnd run (λ e. e ≡ Fault lines.WriteFault) → GenWriteFailed out
+  pub gen-not-written : (run : Result (Unit {0}) Stop) (asked : AskedGen) (line : List ℕ)
+      → gen_asked_of words ≡ Some asked → IsOnlySummary asked.trains line → IsErrAnd run (λ e. e ≡ Fault lines.WriteFault) → GenWriteFailed out
       → AppendsPart out.bytes out.bytes_after line → GenEndsAs words out old new run
   gen-not-written run asked line asked_is only is counts part =
       subst (GenEndsAs words out old new) (is-err run (Fault lines.WriteFault) is)
@@ -85,7 +88,8 @@ no-gen-write {out = out} (inr f) (inr (inr room)) is failed =
 module _ {K : Type 0} {words : List (List ℕ)} {out : StreamSeen} {old new : K} where
   -- a run that is asked for a number of trains, and in which no write fails, goes well, or there is
   -- no memory
-  gen-unhindered : (run : Result (Unit {0}) Stop) (asked : AskedGen) → GenEndsAs words out old new run → gen_asked_of words ≡ Some asked → (¬ (Rose out.faults out.faults_after)) ⊎ WritesCannotFail (WritesSummary (AppendsFront ⊥) words out.bytes) out
+  gen-unhindered : (run : Result (Unit {0}) Stop) (asked : AskedGen) → GenEndsAs words out old new run
+      → gen_asked_of words ≡ Some asked → (¬ (Rose out.faults out.faults_after)) ⊎ WritesCannotFail (WritesSummary (AppendsFront ⊥) words out.bytes) out
       → (run_status run ≡ statuses.Ok) ⊎ (run_status run ≡ statuses.OutOfMemory)
   gen-unhindered (Ok u) asked p is out_well = inl refl
   gen-unhindered (Err Usage) asked p is out_well = absurd (none-some asked (sym (p.usage refl) ∙ is))
@@ -117,7 +121,8 @@ module _ {K : Type 0} {words : List (List ℕ)} {out : StreamSeen} {old new : K}
   }
 
   -- a run whose end is told meets the contract of `gen`
-  pub gen-contract-met : {err : StreamSeen} (run : Result (Unit {0}) Stop) (s : Status) → GenEndsAs words out old new run → s ≡ run_status run → Tells err (run_line run) → MeetsGenContract words out err old new s
+  pub gen-contract-met : {err : StreamSeen} (run : Result (Unit {0}) Stop) (s : Status)
+      → GenEndsAs words out old new run → s ≡ run_status run → Tells err (run_line run) → MeetsGenContract words out err old new s
   gen-contract-met {err = err} run s p status told = subst (MeetsGenContract words out err old new) (sym status) (record {
     error_line = subst (Tells err) (told-line run (gen-not-refused run p)) told;
     promises = gen-status-promises run (error_line (run_status run)) p;

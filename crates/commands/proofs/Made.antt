@@ -26,7 +26,8 @@ use Rattle.commands.specs.Summaries.{IsSummary, IsOnlySummary}
 use Rattle.commands.proofs.MadeLines.{made-apart}
 
 -- the lines have the same sums in timetables that are the same
-sums-alike : (lines : List Line) (a b : Network) (m n : Names) (s t : State) (x y : ReplySums) → All AreApart (windows_of lines) → b ≡ a → n ≡ m → t ≡ s → AreSummed a m s lines x → AreSummed b n t lines y → y ≡ x
+sums-alike : (lines : List Line) (a b : Network) (m n : Names) (s t : State) (x y : ReplySums)
+    → All AreApart (windows_of lines) → b ≡ a → n ≡ m → t ≡ s → AreSummed a m s lines x → AreSummed b n t lines y → y ≡ x
 sums-alike lines a b m n s t x y apart network names state p q =
     same-sums a m s lines y x apart
     (subst (λ (st : State). AreSummed a m st lines y) state (subst (λ (ns : Names). AreSummed a ns t lines y) names (subst (λ (nw : Network). AreSummed nw n t lines y) network q))) p
@@ -43,7 +44,8 @@ only-one trains line other few x y =
 
 -- the sums over the replies in the timetable that was loaded, as a line, are the summary
 made-summary : (trains : ℕ) (line : List ℕ) (made : Network) (state : State) (names : Names) (sums : ReplySums) → trains ≤ 100000 → HoldsTimetable trains [] default_options
-    → loaded (contents_of (files trains) []) 20260105 1 (0 ∷ []) default_options ≡ Ok (state, names) → ((rows : Tables) → tables_of (contents_of (files trains) []) ≡ Ok rows → IsSame (network rows default_options) made)
+    → loaded (contents_of (files trains) []) 20260105 1 (0 ∷ []) default_options ≡ Ok (state, names)
+    → ((rows : Tables) → tables_of (contents_of (files trains) []) ≡ Ok rows → IsSame (network rows default_options) made)
     → AreSummed made names state (lines_of true (input trains)) sums → line ≡ summary_line sums (length state.trains) → IsOnlySummary trains line
 made-summary trains line made state names sums few holds held same summed is =
     let summary : IsSummary trains line = record {
@@ -65,7 +67,8 @@ pub made-summary-by : (trains n : ℕ) (o : Opts) (line : List ℕ) (made : Netw
     → AreSummed made names state (lines_of true (input trains)) sums → line ≡ summary_line sums (length state.trains) → IsOnlySummary trains line
 made-summary-by trains n o line made state names sums number options some few held same summed is =
     made-summary trains line made state names sums few (made-timetable trains [] default_options some few)
-    (subst (λ (m : ℕ). loaded (contents_of (files m) []) 20260105 1 (0 ∷ []) default_options ≡ Ok (state, names)) number (subst (λ (p : Opts). loaded (contents_of (files n) []) 20260105 1 (0 ∷ []) p ≡ Ok (state, names)) options held))
+    (subst (λ (m : ℕ). loaded (contents_of (files m) []) 20260105 1 (0 ∷ []) default_options ≡ Ok (state, names)) number
+    (subst (λ (p : Opts). loaded (contents_of (files n) []) 20260105 1 (0 ∷ []) p ≡ Ok (state, names)) options held))
     (λ rows are.
     subst (λ (p : Opts). IsSame (network rows p) made) options (same rows (subst (λ (m : ℕ). tables_of (contents_of (files m) []) ≡ Ok rows) (sym number) are)))
     summed is

@@ -110,10 +110,12 @@ few-taken None now bytes all source is = absurd (none-some all is)
 few-taken (Some xs) None bytes all source is = absurd source
 few-taken (Some xs) (Some ys) bytes all source is = omega (arith, ap length (same_Some xs all is), ap length source, length-append bytes ys)
 
-module _ {B F S K : Type 0} {task : Task B} {budget : ℕ} {words : List (List ℕ)} {feed : FeedSeen} {input out : StreamSeen} {feed_old feed_new : F} {input_old input_new : S} {out_old out_new : K} where
+module _ {B F S K : Type 0} {task : Task B} {budget : ℕ}
+    {words : List (List ℕ)} {feed : FeedSeen} {input out : StreamSeen} {feed_old feed_new : F} {input_old input_new : S} {out_old out_new : K} where
   -- a run that has something to begin with, and in which nothing fails, goes well, or there is no
   -- memory, or the input is too long
-  unhindered : {start : B} (run : Result (Unit {0}) Stop) → EndsAs task budget words feed input out feed_old feed_new input_old input_new out_old out_new run → Begins task words feed.tables start → NothingFails task budget words feed input out
+  unhindered : {start : B} (run : Result (Unit {0}) Stop) → EndsAs task budget words feed input out feed_old feed_new input_old input_new out_old out_new run
+      → Begins task words feed.tables start → NothingFails task budget words feed input out
       → (run ≡ Ok tt) ⊎ (run ≡ Err (Fault lines.OutOfMemory)) ⊎ (run ≡ Err (Fault lines.TooLong))
   unhindered (Ok u) p begins none = inl refl
   unhindered (Err Usage) p begins none = absurd (none-some begins.loads.asked (sym (p.usage refl) ∙ begins.loads.asked_is))
@@ -150,7 +152,8 @@ module _ {B F S K : Type 0} {task : Task B} {budget : ℕ} {words : List (List �
   }
 
   -- a run whose end is told meets the contract of its command
-  pub contract-met : {err : StreamSeen} (run : Result (Unit {0}) Stop) (s : Status) → EndsAs task budget words feed input out feed_old feed_new input_old input_new out_old out_new run → s ≡ run_status run → Tells err (run_line run)
+  pub contract-met : {err : StreamSeen} (run : Result (Unit {0}) Stop) (s : Status)
+      → EndsAs task budget words feed input out feed_old feed_new input_old input_new out_old out_new run → s ≡ run_status run → Tells err (run_line run)
       → MeetsContract task budget words feed input out err feed_old feed_new input_old input_new out_old out_new s
   contract-met {err = err} run s p status told = subst (MeetsContract task budget words feed input out err feed_old feed_new input_old input_new out_old out_new) (sym status) (record {
     line = run_line run;

@@ -5,7 +5,7 @@ use Rattle.std.proofs.lemmas.Option.{none-some}
 use Rattle.delay_model.specs.declared.network.Network.{Network}
 use Rattle.delay_model.specs.declared.state.State.{State}
 use Rattle.command_words.specs.declared.words.Command.{Command}
-use Rattle.command_words.specs.declared.words.Command.TheVariants.{Times, Serve, Check}
+use Rattle.command_words.specs.declared.words.Command.TheVariants.{Times, Serve, Check, Plans}
 use Rattle.command_words.specs.Words.{Asked, asked_of}
 use Rattle.gtfs_tables.specs.declared.refusals.FeedRefusal.{FeedRefusal}
 use Rattle.feed_load.specs.Loaded.{loaded}
@@ -25,13 +25,14 @@ use Rattle.mt_io.proofs.Gives.{consumes_none}
 use Rattle.window_service.proofs.Networks.{served-same, whole-same}
 use Rattle.window_service.proofs.Written.{nothing-served}
 use Rattle.checked_answers.proofs.Alike.{checked-alike}
+use Rattle.plan_answers.proofs.Alike.{planned-alike}
 use Rattle.commands.specs.Beginnings.{IsBegun}
 use Rattle.commands.specs.Feeds.{network, tables_in, asked_in}
 use Rattle.commands.specs.LineTasks.{Behind, IsBegunAlike, Refuses, Start, begins_by, begun_over, is_long, line_output, line_task, long_line, table_among, unless_long}
 use Rattle.commands.specs.Loading.{IsFetched}
 use Rattle.commands.specs.declared.loading.Fetched.{Fetched}
 use Rattle.commands.specs.Runs.{Begins, IsFeedRefused, IsLoadRefused, IsRefused, Loads, Refusal, SaysWhy, by_feed, by_command, line_of_refusal}
-use Rattle.commands.specs.Tasks.{Task, check_output, feed_task, first_service, output_for, output_of}
+use Rattle.commands.specs.Tasks.{Task, check_output, feed_task, first_service, output_for, output_of, plans_output}
 
 -- the timetable that was loaded is the one that the words ask for
 pub record IsStart (words : List (List ℕ)) (tables : Option Files) (a : Asked) (nw loaded : Network)
@@ -50,7 +51,8 @@ pub record WasLoaded (words : List (List ℕ)) (tables : Option Files) (a : Aske
   pub held : (told : Files) → tables ≡ Some told → asked_in told a ≡ Ok (st, names)
   pub same : (told : Files) (rows : Tables) → tables ≡ Some told → tables_in told a ≡ Ok rows → IsSame (network rows a.opts) loaded
 
-pub was-loaded : {words : List (List ℕ)} {tables : Option Files} {a : Asked} {loaded : Network} {st : State} {names : Names} → asked_of words ≡ Some a → ((told : Files) → tables ≡ Some told → asked_in told a ≡ Ok (st, names))
+pub was-loaded : {words : List (List ℕ)} {tables : Option Files} {a : Asked} {loaded : Network} {st : State} {names : Names}
+    → asked_of words ≡ Some a → ((told : Files) → tables ≡ Some told → asked_in told a ≡ Ok (st, names))
     → ((told : Files) (rows : Tables) → tables ≡ Some told → tables_in told a ≡ Ok rows → IsSame (network rows a.opts) loaded) → WasLoaded words tables a loaded st names
 was-loaded asked held same = record { asked = asked; held = held; same = same }
 
@@ -59,40 +61,49 @@ pub same-start : {words : List (List ℕ)} {tables : Option Files} {a : Asked} {
 same-start was nw st names loads = grind (arith, was.asked, loads.asked_is, was.held, was.same)
 
 -- a feed that was loaded is not to be refused
-pub not-refused : {words : List (List ℕ)} {tables : Option Files} {a : Asked} {loaded : Network} {st : State} {names : Names} → WasLoaded words tables a loaded st names → (why : FeedRefusal) → ¬ (IsFeedRefused words tables why)
+pub not-refused : {words : List (List ℕ)} {tables : Option Files} {a : Asked} {loaded : Network} {st : State} {names : Names}
+    → WasLoaded words tables a loaded st names → (why : FeedRefusal) → ¬ (IsFeedRefused words tables why)
 not-refused was why r = grind (arith, was.asked, r.asked_is, was.held r.told r.told_is, r.refused)
 
 -- two timetables that words ask for are one
-pub record AreOne {words : List (List ℕ)} {tables : Option Files} {nw nx : Network} {st su : State} {names others : Names} (x : Loads words tables nw st names) (y : Loads words tables nx su others) : Type 0 where
+pub record AreOne {words : List (List ℕ)} {tables : Option Files}
+    {nw nx : Network} {st su : State} {names others : Names} (x : Loads words tables nw st names) (y : Loads words tables nx su others) : Type 0 where
   pub asked : x.asked ≡ y.asked
   pub told : x.told ≡ y.told
   pub service : first_service nw names st ≡ first_service nx others su
 
-are-one : {words : List (List ℕ)} {tables : Option Files} {nw nx : Network} {st su : State} {names others : Names} (x : Loads words tables nw st names) (y : Loads words tables nx su others) → AreOne x y
+are-one : {words : List (List ℕ)} {tables : Option Files}
+    {nw nx : Network} {st su : State} {names others : Names} (x : Loads words tables nw st names) (y : Loads words tables nx su others) → AreOne x y
 are-one x y = grind (arith, x.asked_is, y.asked_is, x.told_is, y.told_is, x.rows_are, y.rows_are, x.network_is, y.network_is, x.holds, y.holds)
 
 -- what a command has to begin with is not to be refused
-pub begun-not-refused : {B : Type 0} {task : Task B} {words : List (List ℕ)} {tables : Option Files} {start : B} → Begins task words tables start → (why : Refusal) → ¬ (IsRefused task words tables why)
+pub begun-not-refused : {B : Type 0} {task : Task B} {words : List (List ℕ)} {tables : Option Files} {start : B}
+    → Begins task words tables start → (why : Refusal) → ¬ (IsRefused task words tables why)
 begun-not-refused b (by_feed why) r = let l = b.loads in grind (arith, l.asked_is, r.asked_is, l.told_is, r.told_is, l.holds, r.refused)
 begun-not-refused b (by_command line) r = let one = are-one b.loads r.loads in absurd (cc (one.asked, one.told, one.service, b.begins, r.refused))
 
 -- ---- commands that load nothing behind the feed
 
 -- networks alike have the same outputs and the same replies, whatever the command
-whole-alike : (c : Command) (a b : Network) → IsSame a b → (names : Names) (st : State) (lines : List Line) (bytes : List ℕ) → (output_for c).IsWhole (first_service b names st) lines bytes → (output_for c).IsWhole (first_service a names st) lines bytes
-whole-alike Times a b h names st lines bytes w = output-same a b h names st lines bytes w
-whole-alike Serve a b h names st lines bytes w = served-same a b h names st lines bytes w
-whole-alike Check a b h names st lines bytes w = whole-over checked-alike a (first_service b names st) tt h lines bytes w
+whole-alike : (c : Command) (rides : ℕ) (a b : Network) → IsSame a b → (names : Names) (st : State) (lines : List Line) (bytes : List ℕ)
+    → (output_for c rides).IsWhole (first_service b names st) lines bytes → (output_for c rides).IsWhole (first_service a names st) lines bytes
+whole-alike Times rides a b h names st lines bytes w = output-same a b h names st lines bytes w
+whole-alike Serve rides a b h names st lines bytes w = served-same a b h names st lines bytes w
+whole-alike Check rides a b h names st lines bytes w = whole-over checked-alike a (first_service b names st) tt h lines bytes w
+whole-alike Plans rides a b h names st lines bytes w = whole-over planned-alike a (first_service b names st) rides h lines bytes w
 
-replies-alike : (c : Command) (a b : Network) → IsSame a b → (names : Names) (st : State) (lines : List Line) (bytes : List ℕ) → (output_for c).AreReplies (first_service b names st) lines bytes → (output_for c).AreReplies (first_service a names st) lines bytes
-replies-alike Times a b h names st lines bytes r = replies-same a b h names st [] lines bytes r
-replies-alike Serve a b h names st lines bytes r = whole-same a b h names st lines bytes r
-replies-alike Check a b h names st lines bytes r = elim r [ inl some ↦ inl (beginning-alike checked-alike a (first_service b names st) tt h lines bytes some) | inr nothing ↦ inr nothing ]
+replies-alike : (c : Command) (rides : ℕ) (a b : Network) → IsSame a b → (names : Names) (st : State) (lines : List Line) (bytes : List ℕ)
+    → (output_for c rides).AreReplies (first_service b names st) lines bytes → (output_for c rides).AreReplies (first_service a names st) lines bytes
+replies-alike Times rides a b h names st lines bytes r = replies-same a b h names st [] lines bytes r
+replies-alike Serve rides a b h names st lines bytes r = whole-same a b h names st lines bytes r
+replies-alike Check rides a b h names st lines bytes r = elim r [ inl some ↦ inl (beginning-alike checked-alike a (first_service b names st) tt h lines bytes some) | inr nothing ↦ inr nothing ]
+replies-alike Plans rides a b h names st lines bytes r = elim r [ inl some ↦ inl (beginning-alike planned-alike a (first_service b names st) rides h lines bytes some) | inr nothing ↦ inr nothing ]
 
-no-replies : (c : Command) (t : ServiceState) → (output_for c).AreReplies t [] []
-no-replies Times t = refl
-no-replies Serve t = nothing-served t.network t.names t.state
-no-replies Check t = inr (refl, refl)
+no-replies : (c : Command) (rides : ℕ) (t : ServiceState) → (output_for c rides).AreReplies t [] []
+no-replies Times rides t = refl
+no-replies Serve rides t = nothing-served t.network t.names t.state
+no-replies Check rides t = inr (refl, refl)
+no-replies Plans rides t = inr (refl, refl)
 
 -- what a command begins with, and the line by which it refuses
 abbrev made : {A : Type 0} → A → Result A (List ℕ)
@@ -111,27 +122,33 @@ same-line : {A : Type 0} (x y : List ℕ) → refused {A = A} x ≡ refused y �
 same-line x y is = cc
 
 -- the service that the words ask for is the one that was loaded, but for its network
-same-service : {words : List (List ℕ)} {tables : Option Files} {a : Asked} {nw loaded : Network} {st : State} {names : Names} {loads : Loads words tables nw st names} {st_loaded : State} {names_loaded : Names}
+same-service : {words : List (List ℕ)} {tables : Option Files}
+    {a : Asked} {nw loaded : Network} {st : State} {names : Names} {loads : Loads words tables nw st names} {st_loaded : State} {names_loaded : Names}
     → IsStart words tables a nw loaded st names loads st_loaded names_loaded → first_service nw names st ≡ first_service nw names_loaded st_loaded
 same-service {nw = nw} {st = st} {names_loaded = names_loaded} s = ap (λ (ns : Names). first_service nw ns st) s.named ∙ ap (λ (t : State). first_service nw names_loaded t) s.state
 
 -- they begin with the service that was loaded
-pub by-command : {words : List (List ℕ)} {tables : Option Files} {a : Asked} {loaded : Network} {st : State} {names : Names} (c : Command) → WasLoaded words tables a loaded st names → a.command ≡ c
-    → IsBegun feed_task words tables ((output_for c).IsWhole (first_service loaded names st)) ((output_for c).AreReplies (first_service loaded names st))
-by-command {words = words} {tables = tables} {a = a} {loaded = loaded} {st = st} {names = names} c was is = record {
+by-asked : {words : List (List ℕ)} {tables : Option Files} {a : Asked} {loaded : Network} {st : State} {names : Names} → WasLoaded words tables a loaded st names
+    → IsBegun feed_task words tables ((output_of a).IsWhole (first_service loaded names st)) ((output_of a).AreReplies (first_service loaded names st))
+by-asked {words = words} {tables = tables} {a = a} {loaded = loaded} {st = st} {names = names} was = record {
   asked = λ absent. none-some _ (sym absent ∙ was.asked);
   not_refused = elim [ by_feed why ↦ not-refused was why | by_command line ↦ λ r. (not-both _ line r.refused) ];
   whole = λ start begins lines bytes w.
       let s = same-start was begins.network begins.state begins.names begins.loads in
       subst (λ (t : ServiceState). (output_of begins.loads.asked).IsWhole t lines bytes) (sym (same-service s) ∙ same-ok _ _ begins.begins)
-      (subst (λ (d : Command). (output_for d).IsWhole (first_service begins.network names st) lines bytes) (sym is ∙ ap (λ (b : Asked). b.command) (sym s.asked))
-      (whole-alike c begins.network loaded s.network names st lines bytes w));
+      (subst (λ (b : Asked). (output_of b).IsWhole (first_service begins.network names st) lines bytes) (sym s.asked)
+      (whole-alike a.command a.rides begins.network loaded s.network names st lines bytes w));
   replies = λ start begins lines bytes r.
       let s = same-start was begins.network begins.state begins.names begins.loads in
       subst (λ (t : ServiceState). (output_of begins.loads.asked).AreReplies t lines bytes) (sym (same-service s) ∙ same-ok _ _ begins.begins)
-      (subst (λ (d : Command). (output_for d).AreReplies (first_service begins.network names st) lines bytes) (sym is ∙ ap (λ (b : Asked). b.command) (sym s.asked))
-      (replies-alike c begins.network loaded s.network names st lines bytes r));
+      (subst (λ (b : Asked). (output_of b).AreReplies (first_service begins.network names st) lines bytes) (sym s.asked)
+      (replies-alike a.command a.rides begins.network loaded s.network names st lines bytes r));
 }
+
+pub by-command : {words : List (List ℕ)} {tables : Option Files} {a : Asked} {loaded : Network} {st : State} {names : Names} (c : Command) → WasLoaded words tables a loaded st names → a.command ≡ c
+    → IsBegun feed_task words tables ((output_for c a.rides).IsWhole (first_service loaded names st)) ((output_for c a.rides).AreReplies (first_service loaded names st))
+by-command {words = words} {tables = tables} {a = a} {loaded = loaded} {st = st} {names = names} c was is =
+    subst (λ (d : Command). IsBegun feed_task words tables ((output_for d a.rides).IsWhole (first_service loaded names st)) ((output_for d a.rides).AreReplies (first_service loaded names st))) is (by-asked was)
 
 -- ---- commands that answer line by line
 
@@ -139,12 +156,23 @@ by-command {words = words} {tables = tables} {a = a} {loaded = loaded} {st = st}
 at-first : (t : ServiceState) → t.count ≡ 0 → t ≡ first_service t.network t.names t.state
 at-first t none = ap (λ (n : ℕ). record { network = t.network; state = t.state; count = n; names = t.names }) none
 
--- `check` begins with it as it was loaded
-pub by-check : {words : List (List ℕ)} {tables : Option Files} {a : Asked} {t : ServiceState} → t.count ≡ 0 → WasLoaded words tables a t.network t.state t.names → a.command ≡ Check → IsBegun feed_task words tables (check_output.IsWhole t) (check_output.AreReplies t)
-by-check {words = words} {tables = tables} {t = t} none was is = subst (λ (s : ServiceState). IsBegun feed_task words tables (check_output.IsWhole s) (check_output.AreReplies s)) (sym (at-first t none)) (by-command Check was is)
+-- `check` and `plans` begin with it as it was loaded
+pub by-check : {words : List (List ℕ)} {tables : Option Files} {a : Asked} {t : ServiceState} → t.count ≡ 0 → WasLoaded words tables a t.network t.state t.names
+    → a.command ≡ Check → IsBegun feed_task words tables (check_output.IsWhole t) (check_output.AreReplies t)
+by-check {words = words} {tables = tables} {t = t} none was is =
+    subst (λ (s : ServiceState). IsBegun feed_task words tables (check_output.IsWhole s) (check_output.AreReplies s))
+    (sym (at-first t none)) (by-command Check was is)
+
+pub by-plans : {words : List (List ℕ)} {tables : Option Files} {a : Asked} {t : ServiceState} {rides : ℕ} → t.count ≡ 0 → WasLoaded words tables a t.network t.state t.names
+    → a.command ≡ Plans → rides ≡ a.rides → IsBegun feed_task words tables ((plans_output rides).IsWhole t) ((plans_output rides).AreReplies t)
+by-plans {words = words} {tables = tables} {a = a} {t = t} none was is own =
+    subst (λ (n : ℕ). IsBegun feed_task words tables ((plans_output n).IsWhole t) ((plans_output n).AreReplies t)) (sym own)
+    (subst (λ (s : ServiceState). IsBegun feed_task words tables ((plans_output a.rides).IsWhole s) ((plans_output a.rides).AreReplies s))
+    (sym (at-first t none)) (by-command Plans was is))
 
 -- what begins the same over networks alike does so also where its table is too long
-alike-if : {C : Type 0} (nw : Network) (long : Bool) (line : List ℕ) (x y : Result (Start C) (List ℕ)) → x ≡ begun_over nw y → (if long then Err line else x) ≡ begun_over nw (if long then Err line else y)
+alike-if : {C : Type 0} (nw : Network) (long : Bool) (line : List ℕ) (x y : Result (Start C) (List ℕ))
+    → x ≡ begun_over nw y → (if long then Err line else x) ≡ begun_over nw (if long then Err line else y)
 alike-if nw true line x y is = refl
 alike-if nw false line x y is = is
 
@@ -152,7 +180,8 @@ alike-unless : {C : Type 0} (nw : Network) (name table : Option (List ℕ)) (x y
 alike-unless nw None table x y is = is
 alike-unless nw (Some n) table x y is = alike-if nw (is_long table) (long_line n) x y is
 
-begins-alike : {C : Type 0} (b : Behind C) → IsBegunAlike b → (nw : Network) (a : Asked) (table : Option (List ℕ)) (t : ServiceState) → IsSame nw t.network → begins_by b a table (over nw t) ≡ begun_over nw (begins_by b a table t)
+begins-alike : {C : Type 0} (b : Behind C) → IsBegunAlike b → (nw : Network) (a : Asked) (table : Option (List ℕ)) (t : ServiceState)
+    → IsSame nw t.network → begins_by b a table (over nw t) ≡ begun_over nw (begins_by b a table t)
 begins-alike b alike nw a table t same = alike-unless nw b.table table (b.begins a table (over nw t)) (b.begins a table t) (alike.alike nw a table t same)
 
 -- and what it begins with is what it finds
@@ -180,7 +209,8 @@ same-table name own tables f is fetched = subst (λ (n : Option (List ℕ)). IsF
 -- ask for
 module _ {C : Type 0} {b : Behind C} {words : List (List ℕ)} {tables : Option Files} {a : Asked} {t : ServiceState} {due : Result (Start C) (List ℕ)} (alike : IsBegunAlike b) (none : t.count ≡ 0)
     (was : WasLoaded words tables a t.network t.state t.names) (first : (told : Files) → tables ≡ Some told → begins_by b a (table_among b.table (told a.folder)) t ≡ due) where
-  begun-again : {nw : Network} {st : State} {names : Names} (loads : Loads words tables nw st names) → (begins_by b loads.asked (table_among b.table (loads.told loads.asked.folder)) (first_service nw names st) ≡ begun_over nw due) × IsSame nw t.network
+  begun-again : {nw : Network} {st : State} {names : Names} (loads : Loads words tables nw st names)
+      → (begins_by b loads.asked (table_among b.table (loads.told loads.asked.folder)) (first_service nw names st) ≡ begun_over nw due) × IsSame nw t.network
   begun-again {nw = nw} {st = st} {names = names} loads =
       let start = same-start was nw st names loads in
       let by : Asked → ServiceState → Result (Start C) (List ℕ) = λ x u. begins_by b x (table_among b.table (loads.told x.folder)) u in
@@ -214,7 +244,8 @@ module _ {C : Type 0} {b : Behind C} {words : List (List ℕ)} {tables : Option 
   is-load-refused : (o : LineOutput C) (told : Files) → tables ≡ Some told → IsLoadRefused (line_task b o) words tables line
   is-load-refused o told is =
       let rows = has-tables told a (t.state, t.names) (was.held told is) in
-      let loads : Loads words tables (network rows.0 a.opts) t.state t.names = record { asked = a; told = told; asked_is = was.asked; told_is = is; rows = rows.0; rows_are = rows.1; network_is = refl; holds = was.held told is } in
+      let loads : Loads words tables (network rows.0 a.opts) t.state t.names =
+      record { asked = a; told = told; asked_is = was.asked; told_is = is; rows = rows.0; rows_are = rows.1; network_is = refl; holds = was.held told is } in
       record { network = network rows.0 a.opts; state = t.state; names = t.names; loads = loads; refused = (begun-again alike none was first loads).0 }
 
   pub says-behind : {o : LineOutput C} → Refuses b line → SaysWhy (line_task b o) words tables line
@@ -231,18 +262,20 @@ abbrev pub WritesNothing : {B : Type 0} → Task B → Type 0
 WritesNothing {B = B} task = (a : Asked) (start : B) → (task.output a).AreReplies start [] []
 
 pub by-none : WritesNothing feed_task
-by-none a t = no-replies a.command t
+by-none a t = no-replies a.command a.rides t
 
 pub by-no_line : {C : Type 0} (b : Behind C) (o : LineOutput C) → WritesNothing (line_task b o)
 by-no_line b o a start = inr (refl, refl)
 
 -- nothing is written where nothing was taken
-pub none-written : {B : Type 0} (task : Task B) → WritesNothing task → (a : Asked) (start : B) (written : Option (List ℕ)) → AppendsAll ((task.output a).AreReplies start (lines_of false [])) written written
+pub none-written : {B : Type 0} (task : Task B) → WritesNothing task
+    → (a : Asked) (start : B) (written : Option (List ℕ)) → AppendsAll ((task.output a).AreReplies start (lines_of false [])) written written
 unfolding lines_of
 none-written task none a start written = record { shown = []; is = none a start; written = Appends-nil written }
 
 -- and nothing is a front of what is written
-pub none-front : {B Failed : Type 0} (task : Task B) → WritesNothing task → ¬ Failed → (a : Asked) (start : B) (budget : ℕ) (left written : Option (List ℕ)) → AppendsTakenFront Failed ((task.output a).IsWhole start) ((task.output a).AreReplies start) budget left left written written
+pub none-front : {B Failed : Type 0} (task : Task B) → WritesNothing task → ¬ Failed → (a : Asked) (start : B) (budget : ℕ) (left written : Option (List ℕ))
+    → AppendsTakenFront Failed ((task.output a).IsWhole start) ((task.output a).AreReplies start) budget left left written written
 none-front task none no_fault a start budget left written = record {
   bytes = [];
   took = consumes_none left;

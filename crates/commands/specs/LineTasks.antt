@@ -1,5 +1,6 @@
--- What a command that answers line by line is to do: what it loads behind the feed, which is a table
--- of the feed's folder that is its own, and what it writes.
+-- What a command is to do that answers line by line and takes a table of its own or keeps
+-- something: what it loads behind the feed, which is a table of the feed's folder that is its own,
+-- and what it writes.
 use Rattle.std.specs.Prelude.{ℕ, ◌≡◌, ◌⊎◌, ◌++◌, List, [], Bool, false, nat_lt, if◌then◌else◌, codes, length, Result, Ok, Err, None, Some}
 use Rattle.std.specs.declared.option.Option.{Option}
 use Rattle.command_words.specs.Words.{Asked}
@@ -72,7 +73,8 @@ begun_over nw (Err line) = Err line
 -- it begins the same over networks that no definition tells apart, and does not change the network
 pub record IsBegunAlike {C : Type 0} (b : Behind C) : Type 0 where
   pub alike : (nw : Network) (asked : Asked) (table : Option (List ℕ)) (t : ServiceState)
-      → IsSame nw t.network → b.begins asked table (over nw t) ≡ begun_over nw (b.begins asked table t)
+      → IsSame nw t.network
+      → b.begins asked table (over nw t) ≡ begun_over nw (b.begins asked table t)
   pub keeps : (asked : Asked) (table : Option (List ℕ)) (t : ServiceState) (s : Start C)
       → b.begins asked table t ≡ Ok s → s.service.network ≡ t.network
 

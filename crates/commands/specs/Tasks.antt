@@ -1,7 +1,7 @@
 -- What a command is to do: what it begins with, and what it writes.
 use Rattle.std.specs.Prelude.{ℕ, ◌≡◌, ◌⊎◌, List, [], Result, Ok}
 use Rattle.command_words.specs.declared.words.Command.{Command}
-use Rattle.command_words.specs.declared.words.Command.TheVariants.{Times, Serve, Check}
+use Rattle.command_words.specs.declared.words.Command.TheVariants.{Times, Serve, Check, Plans}
 use Rattle.command_words.specs.Words.{Asked}
 use Rattle.checked_answers.specs.CheckedLines.{checked_output}
 use Rattle.delay_model.specs.declared.network.Network.{Network}
@@ -11,6 +11,7 @@ use Rattle.information_service.specs.Answering.{IsBeginning, IsWhole, LineOutput
 use Rattle.information_service.specs.Output.{AreReplies, IsOutput}
 use Rattle.information_service.specs.ServiceState.{ServiceState}
 use Rattle.mt_io.specs.Lines.{Line}
+use Rattle.plan_answers.specs.PlannedLines.{planned_output}
 use Rattle.query_crew.specs.Served.{IsServed}
 use Rattle.schedule_build.specs.Directory.{Names}
 use Rattle.window_service.specs.Whole.{AreWholeWindowsServed}
@@ -54,29 +55,36 @@ served_output = record {
   AreReplies = λ t. AreWholeWindowsServed t.network t.names t.state;
 }
 
--- what a command writes that answers line by line and keeps nothing beside the service. Where
--- nothing was read it may have written nothing
-abbrev pub plain_output : LineOutput (Unit {0}) → Output ServiceState
-plain_output o = record {
-  IsWhole = λ t. IsWhole o t tt;
-  AreReplies = λ t lines bytes. IsBeginning o t tt lines bytes ⊎ ((lines ≡ []) × (bytes ≡ []));
+-- what a command writes that answers line by line and keeps this beside the service. Where nothing
+-- was read it may have written nothing
+abbrev pub kept_output : {C : Type 0} → LineOutput C → C → Output ServiceState
+kept_output o kept = record {
+  IsWhole = λ t. IsWhole o t kept;
+  AreReplies = λ t lines bytes. IsBeginning o t kept lines bytes ⊎ ((lines ≡ []) × (bytes ≡ []));
 }
 
 -- what `check` writes: a reply to each line. Each query is answered in the state after the messages
--- that were accepted before it, with a good certificate of its answer; and each claim is found right
--- exactly where it has a good certificate in that state (`IsReplyText` in checked_answers)
+-- that were accepted before it, with a good certificate of its answer; and each claim is answered
+-- true exactly where it has a good certificate in that state (`IsReplyText` in checked_answers)
 abbrev pub check_output : Output ServiceState
-check_output = plain_output checked_output
+check_output = kept_output checked_output tt
 
--- what a command writes
-abbrev pub output_for : Command → Output ServiceState
-output_for Times = times_output
-output_for Serve = served_output
-output_for Check = check_output
+-- what `plans` writes that looks for plans with up to so many rides: a reply to each line. Each query
+-- is answered in the state after the messages that were accepted before it, with its front for so
+-- many rides (`IsPlannedText` in plan_answers)
+abbrev pub plans_output : ℕ → Output ServiceState
+plans_output rides = kept_output planned_output rides
+
+-- what a command writes, with plans of up to so many rides
+abbrev pub output_for : Command → ℕ → Output ServiceState
+output_for Times rides = times_output
+output_for Serve rides = served_output
+output_for Check rides = check_output
+output_for Plans rides = plans_output rides
 
 -- what the command writes that the words ask for
 abbrev pub output_of : Asked → Output ServiceState
-output_of asked = output_for asked.command
+output_of asked = output_for asked.command asked.rides
 
 -- these commands begin with the service that was loaded, and refuse nothing behind the feed
 abbrev pub feed_task : Task ServiceState

@@ -24,6 +24,7 @@ use mt_base::memory::OutOfMemory;
 use mt_base::numbers::Time;
 use mt_base::rows::Rows;
 use mt_io::Feed;
+use plan_answers::PlanSearch;
 use schedule_build::Directory;
 use service_zones::{BaseFault, Zone};
 use std::alloc::{AllocError, Global};
@@ -214,4 +215,49 @@ pub(crate) fn load_service<F: Feed>(
 {
     let loaded = load_asked(alloc, asked, feed)?;
     Ok(InformationService::build(alloc, loaded.timetable, loaded.directory)?)
+}
+
+/// A service, and what it keeps for the search for plans.
+#[derive(Drop)]
+pub(crate) struct Planner {
+    /// The service.
+    pub(crate) service: InformationService,
+
+    /// What is kept for the search.
+    pub(crate) search: PlanSearch,
+}
+
+/// The timetable that the words ask for, as a service with room for the search for plans.
+pub(crate) fn load_planner<F: Feed>(
+    alloc: Global,
+    asked: &Asked<'_>,
+    feed: &mut F,
+) -> Result<Planner, FeedError>
+    // what words that were read ask for
+    requires civil { IsCivil asked.now.first }
+    requires year { asked.now.first < 21010000 }
+    requires days { (1 ≤ asked.now.days) × (asked.now.days ≤ 31) }
+    requires options { IsInRange asked.now.opts }
+    requires lengths { day_of_wrong_length asked.now.zone asked.now.first asked.now.days ≡ None }
+    requires rides { (1 ≤ asked.now.rides) × (asked.now.rides ≤ 8) }
+
+    // the timetable that the feed holds, or why it is refused
+    ensures exact { (told : Files) → F.tables feed.old ≡ Some told
+        → Gives (λ p. (p.service.state, p.service.names)) result
+        (asked_in told (asked_view asked.now)) }
+    ensures network { IfOk result (λ p. (told : Files) (rows : ATables) → F.tables feed.old
+        ≡ Some told → tables_in told (asked_view asked.now) ≡ Ok rows
+        → IsSame (network rows asked.now.opts) p.service.network) }
+    ensures new { IfOk result (λ p. p.service.count ≡ 0) }
+    ensures rides { IfOk result (λ p. p.search ≡ asked.now.rides) }
+
+    // a read fault comes where one read failed, and else none failed
+    ensures failed { IsErrOf result FeedError.ReadFault
+        → Some (F.faults feed.new) ≡ counted (F.faults feed.old) }
+    ensures answered { ¬ (IsErrOf result FeedError.ReadFault)
+        → F.faults feed.new ≡ F.faults feed.old }
+{
+    let service = load_service(alloc, asked, feed)?;
+    let search = PlanSearch::build(alloc, asked.rides, &service)?;
+    Ok(Planner { service, search })
 }

@@ -10,7 +10,7 @@ ghost use Rattle.commands.specs.LineTasks.{line_task};
 ghost use Rattle.commands.specs.Tasks.{feed_task};
 
 use crate::beginning::begin;
-use crate::feed::{load_asked, load_service};
+use crate::feed::{load_asked, load_planner, load_service};
 use crate::generated::run_gen;
 use crate::loading::LoadBehind;
 use crate::refusal::feed_stop;
@@ -20,6 +20,7 @@ use checked_answers::CheckLines;
 use command_words::{Command, is_gen, read_words};
 use information_service::{AnswerLines, answer_input, write_output};
 use mt_io::{Feed, Gate, Sink, Source};
+use plan_answers::{PlanLines, PlanSearch};
 use query_crew::{CrewPlan, Setting};
 use snapshot_board::NewHistory;
 use std::alloc::Global;
@@ -127,6 +128,41 @@ fn check_words<F: Feed, S: Source, K: Sink>(
     run_of(answer_input::<CheckLines, (), S, K>(alloc, &mut service, &mut (), input, out, budget))
 }
 
+/// The same for `plans`.
+fn plans_words<F: Feed, S: Source, K: Sink>(
+    alloc: Global,
+    words: &[String],
+    feed: &mut F,
+    input: &mut S,
+    out: &mut K,
+    budget: u64,
+) -> Result<(), Stop>
+    requires command { AskFor Command.Plans (map string_bytes words.now) }
+
+    ensures run { EndsAs feed_task budget (map string_bytes words.now)
+        (feed_seen F.tables F.faults feed.old feed.new)
+        (stream_seen S.left S.faults input.old input.new)
+        (stream_seen K.written K.faults out.old out.new)
+        feed.old feed.new input.old input.new out.old out.new result }
+{
+    let asked = match read_words(alloc, words) {
+        Ok(asked) => asked,
+        Err(fault) => return Err(Stop::from(fault)),
+    };
+    let mut planner = match load_planner(alloc, &asked, feed) {
+        Ok(planner) => planner,
+        Err(error) => return Err(feed_stop(alloc, error)),
+    };
+    run_of(answer_input::<PlanLines, PlanSearch, S, K>(
+        alloc,
+        &mut planner.service,
+        &mut planner.search,
+        input,
+        out,
+        budget,
+    ))
+}
+
 /// The same for a command that answers line by line, with what it loads behind the feed.
 fn answer_words<T: AnswerLines<C>, L: LoadBehind<C>, C: Drop, F: Feed, S: Source, K: Sink>(
     alloc: Global,
@@ -154,11 +190,11 @@ fn answer_words<T: AnswerLines<C>, L: LoadBehind<C>, C: Drop, F: Feed, S: Source
 }
 
 /// All that the program does for a command that answers line by line, by the words and options of
-/// `times`: it reads the tables of the feed and, as `L` says, a table of the feed's folder that is
-/// the command's own, and begins with what it makes of them, or refuses them. Then it answers each
-/// line of the input at once, as `T` says, with what stands before the first line and behind the
-/// last. It stops where `budget` bytes of the input were taken and no end was read. It waits for
-/// nobody and returns.
+/// `times`, and takes a table of its own or keeps something: it reads the tables of the feed and,
+/// as `L` says, a table of the feed's folder that is the command's own, and begins with what it
+/// makes of them, or refuses them. Then it answers each line of the input at once, as `T` says,
+/// with what stands before the first line and behind the last. It stops where `budget` bytes of the
+/// input were taken and no end was read. It waits for nobody and returns.
 pub fn run_lines<
     T: AnswerLines<C>,
     L: LoadBehind<C>,
@@ -241,9 +277,10 @@ fn run_serve<R: Threads + Wait + Sync, F: Feed, S: Source, K: Sink, E: Sink, G: 
 }
 
 /// All that the program does for `check`. It reads the tables of the feed, and answers each line of
-/// the input at once: a query with what shows that its answer is right, and a claim by whether it is
-/// right, by the times after the messages of the lines before it. It stops where `budget` bytes of
-/// the input were taken and no end was read. It waits for nobody and returns.
+/// the input at once, by the times after the messages of the lines before it: a query with what
+/// shows that its answer is right, and a claim by whether what comes with it shows that it is
+/// right. It stops where `budget` bytes of the input were taken and no end was read. It waits for
+/// nobody and returns.
 pub fn run_check<F: Feed, S: Source, K: Sink, E: Sink>(
     alloc: Global,
     words: &[String],
@@ -266,6 +303,32 @@ pub fn run_check<F: Feed, S: Source, K: Sink, E: Sink>(
     tell(&run, err)
 }
 
+/// All that the program does for `plans`. It reads the tables of the feed, and answers each line of
+/// the input at once, by the times after the messages of the lines before it: a query with all best
+/// plans by arrival and number of rides, up to as many rides as the words ask for. It stops where
+/// `budget` bytes of the input were taken and no end was read. It waits for nobody and returns.
+pub fn run_plans<F: Feed, S: Source, K: Sink, E: Sink>(
+    alloc: Global,
+    words: &[String],
+    feed: &mut F,
+    input: &mut S,
+    out: &mut K,
+    err: &mut E,
+    budget: u64,
+) -> Status
+    requires command { AskFor Command.Plans (map string_bytes words.now) }
+    requires budget { 1 ≤ budget }
+    ensures contract { MeetsContract feed_task budget (map string_bytes words.now)
+        (feed_seen F.tables F.faults feed.old feed.new)
+        (stream_seen S.left S.faults input.old input.new)
+        (stream_seen K.written K.faults out.old out.new)
+        (stream_seen E.written E.faults err.old err.new)
+        feed.old feed.new input.old input.new out.old out.new result }
+{
+    let run = plans_words(alloc, words, feed, input, out, budget);
+    tell(&run, err)
+}
+
 /// The command that words ask for, if they ask for anything.
 fn command_for(words: &[String]) -> Command
     ensures { AskFor result (map string_bytes words.now) }
@@ -276,12 +339,13 @@ fn command_for(words: &[String]) -> Command
     }
 }
 
-/// The program. For `times` it does what `run_times` does, and for `check` what `run_check` does.
-/// For `serve` it reads the tables of the feed and answers the input window after window, and
-/// queries beside the messages; the gate is called after each message and before each query. It
-/// stops where `budget` bytes of the input were taken and no end was read. For `gen` it does what it does for `serve` over a feed and an input
-/// that it makes from a number of trains, and writes one line with the sums over the replies; it
-/// asks nothing of `feed` and `input`.
+/// The program. For `times` it does what `run_times` does, for `check` what `run_check` does, and
+/// for `plans` what `run_plans` does. For `serve` it reads the tables of the feed and answers the
+/// input window after window, and queries beside the messages; the gate is called after each
+/// message and before each query. It stops where `budget` bytes of the input were taken and no end
+/// was read. For `gen` it does what it does for `serve` over a feed and an input that it makes from
+/// a number of trains, and writes one line with the sums over the replies; it asks nothing of
+/// `feed` and `input`.
 pub fn traind_within<
     R: Threads + Wait + Sync,
     F: Feed,
@@ -325,6 +389,7 @@ pub fn traind_within<
     match command_for(words) {
         Command::Times => run_times(alloc, words, feed, input, out, err, budget),
         Command::Check => run_check(alloc, words, feed, input, out, err, budget),
+        Command::Plans => run_plans(alloc, words, feed, input, out, err, budget),
         Command::Serve => run_serve(rt, alloc, words, feed, input, out, err, gate, budget),
     }
 }

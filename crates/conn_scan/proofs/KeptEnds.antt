@@ -15,7 +15,7 @@ use Rattle.conn_scan.proofs.OpeningsLemmas.{ArePlaces, length-lowered_rides, len
 use Rattle.conn_scan.proofs.RoomLemmas.{room-departed, room-kept}
 use Rattle.conn_scan.proofs.Stretches.{after-first, after-last, departure-is, ride-stretch, stretch-times}
 
-never-at : (n b : ℕ) → time_at (replicate n None) b ≡ None
+pub never-at : (n b : ℕ) → time_at (replicate n None) b ≡ None
 never-at n b = elim (cases_lt b n) [
   | inl within ↦ get_or-replicate n b None None within
   | inr past ↦ get_or_past (replicate n None) b None (let size = length-replicate {A = Option ℕ} n None in omega arith)
@@ -85,7 +85,7 @@ module _ (nw : Network) (st : State) (q : Query) (o : Ordered) (k : Known) (room
   origin-since false b t h = let by = h.2 in omega arith
 
   -- what opens at first does so straight from the origin
-  opens-straight : (b t : ℕ) → time_at opens.times b ≡ Some t → (ride_at opens b ≡ None) × IsFromOrigin nw q b t
+  pub opens-straight : (b t : ℕ) → time_at opens.times b ≡ Some t → (ride_at opens b ≡ None) × IsFromOrigin nw q b t
   opens-straight b t at = elim (lowered-from q.time None (IsFromOrigin nw q) own first own-places from-own b t at) [
     | inr new ↦ new
     | inl old ↦ elim (lowered-from q.time None (IsFromOrigin nw q) onward empty onward-places from-onward b t old.0) [
@@ -94,7 +94,7 @@ module _ (nw : Network) (st : State) (q : Query) (o : Ordered) (k : Known) (room
     ]
   ]
 
-  opens-within : (b t : ℕ) → time_at opens.times b ≡ Some t → b < length nw.stops
+  pub opens-within : (b t : ℕ) → time_at opens.times b ≡ Some t → b < length nw.stops
   opens-within b t at = elim (lowered-from q.time None (λ b t. b < length nw.stops) own first own-places (λ i c l. (at_origin-each (changes_of nw) q i c l).within) b t at) [
     | inr new ↦ new.1
     | inl old ↦ elim (lowered-from q.time None (λ b t. b < length nw.stops) onward empty onward-places (reached-within (changes_of nw) q.from_stop (length nw.stops) (omega arith)) b t old.0) [
@@ -157,19 +157,19 @@ module _ (nw : Network) (st : State) (o : Ordered) (are : AreNumbered nw st o) (
     pub kept : IsKept nw st q o done k
     pub all : (n : ℕ) (d : Departure) → held o.entries n ≡ Some d → q.time ≤ d.time → IsEarly (best_time k.best) d.time → Contains done n
 
-  there-late : (best : Option Ending) (time t : ℕ) → is_there_by best time ≡ true → time ≤ t → IsEarly (best_time best) t → ⊥
+  pub there-late : (best : Option Ending) (time t : ℕ) → is_there_by best time ≡ true → time ≤ t → IsEarly (best_time best) t → ⊥
   there-late None time t h le early = absurd (both_ways false refl h)
   there-late (Some e) time t h le early = omega (arith, leb-true e.time time h)
 
   no-room : (numbers : ℕ) (k : Known) → HasRoomFor (length nw.stops) numbers k → HasRoomFor (length nw.stops) 0 k
   no-room numbers k room = record { held = room.held; times = room.times; rides = room.rides; aboard = let fits = room.aboard in omega arith }
 
-  all-done : (done : List Leaving) (k : Known) → leaving_from o q.time ≡ done → (n : ℕ) (d : Departure) → held o.entries n ≡ Some d → q.time ≤ d.time → Contains (map number done) n
+  pub all-done : (done : List Leaving) (k : Known) → leaving_from o q.time ≡ done → (n : ℕ) (d : Departure) → held o.entries n ≡ Some d → q.time ≤ d.time → Contains (map number done) n
   all-done done k whole n d there since =
       let y = leaving-all nw st o are q.time n d there since in
       subst (Contains (map number done)) y.2 (mapped number done y.0 (subst (λ ys. Contains ys y.0) whole y.1))
 
-  early-done : (done : List Leaving) (x : Leaving) (rest : List Leaving) (k : Known) → leaving_from o q.time ≡ done ++ x ∷ rest → is_there_by k.best x.time ≡ true → (n : ℕ) (d : Departure) → held o.entries n ≡ Some d → q.time ≤ d.time → IsEarly (best_time k.best) d.time → Contains (map number done) n
+  pub early-done : (done : List Leaving) (x : Leaving) (rest : List Leaving) (k : Known) → leaving_from o q.time ≡ done ++ x ∷ rest → is_there_by k.best x.time ≡ true → (n : ℕ) (d : Departure) → held o.entries n ≡ Some d → q.time ≤ d.time → IsEarly (best_time k.best) d.time → Contains (map number done) n
   early-done done x rest k split over n d there since early =
       let y = leaving-all nw st o are q.time n d there since in
       let at = leaving-at nw st o are q.time done x rest split in

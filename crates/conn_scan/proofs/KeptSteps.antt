@@ -13,7 +13,7 @@ use Rattle.conn_scan.proofs.OpeningsLemmas.{ArePlaces, lowered-from, lowered-kep
 use Rattle.conn_scan.proofs.Stretches.{after-first, after-last, alights-at_stop, departure-is, stretch-more, stretch-times}
 
 -- the numbers that are done once one more is
-now-cases : (done : List ℕ) (x n : ℕ) → Contains (done ++ x ∷ []) n → Contains done n ⊎ (n ≡ x)
+pub now-cases : (done : List ℕ) (x n : ℕ) → Contains (done ++ x ∷ []) n → Contains done n ⊎ (n ≡ x)
 now-cases done x n h = elim (Contains-append_cases done (x ∷ []) n h) [
   | inl before ↦ inl before
   | inr here ↦ inr (only here)
@@ -22,18 +22,18 @@ now-cases done x n h = elim (Contains-append_cases done (x ∷ []) n h) [
     only : Contains (x ∷ []) n → n ≡ x
     only h = elim (Contains-cases x [] n h) [ inl same ↦ sym same | inr rest ↦ absurd (let l = rest.1 in omega arith) ]
 
-unmapped : {X Y : Type 0} (f : X → Y) (xs : List X) (y : Y) → Contains (map f xs) y → (x : X) × Contains xs x × (f x ≡ y)
+pub unmapped : {X Y : Type 0} (f : X → Y) (xs : List X) (y : Y) → Contains (map f xs) y → (x : X) × Contains xs x × (f x ≡ y)
 unmapped f [] y h = let l = h.1 in absurd (omega arith)
 unmapped f (x ∷ xs) y h = elim (Contains-cases (f x) (map f xs) y h) [
   | inl same ↦ (x, (0, omega arith, refl), same)
   | inr later ↦ let r = unmapped f xs y later in (r.0, Contains-there x xs r.0 r.1, r.2)
 ]
 
-turned : (b : Bool) → not b ≡ false → b ≡ true
+pub turned : (b : Bool) → not b ≡ false → b ≡ true
 turned true h = refl
 turned false h = absurd (both_ways true h refl)
 
-turned-false : (b : Bool) → not b ≡ true → b ≡ false
+pub turned-false : (b : Bool) → not b ≡ true → b ≡ false
 turned-false false h = refl
 turned-false true h = absurd (both_ways false refl h)
 
@@ -72,11 +72,11 @@ arrival-taken list b t within late = record {
     ]
 
 -- what it makes of the best arrival
-best-earlier : (t : ℕ) (best : Option Ending) (s : ℕ) → is_before t best ≡ true → IsBestBy (best_time best) s → t ≤ s
+pub best-earlier : (t : ℕ) (best : Option Ending) (s : ℕ) → is_before t best ≡ true → IsBestBy (best_time best) s → t ≤ s
 best-earlier t None s before h = absurd (none-some h.0 h.1)
 best-earlier t (Some e) s before h = let same : e.time ≡ h.0 = same_Some e.time h.0 h.1 in let le = h.2 in omega (arith, ltb-true t e.time before)
 
-best-by : (t : ℕ) (best : Option Ending) → is_before t best ≡ false → IsBestBy (best_time best) t
+pub best-by : (t : ℕ) (best : Option Ending) → is_before t best ≡ false → IsBestBy (best_time best) t
 best-by t None late = absurd (both_ways true late refl)
 best-by t (Some e) late = (e.time, refl, ltb-false t e.time late)
 

@@ -4,19 +4,19 @@ pub mod NextDeparture
 pub mod Numbered
 pub mod Stretches
 pub mod LeavingFrom
-mod TableLemmas
-mod OpeningsLemmas
-mod ChangeLemmas
-mod RoomLemmas
-mod Kept
-mod KeptSteps
-mod KeptEnds
-mod WaysBack
-mod WayBack
-mod EarlyStops
-mod SearchEnds
-mod PassedLemmas
-mod Missing
-mod Noted
-mod AllArrivals
-mod EveryQuery
+pub mod TableLemmas
+pub mod OpeningsLemmas
+pub mod ChangeLemmas
+pub mod RoomLemmas
+pub mod Kept
+pub mod KeptSteps
+pub mod KeptEnds
+pub mod WaysBack
+pub mod WayBack
+pub mod EarlyStops
+pub mod SearchEnds
+pub mod PassedLemmas
+pub mod Missing
+pub mod Noted
+pub mod AllArrivals
+pub mod EveryQuery

@@ -35,7 +35,7 @@ use Rattle.conn_scan.proofs.TrainLine.{cut-at}
 use Rattle.conn_scan.proofs.WaysBack.{leads-backwards, way-arrives}
 
 -- what has an entry has a number within them
-held-within : (es : List (Option Departure)) (n : ℕ) (d : Departure) → held es n ≡ Some d → n < length es
+pub held-within : (es : List (Option Departure)) (n : ℕ) (d : Departure) → held es n ≡ Some d → n < length es
 held-within es n d h = by (slice_get es n) refl h
   where
     by : (o : Option (Option Departure)) → slice_get es n ≡ o → Rattle.std.specs.Option.option_map_or (λ (entry : Option Departure). entry) o None ≡ Some d → n < length es
@@ -47,7 +47,7 @@ pub stations-are : (nw : Network) (q : Query) (t : ChangeTables) (a : Asked) →
 stations-are nw q t a tables own has x is = subst (λ (q : Query). is_one_station nw q.from_stop q.to_stop ≡ x) own (subst (λ (t : ChangeTables). nat_eq (station t.stops a.query.from_stop) (station t.stops a.query.to_stop) ≡ x) tables (rw (has.origin, has.destination) at is))
 
 -- a call is at a stop of the network
-call-within : (nw : Network) (st : State) → AreAtStops nw.stops st → (train : ℕ) (t : Train) → slice_get st.trains train ≡ Some t → (label : ℕ) (c : Call) → call_named st train label ≡ Some c → c.stop < length nw.stops
+pub call-within : (nw : Network) (st : State) → AreAtStops nw.stops st → (train : ℕ) (t : Train) → slice_get st.trains train ≡ Some t → (label : ℕ) (c : Call) → call_named st train label ≡ Some c → c.stop < length nw.stops
 call-within nw st stops train t there label c found =
     let cut = cut-at label (calls_of st train) c found in
     let each = All-contains (λ (t : Train). All (IsAtStop nw.stops) t.calls) st.trains t stops (train, slice_get_within st.trains train t there, get_or_from_slice_get st.trains train t t there) in

@@ -8,11 +8,11 @@ use Rattle.conn_scan.specs.Ways.{LeadsBackwards}
 
 module _ (nw : Network) (st : State) (q : Query) where
   -- what is reached in one of these ways at a time, is reached at each later one
-  by_match : (o : Option PlanRide) (b s t : ℕ) → s ≤ t → ((h : IsFromOrigin nw q b s) → IsFromOrigin nw q b t) → (access : ℕ → Option Access) → MatchOption o (IsFromOrigin nw q b s) (λ r. IsPossible nw st access r × IsBehind nw r b s) → MatchOption o (IsFromOrigin nw q b t) (λ r. IsPossible nw st access r × IsBehind nw r b t)
+  pub by_match : (o : Option PlanRide) (b s t : ℕ) → s ≤ t → ((h : IsFromOrigin nw q b s) → IsFromOrigin nw q b t) → (access : ℕ → Option Access) → MatchOption o (IsFromOrigin nw q b s) (λ r. IsPossible nw st access r × IsBehind nw r b s) → MatchOption o (IsFromOrigin nw q b t) (λ r. IsPossible nw st access r × IsBehind nw r b t)
   by_match None b s t le later access h = later h
   by_match (Some r) b s t le later access h = let by = h.1.2 in (h.0, (h.1.0, h.1.1, omega arith))
 
-  origin-later : (x : Bool) (b s t : ℕ) → s ≤ t → MatchBool x (q.time ≤ s) (IsInTime nw q.from_stop q.time b s) → MatchBool x (q.time ≤ t) (IsInTime nw q.from_stop q.time b t)
+  pub origin-later : (x : Bool) (b s t : ℕ) → s ≤ t → MatchBool x (q.time ≤ s) (IsInTime nw q.from_stop q.time b s) → MatchBool x (q.time ≤ t) (IsInTime nw q.from_stop q.time b t)
   origin-later true b s t le h = omega arith
   origin-later false b s t le h = let by = h.2 in (h.0, h.1, omega arith)
 

@@ -13,7 +13,10 @@ use Rattle.conn_scan.specs.declared.known.Known.{Known}
 abbrev pub cleared : Known → Known
 cleared k =
     record {
-      openings = record { times = replicate (length k.openings.times) None; rides = k.openings.rides };
+      openings = record {
+        times = replicate (length k.openings.times) None;
+        rides = k.openings.rides;
+      };
       held = replicate (length k.held) None;
       aboard = replicate (length k.aboard) None;
       best = None;

@@ -64,7 +64,8 @@ stayed b d k = record k { aboard = set k.aboard d.next (Some b) }
 -- once they rode on to the next arrival
 abbrev pub rode : ChangeTables → Query → ℕ → Leaving → Known → Known
 rode t q b d k =
-    if is_first_arrival (length t.stops) d k then arrived t q d (ride_by b d) (stayed b d k) else stayed b d k
+    if is_first_arrival (length t.stops) d k then arrived t q d (ride_by b d) (stayed b d k)
+    else stayed b d k
 
 -- once a departure is scanned
 abbrev pub departed : ChangeTables → Query → Leaving → Known → Known

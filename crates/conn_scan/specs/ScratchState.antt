@@ -70,8 +70,8 @@ early_from best b (t ∷ ts) = early_stop best b t ++ early_from best (suc b) ts
 abbrev pub early_stops : Option ℕ → List (Option ℕ) → List Reach
 early_stops best held = early_from best 0 held
 
--- what a scratch shows after an answer shows that it is right: the rides, and the times by stop that
--- are before its arrival, make a good certificate, in which nothing is before the query's time
+-- what a scratch shows after an answer shows that it is right: the rides, and the times by stop
+-- that are before its arrival, make a good certificate, in which nothing is before the query's time
 pub record IsSettled (nw : Network) (st : State) (q : Query) (found : Found) (s : ScratchState)
     : Type 0 where
   pub certificate : IsGoodCertificate nw st q (record {

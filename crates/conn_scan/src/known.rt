@@ -78,7 +78,7 @@ pub fn is_at_once(asked: &Asked) -> bool
 
 /// Whether a stop is of the station of the destination.
 #[inline]
-pub(crate) fn ends_there(changes: &Changes, asked: &Asked, stop: StopNo) -> bool
+pub fn ends_there(changes: &Changes, asked: &Asked, stop: StopNo) -> bool
     requires { HasStations changes.now asked.now }
     ensures { result ≡ ends_there changes.now asked.now.query stop }
 {
@@ -87,7 +87,7 @@ pub(crate) fn ends_there(changes: &Changes, asked: &Asked, stop: StopNo) -> bool
 
 /// Whether the best arrival is not after this time.
 #[inline(always)]
-pub(crate) fn is_there_by(best: &Option<Ending>, time: Time) -> bool
+pub fn is_there_by(best: &Option<Ending>, time: Time) -> bool
     ensures { result ≡ is_there_by best.now time }
 {
     match best {
@@ -98,7 +98,7 @@ pub(crate) fn is_there_by(best: &Option<Ending>, time: Time) -> bool
 
 /// Whether a time is before the best arrival.
 #[inline]
-pub(crate) fn is_before(time: Time, best: &Option<Ending>) -> bool
+pub fn is_before(time: Time, best: &Option<Ending>) -> bool
     ensures { result ≡ is_before time best.now }
 {
     match best {
@@ -118,7 +118,7 @@ pub fn clear(known: &mut Known)
 }
 
 /// Notes that passengers of the query can board at its time at each stop of the origin's station.
-fn open_origin(changes: &Changes, asked: &Asked, openings: &mut Openings)
+pub fn open_origin(changes: &Changes, asked: &Asked, openings: &mut Openings)
     requires stations { HasStations changes.now asked.now }
     requires times { length changes.now.stops ≤ length openings.old.times }
     requires rides { length changes.now.stops ≤ length openings.old.rides }

@@ -1,16 +1,16 @@
 //! The earliest arrival, by a scan of the departures in the order of their times.
 #![tactic(auto)]
 
-mod aboard;
+pub mod aboard;
 pub mod arrivals;
 pub mod earliest_arrival;
-mod known;
+pub mod known;
 pub mod laws;
-mod openings;
+pub mod openings;
 mod scan;
-mod stop_rides;
-mod stop_times;
-mod trace;
+pub mod stop_rides;
+pub mod stop_times;
+pub mod trace;
 
 pub use arrivals::has_arrivals;
 pub use earliest_arrival::{Found, Scratch, earliest};

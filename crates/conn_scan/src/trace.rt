@@ -40,7 +40,7 @@ fn next_label(trains: &Trains, d: &Departure) -> Label
 }
 
 /// The ride along a stretch of a train.
-fn ride_along(trains: &Trains, order: &DepartureOrder, stretch: &Stretch) -> PlanRide
+pub fn ride_along(trains: &Trains, order: &DepartureOrder, stretch: &Stretch) -> PlanRide
     requires { IsReadable trains.now order.now stretch.now }
     ensures { result ≡ ride_along trains.now order.now stretch.now }
 {
@@ -59,7 +59,7 @@ fn ride_along(trains: &Trains, order: &DepartureOrder, stretch: &Stretch) -> Pla
 }
 
 /// The ride behind which a passenger boards this one. None if he comes straight from the origin.
-fn ride_before(
+pub fn ride_before(
     trains: &Trains,
     order: &DepartureOrder,
     openings: &Openings,

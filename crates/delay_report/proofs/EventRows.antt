@@ -33,7 +33,9 @@ rows-append names times us vs =
     ∙ flat_map-append (λ v. row (fields names times v)) (live_events us) (live_events vs)
 
 -- with the rows of some events, fewer are to come
-pub rows-pass : (names : Names) (times : Key → ℕ) (start was now : List ℕ) (these left whole all : List Event) → now ≡ was ++ rows_of_events names times these → these ++ left ≡ whole → was ++ rows_of_events names times whole ≡ start ++ rows_of_events names times all → now ++ rows_of_events names times left ≡ start ++ rows_of_events names times all
+pub rows-pass : (names : Names) (times : Key → ℕ) (start was now : List ℕ) (these left whole all : List Event)
+    → now ≡ was ++ rows_of_events names times these → these ++ left ≡ whole → was ++ rows_of_events names times whole ≡ start ++ rows_of_events names times all
+    → now ++ rows_of_events names times left ≡ start ++ rows_of_events names times all
 rows-pass names times start was now these left whole all e is so_far =
     let rows = rows_of_events names times in
     ap (λ (xs : List ℕ). xs ++ rows left) e
@@ -43,7 +45,8 @@ rows-pass names times start was now these left whole all e is so_far =
     ∙ so_far
 
 -- where no event is left, all rows are written
-pub rows-end : (names : Names) (times : Key → ℕ) (start was : List ℕ) (left all : List Event) → left ≡ [] → was ++ rows_of_events names times left ≡ start ++ rows_of_events names times all → was ≡ start ++ rows_of_events names times all
+pub rows-end : (names : Names) (times : Key → ℕ) (start was : List ℕ) (left all : List Event)
+    → left ≡ [] → was ++ rows_of_events names times left ≡ start ++ rows_of_events names times all → was ≡ start ++ rows_of_events names times all
 unfolding rows_of_events
 rows-end names times start was left all none so_far =
     sym (append-nil was) ∙ ap (λ (es : List Event). was ++ rows_of_events names times es) (sym none) ∙ so_far
@@ -66,7 +69,8 @@ find-none p [] h = refl
 find-none p (x ∷ xs) h =
     cond-false (p x) (Some x) (find p xs) (All-head (λ x. p x ≡ false) x xs h) ∙ find-none p xs (All-tail (λ x. p x ≡ false) x xs h)
 
-found-step : (p : Bool) (e v : Event) (rest found : Option Event) → cond p (Some e) rest ≡ Some v → (p ≡ true → found ≡ None) → (p ≡ false → rest ≡ Some v → found ≡ cond v.live (Some v) None) → cond (p && e.live) (Some e) found ≡ cond v.live (Some v) None
+found-step : (p : Bool) (e v : Event) (rest found : Option Event) → cond p (Some e) rest ≡ Some v → (p ≡ true → found ≡ None)
+    → (p ≡ false → rest ≡ Some v → found ≡ cond v.live (Some v) None) → cond (p && e.live) (Some e) found ≡ cond v.live (Some v) None
 found-step true e v rest found h none some =
     let same : e ≡ v = cc in
     ap (λ (o : Option Event). cond e.live (Some e) o) (none refl) ∙ ap (λ (w : Event). cond w.live (Some w) None) same
@@ -84,7 +88,9 @@ live-found n (e ∷ es) v apart h =
     (λ is. find-none (λ v. is_event n v && v.live) es (All-weaker (AreApart e) (λ w. (is_event n w && w.live) ≡ false) (λ w other. no-other n e w is other) es (AllPairs-after AreApart [] e es apart)))
     (λ _ later. live-found n es v (AllPairs-tail AreApart e es apart) later)
 
-live-at : (st : State) (n : Node) (v : Event) (o : Option Train) → All HasOwnLabels st.trains → slice_get st.trains n.train ≡ o → find (is_event n) (option_map_or (events_of n.train) o []) ≡ Some v → find (λ v. is_event n v && v.live) (option_map_or (events_of n.train) o []) ≡ cond v.live (Some v) None
+live-at : (st : State) (n : Node) (v : Event) (o : Option Train)
+    → All HasOwnLabels st.trains → slice_get st.trains n.train ≡ o → find (is_event n) (option_map_or (events_of n.train) o []) ≡ Some v
+    → find (λ v. is_event n v && v.live) (option_map_or (events_of n.train) o []) ≡ cond v.live (Some v) None
 live-at st n v None trains e h = absurd (cc)
 live-at st n v (Some t) trains e h =
     live-found n (events_of n.train t) v (events_at-apart n.train t.route t.calls (own-labels st.trains n.train t trains e)) h
@@ -102,7 +108,8 @@ untimed f v true e h = absurd (cc)
 untimed f v false e h = e
 
 -- an event that has a time is live, and that is its time
-pub time-live : (nw : Network) (st : State) (n : Node) (v : Event) (time : ℕ) → All HasOwnLabels st.trains → event_named st n ≡ Some v → live_time nw st n ≡ Some time → (v.live ≡ true) × (event_time nw st v.key ≡ time)
+pub time-live : (nw : Network) (st : State) (n : Node) (v : Event) (time : ℕ)
+    → All HasOwnLabels st.trains → event_named st n ≡ Some v → live_time nw st n ≡ Some time → (v.live ≡ true) × (event_time nw st v.key ≡ time)
 time-live nw st n v time trains h t =
     let f : Event → ℕ = λ v. event_time nw st v.key in
     timed f v time v.live refl (sym (ap (option_map f) (live-named st n v trains h)) ∙ t)

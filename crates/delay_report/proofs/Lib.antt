@@ -1,5 +1,6 @@
 mod CheckTexts
 mod EventRows
+mod PlanTexts
 mod ReplyTexts
 mod RowTexts
 mod Texts

@@ -29,7 +29,9 @@ end-joined : (a p b q c r e f : List ℕ) → (a ++ (p ++ (b ++ (q ++ (c ++ (r +
 end-joined a p b q c r e f = simp append_assoc
 
 -- the text of the reply to an accepted message
-pub accepted-line : (line count changed : ℕ) → (((codes "{\"accepted\":" ++ decimal count) ++ (codes ",\"changed\":" ++ decimal changed)) ++ (codes ",\"line\":" ++ decimal line)) ++ codes "}\n" ≡ line_of (accepted_object line count changed)
+pub accepted-line : (line count changed : ℕ)
+    → (((codes "{\"accepted\":" ++ decimal count) ++ (codes ",\"changed\":" ++ decimal changed)) ++ (codes ",\"line\":" ++ decimal line))
+    ++ codes "}\n" ≡ line_of (accepted_object line count changed)
 unfolding serde_json_on_literals
 accepted-line line count changed =
     pieces-joined (codes "{\"accepted\":") (decimal count) (codes ",\"changed\":") (decimal changed) (codes ",\"line\":") (decimal line) (codes "}\n")

@@ -14,7 +14,8 @@ pub none-yet : (start : List ℕ) (count : ℕ) → count ≡ 0 → IsWithin sta
 none-yet start count e = record { count = e; bytes = sym (append-nil start) }
 
 -- one field more
-pub one-more : (start : List ℕ) (fs : List (List ℕ)) (f : List ℕ) (count count' : ℕ) (bytes bytes' : List ℕ) → IsWithin start fs count bytes → count' ≡ count + 1 → bytes' ≡ bytes ++ (next_sep default_writer count ++ field_text default_writer f) → IsWithin start (fs ++ f ∷ []) count' bytes'
+pub one-more : (start : List ℕ) (fs : List (List ℕ)) (f : List ℕ) (count count' : ℕ) (bytes bytes' : List ℕ) → IsWithin start fs count bytes
+    → count' ≡ count + 1 → bytes' ≡ bytes ++ (next_sep default_writer count ++ field_text default_writer f) → IsWithin start (fs ++ f ∷ []) count' bytes'
 one-more start fs f count count' bytes bytes' h more e =
     record {
       count = omega (arith, h.count, more, length-append fs (f ∷ []));
@@ -27,7 +28,8 @@ one-more start fs f count count' bytes bytes' h more e =
     }
 
 -- a row of two fields at least is ended
-pub row-ended : (start : List ℕ) (f g : List ℕ) (fs : List (List ℕ)) (count : ℕ) (bytes bytes' : List ℕ) → IsWithin start (f ∷ g ∷ fs) count bytes → bytes' ≡ bytes ++ end_text default_writer.terminator → bytes' ≡ start ++ row (f ∷ g ∷ fs)
+pub row-ended : (start : List ℕ) (f g : List ℕ) (fs : List (List ℕ)) (count : ℕ) (bytes bytes' : List ℕ)
+    → IsWithin start (f ∷ g ∷ fs) count bytes → bytes' ≡ bytes ++ end_text default_writer.terminator → bytes' ≡ start ++ row (f ∷ g ∷ fs)
 unfolding is_blank
 row-ended start f g fs count bytes bytes' h e =
     e

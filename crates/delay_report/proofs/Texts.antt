@@ -26,7 +26,8 @@ pub date-ascii : (date : ℕ) → IsAscii (date_text date)
 unfolding date_text
 date-ascii date =
     IsAscii-append (two_digits (date / 1000000)) (two_digits (date / 10000) ++ (two_digits (date / 100) ++ two_digits date)) (two-ascii (date / 1000000))
-    (IsAscii-append (two_digits (date / 10000)) (two_digits (date / 100) ++ two_digits date) (two-ascii (date / 10000)) (IsAscii-append (two_digits (date / 100)) (two_digits date) (two-ascii (date / 100)) (two-ascii date)))
+    (IsAscii-append (two_digits (date / 10000)) (two_digits (date / 100) ++ two_digits date)
+    (two-ascii (date / 10000)) (IsAscii-append (two_digits (date / 100)) (two_digits date) (two-ascii (date / 100)) (two-ascii date)))
 
 -- a result that is an error only where a fact does not hold
 pub ok-where : {A E : Type 0} (P : A → Type 0) (U : Type 0) (Q : E → Type 0) (r : Result A E) → U → MatchResult r P (λ e. (¬ U) × Q e) → IsOk r

@@ -5,9 +5,11 @@ mod checks;
 mod clocks;
 mod journeys;
 mod objects;
+mod plans;
 mod replies;
 mod table;
 
 pub use checks::{checked_text, claim_text};
+pub use plans::plans_text;
 pub use replies::{Reply, object_text, reply_text};
 pub use table::{times_header, times_rows};

@@ -168,8 +168,8 @@ fn load_tables(
 
 /// What the feed in a folder makes on so many days from `first` on, a date as the number YYYYMMDD
 /// of a year up to 2100. The base of each day is given, in seconds from that of day 0. There is
-/// room for what the options spare. `Refused` has the first cause to refuse the feed: a fault of its
-/// tables; more than 4,000,000 pairs of a stop or station and a stop with a change from the first
+/// room for what the options spare. `Refused` has the first cause to refuse the feed: a fault of
+/// its tables; more than 4,000,000 pairs of a stop or station and a stop with a change from the first
 /// to the second; more than 200,000 trains; or more than 2,000,000 nodes, two for each call.
 /// `ReadFault` comes only where the feed failed. `OutOfMemory` where there is no memory.
 pub fn load_feed<F: Feed>(

@@ -12,13 +12,16 @@ use Rattle.information_service.proofs.Fronts.{end_was_read, first_lines, first_o
 use Rattle.information_service.proofs.OneMore.{taken-more, within_new}
 
 -- the same answer, by equal lines before it and an equal state
-answer-moved : {C : Type 0} (A : Answering C) {t u : ServiceState} {k l : C} {m n : ℕ} (x : Line) (text : List ℕ) (now : ServiceState) (kept_now : C) → t ≡ u → k ≡ l → m ≡ n → A t k m x text now kept_now → A u l n x text now kept_now
+answer-moved : {C : Type 0} (A : Answering C) {t u : ServiceState} {k l : C} {m n : ℕ} (x : Line) (text : List ℕ) (now : ServiceState) (kept_now : C)
+    → t ≡ u → k ≡ l → m ≡ n → A t k m x text now kept_now → A u l n x text now kept_now
 answer-moved A {u = u} {k = k} {l = l} {m = m} {n = n} x text now kept_now is kept number h =
     subst (λ i. A u l i x text now kept_now) number (subst (λ j. A u j m x text now kept_now) kept (subst (λ s. A s k m x text now kept_now) is h))
 
 -- one more line
-pub answers-more : {C : Type 0} (A : Answering C) (t : ServiceState) (kept : C) (before : ℕ) (lines : List Line) (x : Line) (bytes text : List ℕ) (mid : ServiceState) (kept_mid : C) (now : ServiceState) (kept_now : C)
-    → AreAnsweredBy A t kept before lines bytes mid kept_mid → A mid kept_mid (before + length lines + 1) x text now kept_now → AreAnsweredBy A t kept before (lines ++ x ∷ []) (bytes ++ text) now kept_now
+pub answers-more : {C : Type 0} (A : Answering C) (t : ServiceState)
+    (kept : C) (before : ℕ) (lines : List Line) (x : Line) (bytes text : List ℕ) (mid : ServiceState) (kept_mid : C) (now : ServiceState) (kept_now : C)
+    → AreAnsweredBy A t kept before lines bytes mid kept_mid
+    → A mid kept_mid (before + length lines + 1) x text now kept_now → AreAnsweredBy A t kept before (lines ++ x ∷ []) (bytes ++ text) now kept_now
 answers-more A t kept before [] x bytes text mid kept_mid now kept_now none one =
     (text, [], now, kept_now, answer-moved A x text now kept_now none.1 none.2 (omega arith) one, (refl, refl, refl), ap (λ b. b ++ text) none.0 ∙ sym (append-nil text))
 answers-more A t kept before (y ∷ ys) x bytes text mid kept_mid now kept_now all one = (
@@ -32,7 +35,8 @@ answers-more A t kept before (y ∷ ys) x bytes text mid kept_mid now kept_now a
 )
 
 -- before the first line
-pub nothing-answered : {C : Type 0} (A : Answering C) (t : ServiceState) (kept : C) (budget : ℕ) (r : Reader) (left written : Option (List ℕ)) → r ≡ fresh budget → AreAnswered A t kept t kept r left left written written [] []
+pub nothing-answered : {C : Type 0} (A : Answering C) (t : ServiceState) (kept : C) (budget : ℕ) (r : Reader) (left written : Option (List ℕ))
+    → r ≡ fresh budget → AreAnswered A t kept t kept r left left written written [] []
 nothing-answered A t kept budget r left written new =
     rw new (record {
       taken = record { source = consumes_none left; lines_so_far = begins budget; end = λ is. open_ended false refl is; within = within_new budget };
@@ -41,9 +45,11 @@ nothing-answered A t kept budget r left written new =
       output = Appends-nil written;
     })
 
-module _ {C : Type 0} {A : Answering C} {first now : ServiceState} {kept kept_now : C} {old : Reader} {left left_old written written_old : Option (List ℕ)} {bytes : List ℕ} {lines : List Line} (a : AreAnswered A first kept now kept_now old left left_old written written_old bytes lines) where
+module _ {C : Type 0} {A : Answering C} {first now : ServiceState} {kept kept_now : C} {old : Reader} {left left_old written written_old : Option (List ℕ)}
+    {bytes : List ℕ} {lines : List Line} (a : AreAnswered A first kept now kept_now old left left_old written written_old bytes lines) where
   -- a call that answers no line, and how it leaves the reader
-  pub none-more : {new : Reader} {left_new : Option (List ℕ)} (n m : Next) → n ≡ m → next_lines m ≡ [] → (old.ended ≡ true → left_new ≡ left_old) → GivesNext old new left_old left_new (next_lines n) × LeavesNext n old new
+  pub none-more : {new : Reader} {left_new : Option (List ℕ)} (n m : Next)
+      → n ≡ m → next_lines m ≡ [] → (old.ended ≡ true → left_new ≡ left_old) → GivesNext old new left_old left_new (next_lines n) × LeavesNext n old new
       → (all : List ℕ) × AreAnswered A first kept now kept_now new left left_new written written_old all lines × LeavesNext m old new
   none-more {new} {left_new} n m is none same gives =
       let next = taken-more a.taken same (subst (λ (ls : List Line). GivesNext old new left_old left_new ls) (ap next_lines is ∙ none) gives.0) in (
@@ -53,8 +59,10 @@ module _ {C : Type 0} {A : Answering C} {first now : ServiceState} {kept kept_no
       )
 
   -- a call that answers one line
-  pub line-more : {new : Reader} {left_new written_new : Option (List ℕ)} {next : ServiceState} {kept_next : C} (x : Line) (number : ℕ) → (old.ended ≡ true → left_new ≡ left_old) → GivesNext old new left_old left_new (x ∷ [])
-      → number ≡ length lines + 1 → AppendsAnswer A now kept_now number x next kept_next written_old written_new → (all : List ℕ) × AreAnswered A first kept next kept_next new left left_new written written_new all (lines ++ x ∷ [])
+  pub line-more : {new : Reader} {left_new written_new : Option (List ℕ)} {next : ServiceState} {kept_next : C} (x : Line) (number : ℕ)
+      → (old.ended ≡ true → left_new ≡ left_old) → GivesNext old new left_old left_new (x ∷ [])
+      → number ≡ length lines + 1 → AppendsAnswer A now kept_now number x next kept_next written_old written_new
+      → (all : List ℕ) × AreAnswered A first kept next kept_next new left left_new written written_new all (lines ++ x ∷ [])
   line-more {written_new = written_new} {next = next} {kept_next = kept_next} x number same gives is one =
       let more = taken-more a.taken same gives in (
         more.0,
@@ -109,8 +117,10 @@ module _ {C : Type 0} {A : Answering C} {first now : ServiceState} {kept kept_no
   }
 
   -- a call that answers one line, of whose answer a front is written
-  pub line-begun : {Failed : Type 0} {new : Reader} {left_new written_new : Option (List ℕ)} (x : Line) (number : ℕ) → (old.ended ≡ true → left_new ≡ left_old) → GivesNext old new left_old left_new (x ∷ [])
-      → number ≡ length lines + 1 → AppendsAnswerFront Failed A now kept_now number x written_old written_new → (all : List ℕ) × (ls : List Line) × Begun Failed A first kept new left left_new written written_new all ls
+  pub line-begun : {Failed : Type 0} {new : Reader} {left_new written_new : Option (List ℕ)} (x : Line) (number : ℕ)
+      → (old.ended ≡ true → left_new ≡ left_old) → GivesNext old new left_old left_new (x ∷ [])
+      → number ≡ length lines + 1 → AppendsAnswerFront Failed A now kept_now number x written_old written_new
+      → (all : List ℕ) × (ls : List Line) × Begun Failed A first kept new left left_new written written_new all ls
   line-begun x number same gives is front =
       let more = taken-more a.taken same gives in
       (more.0, lines ++ x ∷ [], record { taken = more.1; output = front-more x number is front })
@@ -118,13 +128,16 @@ module _ {C : Type 0} {A : Answering C} {first now : ServiceState} {kept kept_no
 -- ---- with what stands before the first line, and behind the last
 
 -- at the end of the input all of it is a whole output of the bytes that were taken
-pub whole-of-taken : {C : Type 0} (o : LineOutput C) {first now : ServiceState} {kept kept_now : C} {r : Reader} {left left_now written written_now : Option (List ℕ)} {bytes : List ℕ} {lines : List Line} → IsDone r
-    → (a : AreAnswered o.answers first kept now kept_now r left left_now written written_now bytes lines) → IsWhole o first kept (lines_of true bytes) (o.begins first kept ++ (a.shown ++ o.ends now kept_now))
+pub whole-of-taken : {C : Type 0} (o : LineOutput C) {first now : ServiceState}
+    {kept kept_now : C} {r : Reader} {left left_now written written_now : Option (List ℕ)} {bytes : List ℕ} {lines : List Line} → IsDone r
+    → (a : AreAnswered o.answers first kept now kept_now r left left_now written written_now bytes lines)
+    → IsWhole o first kept (lines_of true bytes) (o.begins first kept ++ (a.shown ++ o.ends now kept_now))
 whole-of-taken o {now = now} {kept_now = kept_now} {r = r} {bytes = bytes} {lines = lines} done a =
     rw (ends bytes lines r a.taken.lines_so_far done) (record { shown = a.shown; answers = record { now = now; kept_now = kept_now; answers = a.answers }; all = refl })
 
 -- where it stops before, it is a beginning of one
-pub beginning-of : {C : Type 0} (o : LineOutput C) {first now : ServiceState} {kept kept_now : C} {r : Reader} {left left_now before written written_now : Option (List ℕ)} {bytes : List ℕ} {lines : List Line} → Appends before written (o.begins first kept)
+pub beginning-of : {C : Type 0} (o : LineOutput C) {first now : ServiceState} {kept kept_now : C} {r : Reader}
+    {left left_now before written written_now : Option (List ℕ)} {bytes : List ℕ} {lines : List Line} → Appends before written (o.begins first kept)
     → AreAnswered o.answers first kept now kept_now r left left_now written written_now bytes lines → AppendsAll (IsBeginning o first kept lines) before written_now
 beginning-of o {first} {now} {kept} {kept_now} {before = before} {written = written} {written_now = written_now} head a = record {
   shown = o.begins first kept ++ a.shown;
@@ -146,8 +159,11 @@ front-of-head o t kept left old new budget f = record {
 }
 
 -- and so is a front of the answers behind it
-pub front-behind : {C : Type 0} {Failed : Type 0} {o : LineOutput C} {first : ServiceState} {kept : C} {r : Reader} {left left_now before written written_now : Option (List ℕ)} {taken : List ℕ} {lines : List Line} (budget : ℕ) → r.budget ≡ budget → Appends before written (o.begins first kept)
-    → Begun Failed o.answers first kept r left left_now written written_now taken lines → AppendsTakenFront Failed (IsWhole o first kept) (IsBeginning o first kept) budget left left_now before written_now
+pub front-behind : {C : Type 0} {Failed : Type 0} {o : LineOutput C} {first : ServiceState}
+    {kept : C} {r : Reader} {left left_now before written written_now : Option (List ℕ)} {taken : List ℕ} {lines : List Line} (budget : ℕ)
+    → r.budget ≡ budget → Appends before written (o.begins first kept)
+    → Begun Failed o.answers first kept r left left_now written written_now taken lines
+    → AppendsTakenFront Failed (IsWhole o first kept) (IsBeginning o first kept) budget left left_now before written_now
 front-behind {C} {Failed} {o} {first} {kept} {r} {left} {left_now} {before} {written} {written_now} {taken} {lines} budget is head b =
     let f = b.output in
     let all : AppendsFirst Failed (IsBeginning o first kept) lines before written_now = record {

@@ -17,10 +17,12 @@ all_taken (Some xs) (Some ys) bytes all source end is =
     sym (append-nil all) ∙ ap (λ (r : List ℕ). all ++ r) (sym end) ∙ sym source ∙ same_Some xs bytes is
 
 -- no more bytes were taken than may be, and fewer where the end was read
-pub at_most_taken : {r : Reader} {left left_now : Option (List ℕ)} {bytes : List ℕ} {lines : List Line} (budget : ℕ) → r.budget ≡ budget → IsTaken r left left_now bytes lines → TookAtMost budget left left_now
+pub at_most_taken : {r : Reader} {left left_now : Option (List ℕ)} {bytes : List ℕ} {lines : List Line} (budget : ℕ)
+    → r.budget ≡ budget → IsTaken r left left_now bytes lines → TookAtMost budget left left_now
 at_most_taken {bytes = bytes} budget is t = (bytes, t.source, omega (arith, is, t.within.taken, t.lines_so_far.taken))
 
-pub fewer_taken : {r : Reader} {left left_now : Option (List ℕ)} {bytes : List ℕ} {lines : List Line} (budget : ℕ) → r.budget ≡ budget → IsTaken r left left_now bytes lines → r.ended ≡ true → TookFewer budget left left_now
+pub fewer_taken : {r : Reader} {left left_now : Option (List ℕ)} {bytes : List ℕ} {lines : List Line} (budget : ℕ)
+    → r.budget ≡ budget → IsTaken r left left_now bytes lines → r.ended ≡ true → TookFewer budget left left_now
 fewer_taken {bytes = bytes} budget is t ended = (bytes, t.source, omega (arith, is, t.within.ended ended, t.lines_so_far.taken))
 
 pub none_taken : (budget : ℕ) (left : Option (List ℕ)) → TookAtMost budget left left
@@ -74,8 +76,11 @@ where_also T U OutOfMemory h t = tt
 where_also T U TooLong h t = h t
 
 -- what a run counts that hands a fault on, by what the step counts in which that came. No write had failed before it
-pub counts_of : {budget : ℕ} {left left_now : Option (List ℕ)} {reads reads_now first writes writes_now : Faults} {Full : Type 0} (run : Result (Unit {0}) LinesFault) (f : LinesFault) → IsErrAnd run (λ e. e ≡ f) → writes ≡ first → Some reads_now ≡ reads_failed {T = Unit {0}} (Err f) reads
-    → Some writes_now ≡ writes_failed {T = Unit {0}} (Err f) writes → (f ≡ WriteFault → Full) → TookAtMost budget left left_now → (f ≡ ReadFault → TookFewer budget left left_now) → (f ≡ TooLong → TookAll budget left left_now)
+pub counts_of : {budget : ℕ} {left left_now : Option (List ℕ)}
+    {reads reads_now first writes writes_now : Faults} {Full : Type 0} (run : Result (Unit {0}) LinesFault) (f : LinesFault)
+    → IsErrAnd run (λ e. e ≡ f) → writes ≡ first → Some reads_now ≡ reads_failed {T = Unit {0}} (Err f) reads
+    → Some writes_now ≡ writes_failed {T = Unit {0}} (Err f) writes → (f ≡ WriteFault → Full)
+    → TookAtMost budget left left_now → (f ≡ ReadFault → TookFewer budget left left_now) → (f ≡ TooLong → TookAll budget left left_now)
     → HasCounts budget run left left_now reads reads_now first writes_now Full
 counts_of (Ok u) f is same read write full at_most early long = absurd is
 counts_of {budget} {left} {left_now} {reads} {reads_now} {first} {writes} {writes_now} {Full} (Err e) f is same read write full at_most early long =

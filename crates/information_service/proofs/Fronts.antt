@@ -54,12 +54,14 @@ pub front_if : {Failed Known : Type 0} (known : Known → Failed) (a b : Option 
 front_if known a b bytes f = record { front = f.front; rest = f.rest; written = f.written; all = f.all; not_all = λ is. f.not_all (known is) }
 
 -- what was written, whether all went well or not, is a front
-pub front_of_result : (run : Result (Unit {0}) LinesFault) (a b : Option (List ℕ)) (bytes : List ℕ) → OnOk run (Appends a b bytes) → IfErr run (λ f. AppendsFront (f ≡ WriteFault) a b bytes) → AppendsFront (IsErrOf run WriteFault) a b bytes
+pub front_of_result : (run : Result (Unit {0}) LinesFault) (a b : Option (List ℕ)) (bytes : List ℕ)
+    → OnOk run (Appends a b bytes) → IfErr run (λ f. AppendsFront (f ≡ WriteFault) a b bytes) → AppendsFront (IsErrOf run WriteFault) a b bytes
 front_of_result (Ok u) a b bytes all part = front_all (ok_not_err (Ok u) u WriteFault refl) a b bytes all
 front_of_result (Err f) a b bytes all part = front_if (same_err (Err f) f WriteFault refl) a b bytes part
 
 -- the same of the replies to the first lines, and of what was taken
-first_if : {Failed Known : Type 0} {Are : List Line → List ℕ → Type 0} {lines : List Line} {old new : Option (List ℕ)} (known : Known → Failed) → AppendsFirst Failed Are lines old new → AppendsFirst Known Are lines old new
+first_if : {Failed Known : Type 0} {Are : List Line → List ℕ → Type 0} {lines : List Line} {old new : Option (List ℕ)} (known : Known → Failed)
+    → AppendsFirst Failed Are lines old new → AppendsFirst Known Are lines old new
 first_if {old = old} {new = new} known f = record { first = f.first; later = f.later; shown = f.shown; split = f.split; is = f.is; front = front_if known old new f.shown f.front }
 
 pub taken_if : {Failed Known : Type 0} {IsWhole Are : List Line → List ℕ → Type 0} {budget : ℕ} {left left_now written written_now : Option (List ℕ)} (known : Known → Failed)
@@ -93,7 +95,8 @@ rows-more names nw st n =
     ∙ ap (λ (rest : List ℕ). rows_from names nw st 0 n ++ rest) (append-nil (rows_of_train names nw st (0 + n)) ∙ ap (rows_of_train names nw st) (let e : 0 + n ≡ n = omega arith in e))
 
 -- a front of the header and of the rows of the first trains is a front of the table
-pub table_front : {Failed : Type 0} (names : Names) (nw : Network) (st : State) (a b : Option (List ℕ)) (m count : ℕ) → m ≤ count → AppendsFront Failed a b (header ++ rows_from names nw st 0 m) → AppendsFront Failed a b (header ++ rows_from names nw st 0 count)
+pub table_front : {Failed : Type 0} (names : Names) (nw : Network) (st : State) (a b : Option (List ℕ)) (m count : ℕ)
+    → m ≤ count → AppendsFront Failed a b (header ++ rows_from names nw st 0 m) → AppendsFront Failed a b (header ++ rows_from names nw st 0 count)
 table_front {Failed = Failed} names nw st a b m count l f =
     let is : m + (count - m) ≡ count = omega (arith, l) in
     subst (AppendsFront Failed a b)
@@ -102,16 +105,19 @@ table_front {Failed = Failed} names nw st a b m count l f =
     (front_longer a b (header ++ rows_from names nw st 0 m) (rows_from names nw st (0 + m) (count - m)) f)
 
 -- the lines of the bytes that were taken begin with those that were answered
-pub first_lines : (r : Reader) (ended : Bool) (taken : List ℕ) (lines : List Line) → (r.ended ≡ true → ended ≡ true) → HasAnswered taken lines r → (more : List Line) × (lines_of ended taken ≡ lines ++ more)
+pub first_lines : (r : Reader) (ended : Bool) (taken : List ℕ) (lines : List Line)
+    → (r.ended ≡ true → ended ≡ true) → HasAnswered taken lines r → (more : List Line) × (lines_of ended taken ≡ lines ++ more)
 first_lines r ended taken lines can answered =
     (ahead r [] ended, ap (lines_of ended) (sym (append-nil taken)) ∙ answered.lines_ahead [] ended (λ is. (refl, can is)))
 
 -- where the end was read, fewer bytes were taken than may be
-pub end_was_read : {r : Reader} {left left_now : Option (List ℕ)} {bytes : List ℕ} {lines : List Line} (budget : ℕ) → r.budget ≡ budget → IsTaken r left left_now bytes lines → r.ended ≡ true → EndWasRead budget left_now bytes
+pub end_was_read : {r : Reader} {left left_now : Option (List ℕ)} {bytes : List ℕ} {lines : List Line} (budget : ℕ)
+    → r.budget ≡ budget → IsTaken r left left_now bytes lines → r.ended ≡ true → EndWasRead budget left_now bytes
 end_was_read budget is t ended = record { left = t.end ended; fewer = omega (arith, is, t.within.ended ended, t.lines_so_far.taken) }
 
 -- a front of the replies to the first of some lines is one of more lines
-pub first_of : {Failed : Type 0} {Are : List Line → List ℕ → Type 0} {lines : List Line} {old new : Option (List ℕ)} (all more : List Line) → all ≡ lines ++ more → AppendsFirst Failed Are lines old new → AppendsFirst Failed Are all old new
+pub first_of : {Failed : Type 0} {Are : List Line → List ℕ → Type 0} {lines : List Line} {old new : Option (List ℕ)} (all more : List Line)
+    → all ≡ lines ++ more → AppendsFirst Failed Are lines old new → AppendsFirst Failed Are all old new
 first_of all more is f = record {
   first = f.first;
   later = f.later ++ more;
@@ -125,11 +131,14 @@ first_of all more is f = record {
 pub all_as : {P Q : List ℕ → Type 0} {old new : Option (List ℕ)} → ((bytes : List ℕ) → P bytes → Q bytes) → AppendsAll P old new → AppendsAll Q old new
 all_as also a = record { shown = a.shown; is = also a.shown a.is; written = a.written }
 
-first_as : {Failed : Type 0} {Are Bre : List Line → List ℕ → Type 0} {lines : List Line} {old new : Option (List ℕ)} → ((ls : List Line) (bytes : List ℕ) → Are ls bytes → Bre ls bytes) → AppendsFirst Failed Are lines old new → AppendsFirst Failed Bre lines old new
+first_as : {Failed : Type 0} {Are Bre : List Line → List ℕ → Type 0} {lines : List Line} {old new : Option (List ℕ)}
+    → ((ls : List Line) (bytes : List ℕ) → Are ls bytes → Bre ls bytes) → AppendsFirst Failed Are lines old new → AppendsFirst Failed Bre lines old new
 first_as also f = record { first = f.first; later = f.later; shown = f.shown; split = f.split; is = also f.first f.shown f.is; front = f.front }
 
-pub taken_as : {Failed : Type 0} {IsAll IsOther Are Bre : List Line → List ℕ → Type 0} {budget : ℕ} {left left_now written written_now : Option (List ℕ)} → ((ls : List Line) (bytes : List ℕ) → IsAll ls bytes → IsOther ls bytes)
-    → ((ls : List Line) (bytes : List ℕ) → Are ls bytes → Bre ls bytes) → AppendsTakenFront Failed IsAll Are budget left left_now written written_now → AppendsTakenFront Failed IsOther Bre budget left left_now written written_now
+pub taken_as : {Failed : Type 0} {IsAll IsOther Are Bre : List Line → List ℕ → Type 0} {budget : ℕ} {left left_now written written_now : Option (List ℕ)}
+    → ((ls : List Line) (bytes : List ℕ) → IsAll ls bytes → IsOther ls bytes)
+    → ((ls : List Line) (bytes : List ℕ) → Are ls bytes → Bre ls bytes) → AppendsTakenFront Failed IsAll Are budget left left_now written written_now
+    → AppendsTakenFront Failed IsOther Bre budget left left_now written written_now
 taken_as whole also t = record {
   bytes = t.bytes;
   took = t.took;

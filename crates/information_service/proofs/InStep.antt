@@ -105,7 +105,8 @@ stays-in_step names st (Reroute trip date from to via) m h is =
     rw reroute (message-in_step names st [] (messages.Reroute a.value.train from to b.value) h tt)
 stays-in_step names st (Extra trip date route calls) m h is =
     let x = of-extra names trip date route calls m is in
-    let kept : AreInStep (names_with names (Extra trip date route calls)) (effect st (messages.Extra (length names.trains) x.day x.route x.calls)) = rw x.day_is (message-in_step names st trip (messages.Extra (length names.trains) x.day x.route x.calls) h x.new) in
+    let kept : AreInStep (names_with names (Extra trip date route calls)) (effect st (messages.Extra (length names.trains) x.day x.route x.calls)) =
+    rw x.day_is (message-in_step names st trip (messages.Extra (length names.trains) x.day x.route x.calls) h x.new) in
     subst (λ (n : Message). AreInStep (names_with names (Extra trip date route calls)) (effect st n)) (sym x.message) kept
 stays-in_step names st (Connect kind feeder train) m h is =
     let a = ends-well (node_named names false feeder) _ m is in
@@ -113,7 +114,8 @@ stays-in_step names st (Connect kind feeder train) m h is =
     of-connect names st kind a.value b.value m h (value-is _ m b.rest_is)
 
 -- the name of a train that an accepted message adds can be added
-pub can-be-added : (nw : Network) (names : Names) (st : State) (w : Wire) (m : Message) → AreInStep names st → resolved names w ≡ Ok m → refusal nw st m ≡ None → IfSome (added_name names w) (CanBeAdded names)
+pub can-be-added : (nw : Network) (names : Names) (st : State) (w : Wire) (m : Message)
+    → AreInStep names st → resolved names w ≡ Ok m → refusal nw st m ≡ None → IfSome (added_name names w) (CanBeAdded names)
 unfolding resolved
 can-be-added nw names st (Event kind trip date call dep secs) m h is accepted = tt
 can-be-added nw names st (Correct trip date call dep secs) m h is accepted = tt
@@ -136,6 +138,7 @@ by-answer nw names st w ws (Ok m) is h rest =
       | inr refused ↦ rw (is, refused) (rest names st h)
     ]
 
-pub messages-in_step : (nw : Network) (names : Names) (st : State) (ws : List Wire) → AreInStep names st → AreInStep (known_after nw by_names st names ws) (after_messages st (accepted nw by_names st names ws))
+pub messages-in_step : (nw : Network) (names : Names) (st : State) (ws : List Wire)
+    → AreInStep names st → AreInStep (known_after nw by_names st names ws) (after_messages st (accepted nw by_names st names ws))
 messages-in_step nw names st [] h = h
 messages-in_step nw names st (w ∷ ws) h = by-answer nw names st w ws (resolved names w) refl h (λ other now k. messages-in_step nw other now ws k)

@@ -57,7 +57,8 @@ known-same a b h reading st names [] = refl
 known-same a b h reading st names (x ∷ xs) =
     grind (arith, answer-same a b h, λ (s : State). known-same a b h reading s (reading.known names x) xs, known-same a b h reading st names xs)
 
-reply-to-message-same : (a b : Network) → IsSame a b → (names : Names) (st : State) (count line : ℕ) (w : Wire) (read : Result Message Refusal) → reply_to_message b names st count line w read ≡ reply_to_message a names st count line w read
+reply-to-message-same : (a b : Network) → IsSame a b → (names : Names) (st : State) (count line : ℕ) (w : Wire) (read : Result Message Refusal)
+    → reply_to_message b names st count line w read ≡ reply_to_message a names st count line w read
 reply-to-message-same a b h names st count line w read = grind (arith, refusal-same a b h, changed-same a b h)
 
 pub ride-same : (a b : Network) → IsSame a b → (st : State) (r : PlanRide) → IsRide b st r → IsRide a st r
@@ -79,11 +80,13 @@ same-back a b h = grind arith
 pub query-same : (a b : Network) → IsSame a b → (st : State) (count line day : ℕ) (q : Query) (reply : Reply) → IsReplyToQuery b st count line day q reply → IsReplyToQuery a st count line day q reply
 query-same a b h st count line day q reply is = grind (arith, journey-same a b h st q, journey-same b a (same-back a b h) st q)
 
-pub resolved-same : (a b : Network) → IsSame a b → (st : State) (count line : ℕ) (asked : Result AskedQuery BadLine) (reply : Reply) → IsReplyToResolved b st count line asked reply → IsReplyToResolved a st count line asked reply
+pub resolved-same : (a b : Network) → IsSame a b → (st : State) (count line : ℕ) (asked : Result AskedQuery BadLine) (reply : Reply)
+    → IsReplyToResolved b st count line asked reply → IsReplyToResolved a st count line asked reply
 resolved-same a b h st count line (Ok q) reply is = query-same a b h st count line q.day q.query reply is
 resolved-same a b h st count line (Err bad) reply is = is
 
-pub reply-same : (a b : Network) → IsSame a b → (names : Names) (st : State) (count line : ℕ) (said : Result Spoken BadLine) (reply : Reply) → IsReply b names st count line said reply → IsReply a names st count line said reply
+pub reply-same : (a b : Network) → IsSame a b → (names : Names) (st : State) (count line : ℕ) (said : Result Spoken BadLine) (reply : Reply)
+    → IsReply b names st count line said reply → IsReply a names st count line said reply
 reply-same a b h names st count line (Ok (Asks q)) reply is = resolved-same a b h st count line (query_resolved names q) reply is
 reply-same a b h names st count line said reply is = grind (arith, reply-to-message-same a b h names st count line)
 
@@ -93,7 +96,8 @@ text-same a b h names st before x bytes t =
     grind (arith, accepted-same a b h by_names st names ws, known-same a b h by_names st names ws, reply-same a b h)
 
 -- the same replies
-pub replies-same : (a b : Network) → IsSame a b → (names : Names) (st : State) (before lines : List Line) (bytes : List ℕ) → AreReplies b names st before lines bytes → AreReplies a names st before lines bytes
+pub replies-same : (a b : Network) → IsSame a b → (names : Names) (st : State) (before lines : List Line) (bytes : List ℕ)
+    → AreReplies b names st before lines bytes → AreReplies a names st before lines bytes
 replies-same a b h names st before [] bytes none = none
 replies-same a b h names st before (x ∷ xs) bytes r = grind (arith, text-same a b h names st before x, replies-same a b h names st (before ++ x ∷ []) xs)
 

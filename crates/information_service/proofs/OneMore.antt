@@ -25,15 +25,18 @@ abbrev option_list : Option Wire → List Wire
 option_list None = []
 option_list (Some w) = w ∷ []
 
-answer-leaves : (nw : Network) (p : Progress Names) (w : Wire) (m : Message) (o : Option Refusal) → after_answer (standing nw p) w m o ≡ standing nw (after_accepted p (names_with p.names w) (cond (is_none o) (Some m) None))
+answer-leaves : (nw : Network) (p : Progress Names) (w : Wire) (m : Message) (o : Option Refusal)
+    → after_answer (standing nw p) w m o ≡ standing nw (after_accepted p (names_with p.names w) (cond (is_none o) (Some m) None))
 answer-leaves nw p w m None = refl
 answer-leaves nw p w m (Some r) = refl
 
-message-leaves : (nw : Network) (p : Progress Names) (w : Wire) (read : Result Message Refusal) → after_message (standing nw p) w read ≡ standing nw (after_accepted p (names_with p.names w) (accepted_message nw p.state read))
+message-leaves : (nw : Network) (p : Progress Names) (w : Wire) (read : Result Message Refusal)
+    → after_message (standing nw p) w read ≡ standing nw (after_accepted p (names_with p.names w) (accepted_message nw p.state read))
 message-leaves nw p w (Ok m) = answer-leaves nw p w m (refusal nw p.state m)
 message-leaves nw p w (Err r) = refl
 
-said-leaves : (nw : Network) (p : Progress Names) (said : Result Spoken BadLine) → after_said (standing nw p) said ≡ standing nw (fold (after_message_line nw by_names) p (option_list (message_in said)))
+said-leaves : (nw : Network) (p : Progress Names) (said : Result Spoken BadLine)
+    → after_said (standing nw p) said ≡ standing nw (fold (after_message_line nw by_names) p (option_list (message_in said)))
 said-leaves nw p (Ok (Says w)) = message-leaves nw p w (resolved p.names w)
 said-leaves nw p (Ok (Asks q)) = refl
 said-leaves nw p (Ok Flush) = refl
@@ -43,7 +46,8 @@ last-message : (o : Option Wire) (x : Line) → message_in (said_by x) ≡ o →
 last-message None x e = rw e refl
 last-message (Some w) x e = rw e refl
 
-lines-leave : (nw : Network) (names : Names) (st : State) (lines : List Line) → service_after nw names st lines ≡ standing nw (fold (after_message_line nw by_names) (beginning st names) (messages_of lines))
+lines-leave : (nw : Network) (names : Names) (st : State) (lines : List Line)
+    → service_after nw names st lines ≡ standing nw (fold (after_message_line nw by_names) (beginning st names) (messages_of lines))
 lines-leave nw names st lines = ap (standing nw) (sym (progress-all nw by_names st names (messages_of lines)))
 
 -- one more line leaves the service as it is after all of them
@@ -59,16 +63,21 @@ line-after nw names st lines x =
     ∙ sym (lines-leave nw names st (lines ++ x ∷ []))
 
 -- the reply to a line that adds a name has no name in it
-answer-text : (t : ServiceState) (line : ℕ) (w : Wire) (m : Message) (o : Option Refusal) → text_of_reply (after_answer t w m o).names (reply_by_refusal t.network t.names t.state t.count line w m o) ≡ text_of_reply t.names (reply_by_refusal t.network t.names t.state t.count line w m o)
+answer-text : (t : ServiceState) (line : ℕ) (w : Wire) (m : Message) (o : Option Refusal)
+    → text_of_reply (after_answer t w m o).names (reply_by_refusal t.network t.names t.state t.count line w m o)
+    ≡ text_of_reply t.names (reply_by_refusal t.network t.names t.state t.count line w m o)
 unfolding text_of_reply
 answer-text t line w m None = refl
 answer-text t line w m (Some r) = refl
 
-message-text : (t : ServiceState) (line : ℕ) (w : Wire) (read : Result Message Refusal) → text_of_reply (after_message t w read).names (reply_to_message t.network t.names t.state t.count line w read) ≡ text_of_reply t.names (reply_to_message t.network t.names t.state t.count line w read)
+message-text : (t : ServiceState) (line : ℕ) (w : Wire) (read : Result Message Refusal)
+    → text_of_reply (after_message t w read).names (reply_to_message t.network t.names t.state t.count line w read)
+    ≡ text_of_reply t.names (reply_to_message t.network t.names t.state t.count line w read)
 message-text t line w (Ok m) = answer-text t line w m (refusal t.network t.state m)
 message-text t line w (Err r) = refl
 
-said-text : (t : ServiceState) (line : ℕ) (said : Result Spoken BadLine) (reply : Reply) → IsReply t.network t.names t.state t.count line said reply → text_of_reply (after_said t said).names reply ≡ text_of_reply t.names reply
+said-text : (t : ServiceState) (line : ℕ) (said : Result Spoken BadLine) (reply : Reply)
+    → IsReply t.network t.names t.state t.count line said reply → text_of_reply (after_said t said).names reply ≡ text_of_reply t.names reply
 said-text t line (Ok (Says w)) reply is =
     ap (text_of_reply (after_message t w (resolved t.names w)).names) is ∙ message-text t line w (resolved t.names w) ∙ ap (text_of_reply t.names) (sym is)
 said-text t line (Ok (Asks q)) reply is = refl

@@ -46,7 +46,8 @@ ready-still t now names known w (Err r) h is same e =
     record { network = rw same refl; numbers = rw same refl; in_step = rw (same, e) h }
 
 -- the same of a call that takes a message by names, or that finds no memory
-pub ready-behind : {E : Type 0} (number : ℕ) (w : Wire) (t now : TimetableState) (names known : Names) (run : Result Reply E) → IfOk run (IsTakenFrom IsTimetable IsStepped number w t now names known) → IfErr run (λ _. now ≡ t) → IfErr run (λ _. known ≡ names)
+pub ready-behind : {E : Type 0} (number : ℕ) (w : Wire) (t now : TimetableState) (names known : Names) (run : Result Reply E)
+    → IfOk run (IsTakenFrom IsTimetable IsStepped number w t now names known) → IfErr run (λ _. now ≡ t) → IfErr run (λ _. known ≡ names)
     → AreInStep names t.state → IsReadyStill t now known
 ready-behind number w t now names known (Ok reply) took same e h =
     let one = took t t.count (refl, refl) in
@@ -54,7 +55,8 @@ ready-behind number w t now names known (Ok reply) took same e h =
 ready-behind number w t now names known (Err fault) took same e h =
     record { network = rw same refl; numbers = rw same refl; in_step = rw (same, e) h }
 
-pub service-behind : {E : Type 0} (number : ℕ) (w : Wire) (t now : TimetableState) (names known : Names) (run : Result Reply E) → t.count + 1 < 2 ^ 64 → IfOk run (IsTakenFrom IsTimetable IsStepped number w t now names known)
+pub service-behind : {E : Type 0} (number : ℕ) (w : Wire) (t now : TimetableState) (names known : Names) (run : Result Reply E)
+    → t.count + 1 < 2 ^ 64 → IfOk run (IsTakenFrom IsTimetable IsStepped number w t now names known)
     → OnOk run (service_with now now.count known ≡ after_message (service_with t t.count names) w (resolved names w))
 service-behind number w t now names known (Ok reply) few took =
     let one = took t t.count (refl, refl) in

@@ -5,7 +5,8 @@ use Rattle.information_service.specs.Answering.{AreAnsweredBy, AreFirstAnswers, 
 use Rattle.information_service.specs.Networks.{IsSame, IsWrittenAlike, over}
 
 module _ {C : Type 0} {o : LineOutput C} (alike : IsWrittenAlike o) (nw : Network) where
-  answers-alike : (lines : List Line) (t : ServiceState) (kept : C) (before : ℕ) (bytes : List ℕ) (now : ServiceState) (kept_now : C) → IsSame nw t.network → AreAnsweredBy o.answers t kept before lines bytes now kept_now
+  answers-alike : (lines : List Line) (t : ServiceState) (kept : C) (before : ℕ) (bytes : List ℕ) (now : ServiceState) (kept_now : C)
+      → IsSame nw t.network → AreAnsweredBy o.answers t kept before lines bytes now kept_now
       → AreAnsweredBy o.answers (over nw t) kept before lines bytes (over nw now) kept_now × (now.network ≡ t.network)
   answers-alike [] t kept before bytes now kept_now same none = ((none.0, ap (over nw) none.1, none.2), ap (λ (s : ServiceState). s.network) none.1)
   answers-alike (x ∷ xs) t kept before bytes now kept_now same (text, rest, next, kept_next, one, more, split) =

@@ -34,7 +34,8 @@ pub trait AnswerLines<C> {
     fn begin(alloc: Global, service: &InformationService, kept: &C) -> Result<Vec<u8>, OutOfMemory>
         ensures { IfOk result (λ text. text.items ≡ output.begins service.now kept.now) };
 
-    /// What it writes to the line of this number, from 1 on. `OutOfMemory` where there is no memory.
+    /// What it writes to the line of this number, from 1 on. `OutOfMemory` where there is no
+    /// memory.
     fn answer(
         alloc: Global,
         service: &mut InformationService,

@@ -1,4 +1,4 @@
-//! Questions to the timetable of a service.
+//! The timetable of a service, and questions to it.
 
 ghost use Rattle.std.specs.Prelude.{◌≡◌, IfOk};
 
@@ -36,6 +36,15 @@ pub trait AskTimetable<Q, R> {
 }
 
 impl InformationService {
+    /// The timetable as it is now.
+    pub fn timetable(&self) -> &Timetable
+        ensures network { result.now.network ≡ self.now.network }
+        ensures state { result.now.state ≡ self.now.state }
+        ensures count { result.now.count ≡ self.now.count }
+    {
+        &self.timetable
+    }
+
     /// The answer to a question. Want of memory is the only error, and nothing changes.
     pub fn ask<A: AskTimetable<Q, R>, Q, R>(
         &mut self,

@@ -80,8 +80,8 @@ fn copy_rides(alloc: Global, rides: &[PlanRide]) -> Result<Rows<PlanRide>, OutOf
     Ok(Rows::build(copy))
 }
 
-/// The reply that shows an answer to a query, and these rides of it. The query stands in the line of
-/// this number, its time lies on this service day, and it is answered after so many accepted
+/// The reply that shows an answer to a query, and these rides of it. The query stands in the line
+/// of this number, its time lies on this service day, and it is answered after so many accepted
 /// messages. `OutOfMemory` where there is no memory.
 pub fn reply_to_found(
     alloc: Global,

@@ -114,8 +114,8 @@ fn are_rides_until<L: Ledger>(t: &Timetable, q: &Query, c: &Cert, steps: &mut St
     }
 }
 
-/// Whether a certificate's journey is one of the query, which arrives when it says; where origin and
-/// destination are of one station, at the query's time.
+/// Whether a certificate's journey is one of the query, which arrives when it says; where origin
+/// and destination are of one station, at the query's time.
 pub(crate) fn has_journey<L: Ledger>(
     t: &Timetable,
     q: &Query,

@@ -1,5 +1,5 @@
-//! Certificates of earliest arrivals. `certify` makes one of what a search found, and `check` says of
-//! any whether it is good, whatever made it, so that its reader need not trust the search. Only
+//! Certificates of earliest arrivals. `certify` makes one of what a search found, and `check` says
+//! of any whether it is good, whatever made it, so that its reader need not trust the search. Only
 //! `certify` takes memory.
 #![tactic(auto)]
 

@@ -13,10 +13,10 @@ use Rattle.message_reader.specs.declared.check_lines.CheckLine.TheVariants as ch
 use Rattle.message_reader.specs.declared.claims.Claim.{Claim}
 use Rattle.message_reader.specs.declared.claims.ClaimRide.{ClaimRide}
 use Rattle.message_reader.specs.CheckLines.{claim_said, check_said}
-use Rattle.message_reader.specs.Claims.{few_digits, long_seconds_of, claim_time, ride_texts, ride_of, reach_texts, reach_of, claim_of}
+use Rattle.message_reader.specs.Claims.{few_digits, long_seconds_of, claim_time, ride_texts, ride_of, reach_texts, reach_stop, reach_of, claim_of}
 use Rattle.message_reader.specs.Items.{items_shape, items_read}
 use Rattle.message_reader.specs.Queries.{wire_time_of, query_of}
-use Rattle.message_reader.specs.ResolvedQueries.{query_resolved}
+use Rattle.message_reader.specs.ResolvedQueries.{query_places, query_resolved}
 use Rattle.message_reader.specs.Spelled.{two_digits, IsVersion}
 use Rattle.message_reader.specs.SpelledClaims.{hours_text, long_time_text, time_on_day, ride_object, ride_objects, reach_object, reach_objects, claim_object}
 use Rattle.message_reader.specs.SpelledClaims.{IsOnDay, CanBeRidden, CanBeReached, CanBeClaimed}
@@ -118,6 +118,11 @@ unfolding items_shape reach_objects reach_texts
 reached-shaped names day [] = refl
 reached-shaped names day (x ∷ xs) = reached-shaped names day xs
 
+stops-shaped : (names : Names) (day : ℕ) (xs : List Reach) → AllByRecursion (CanBeReached names day) xs → items_shape (reach_stop names) (reach_objects names day xs) ≡ Ok tt
+unfolding items_shape reach_objects reach_stop reach_texts
+stops-shaped names day [] can = refl
+stops-shaped names day (x ∷ xs) can = rw can.0.0 (stops-shaped names day xs can.1)
+
 reach-back : (names : Names) (day : ℕ) (x : Reach) → CanBeReached names day x → reach_of names day (reach_object names day x) ≡ Ok x
 unfolding reach_of reach_texts
 reach-back names day x can = rw (can.0, claim_times_back names day x.time can.1) refl
@@ -135,7 +140,7 @@ claim_with day q arrives rides reached = record { day = day; query = q; arrives 
 claim-back : (names : Names) (v : ℕ) (client : List ℕ) (day : ℕ) (q : Query) (arrives : Option ℕ) (rides : List ClaimRide) (reached : List Reach) → IsVersion v
     → CanBeClaimed names (claim_with day q arrives rides reached)
     → check_said names (claim_object names v client (claim_with day q arrives rides reached)) ≡ Ok (checks.Claim (claim_with day q arrives rides reached))
-unfolding check_said claim_said claim_of query_of wire_time_of query_resolved
+unfolding check_said claim_said claim_of query_of wire_time_of query_places query_resolved
 claim-back names v client day q None rides reached is can =
     let begins = can.begins in
     let sum : base_of names day + (q.time - base_of names day) ≡ q.time = omega arith in
@@ -145,6 +150,7 @@ claim-back names v client day q None rides reached is can =
       reached-shaped names day reached,
       can.from,
       can.to,
+      stops-shaped names day reached (recursion_from_All (CanBeReached names day) reached can.reached),
       dates_back (date_of_day names day) can.civil,
       times_back (q.time - base_of names day) can.soon,
       can.day,
@@ -161,6 +167,7 @@ claim-back names v client day q (Some time) rides reached is can =
       reached-shaped names day reached,
       can.from,
       can.to,
+      stops-shaped names day reached (recursion_from_All (CanBeReached names day) reached can.reached),
       dates_back (date_of_day names day) can.civil,
       times_back (q.time - base_of names day) can.soon,
       can.day,

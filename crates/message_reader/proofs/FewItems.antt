@@ -55,7 +55,8 @@ then_items more None n fits shorter = tt
 then_items more (Some q) n fits shorter = with_item q.0 (more q.1) (length q.1) n (fits q.1) (shorter q.1 refl)
 
 module _ (p : Parse json.Json) (takes : Takes p) where
-  item_turn : (more : Parse json.Items) (ts : List Token) (o : Option (List Token)) → ((s : List Token) → ItemsFit (length s) (more s)) → after_end_array ts ≡ o → ItemsFit (length ts) (items_step p more ts o)
+  item_turn : (more : Parse json.Items) (ts : List Token) (o : Option (List Token))
+      → ((s : List Token) → ItemsFit (length s) (more s)) → after_end_array ts ≡ o → ItemsFit (length ts) (items_step p more ts o)
   unfolding count_read
   item_turn more ts (Some r) fits e = omega (arith, after_end_array-shorter ts r e)
   item_turn more ts None fits e = then_items more (p ts) (length ts) fits (takes ts)
@@ -104,7 +105,8 @@ then_members : (n m : ℕ) (k : List ℕ) (more : Parse json.Members) (o : Optio
 then_members n m k more o one rest shorter le = grind (arith, with_member n k, rest, shorter)
 
 module _ (n d : ℕ) where
-  member_turn : (more : Parse json.Members) (ts : List Token) (o : Option (Option (List ℕ) × List Token)) → ((s : List Token) → length s ≤ n → Each (AreFew n) (more s)) → length ts ≤ n → read_key ts ≡ o
+  member_turn : (more : Parse json.Members) (ts : List Token) (o : Option (Option (List ℕ) × List Token))
+      → ((s : List Token) → length s ≤ n → Each (AreFew n) (more s)) → length ts ≤ n → read_key ts ≡ o
       → Each (AreFew n) (option_and_then (λ q. members_step (value d) more q.0 q.1) o)
   member_turn more ts None again le e = tt
   member_turn more ts (Some (None, s)) again le e = tt
@@ -132,7 +134,8 @@ array_has n o = grind arith
 object_has : (n : ℕ) (o : Option (json.Members × List Token)) → Each (AreFew n) o → Each (HasFew n) (parse_map json.object o)
 object_has n o h = grind arith
 
-top_level : (n : ℕ) (a : Parse json.Items) (o : Parse json.Members) → ((ts : List Token) → length ts ≤ n → Each (AreFew n) (o ts)) → (ts : List Token) → length ts ≤ n → Each (HasFew n) (value_with a o ts)
+top_level : (n : ℕ) (a : Parse json.Items) (o : Parse json.Members)
+    → ((ts : List Token) → length ts ≤ n → Each (AreFew n) (o ts)) → (ts : List Token) → length ts ≤ n → Each (HasFew n) (value_with a o ts)
 top_level n a o few ts le = grind (arith, object_has n, array_has n, few)
 
 value-has : (d n : ℕ) (ts : List Token) → length ts ≤ n → Each (HasFew n) (value d ts)

@@ -74,7 +74,8 @@ items_are_done {X = X} read front vs i total le so_far =
 abbrev pub found_before : List CertRide → Option (List CertRide) → Option (List CertRide)
 found_before front found = option_and_then (λ rides. Some (front ++ rides)) found
 
-found_regroup : (front : List CertRide) (ride : CertRide) (found : Option (List CertRide)) → found_before front (option_and_then (λ rides. Some (ride ∷ rides)) found) ≡ found_before (front ++ ride ∷ []) found
+found_regroup : (front : List CertRide) (ride : CertRide) (found : Option (List CertRide))
+    → found_before front (option_and_then (λ rides. Some (ride ∷ rides)) found) ≡ found_before (front ++ ride ∷ []) found
 found_regroup front ride (Some rides) = ap (λ (all : List CertRide). Some all) (simp append_assoc)
 found_regroup front ride None = refl
 

@@ -58,7 +58,8 @@ pub regroup : {X E : Type 0} (front : List X) (call : X) (read : Result (List X)
 regroup {X = X} front call (Ok calls) = ap (λ (all : List X). Ok all) (simp append_assoc)
 regroup front call (Err e) = refl
 
-pub calls_go_on : (front : List WireCall) (vs : List Value) (i : ℕ) (v : Value) (call : WireCall) (total : Result (List WireCall) BadLine) → i < length vs → v ≡ get_or vs i v → call_of (view v) ≡ Ok call
+pub calls_go_on : (front : List WireCall) (vs : List Value) (i : ℕ) (v : Value) (call : WireCall) (total : Result (List WireCall) BadLine)
+    → i < length vs → v ≡ get_or vs i v → call_of (view v) ≡ Ok call
     → with_front front (calls_of (items_view (drop i vs))) ≡ total → with_front (front ++ call ∷ []) (calls_of (items_view (drop (i + 1) vs))) ≡ total
 unfolding calls_of
 calls_go_on front vs i v call total lt is good so_far =
@@ -76,7 +77,8 @@ calls_end cause front vs i v total lt is fails so_far =
     let first : IsCauseOf cause (call_of (view v) >>= f) = cause_of_step cause (call_of (view v)) f (call_of (view v) >>= f) fails refl in
     cause_of_step cause (call_of (view v) >>= f) (λ calls. Ok (front ++ calls)) total first (sym (ap (λ (ds : Items). with_front front (calls_of ds)) (rest_from vs i v lt is)) ∙ so_far)
 
-pub calls_are_done : (front : List WireCall) (vs : List Value) (i : ℕ) (total : Result (List WireCall) BadLine) → length vs ≤ i → with_front front (calls_of (items_view (drop i vs))) ≡ total → total ≡ Ok front
+pub calls_are_done : (front : List WireCall) (vs : List Value) (i : ℕ) (total : Result (List WireCall) BadLine)
+    → length vs ≤ i → with_front front (calls_of (items_view (drop i vs))) ≡ total → total ≡ Ok front
 unfolding calls_of
 calls_are_done front vs i total le so_far =
     sym so_far ∙ ap (λ (ws : List Value). with_front front (calls_of (items_view ws))) (drop_all i vs le) ∙ ap (λ (all : List WireCall). Ok all) (append-nil front)

@@ -42,7 +42,8 @@ pub times_back : (s : ℕ) → s ≤ 359999 → seconds_of (time_text s) ≡ Som
 unfolding seconds_of clock time_text
 times_back s le =
     let sum : 3600 * (s / 3600) + 60 * (s / 60 % 60) + s % 60 ≡ s = omega arith in
-    rw (two_back (s / 3600) (omega arith), two_back (s / 60 % 60) (omega arith), below_back (s / 60 % 60) (omega arith), two_back (s % 60) (omega arith), below_back (s % 60) (omega arith)) (ap (λ (m : ℕ). Some m) sum)
+    rw (two_back (s / 3600) (omega arith), two_back (s / 60 % 60) (omega arith), below_back (s / 60 % 60) (omega arith), two_back (s % 60) (omega arith), below_back (s % 60) (omega arith))
+    (ap (λ (m : ℕ). Some m) sum)
 
 year_below : (date : ℕ) → IsCivil date → date < 100000000
 year_below date civil = omega (arith, ints)

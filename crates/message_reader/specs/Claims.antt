@@ -4,10 +4,9 @@
 --   {"trip":"T2","date":"20260105","board":0,"alight":1}],
 --   "reached":[{"stop":"B1","time":"08:30:00"},{"stop":"C","time":"09:00:00"}]}
 -- The faults, in order: `Shape`, a member of the object, of a ride or of a reached stop is absent
--- or of another kind; the faults of the query, which are `Stop` and `Time`; `Time`, `arrives` is
--- not null and no time of a claim; `Time`, the date of a ride is no civil date, ride by ride; and
--- reached stop by reached stop, `Stop`, it is no id of a stop, and `Time`, its time is none of a
--- claim.
+-- or of another kind; `Stop`, a place of the query is none, or a reached stop is no id of a stop;
+-- and `Time`, the date or the time of the query is none, `arrives` is not null and no time of a
+-- claim, the date of a ride is no civil date, or the time of a reached stop is none of a claim.
 use Rattle.std.specs.Prelude.{ℕ, ◌+◌, ◌-◌, ◌*◌, ◌^◌, List, [], ◌∷◌, take, drop, length, Some, None, option_map, option_and_then, Result, Ok, codes}
 use Rattle.std.specs.declared.option.Option.{Option}
 use Rattle.serde_json.specs.Data.{Data}
@@ -25,7 +24,7 @@ use Rattle.message_reader.specs.Fields.{text_at, text_or_null_at, label_at, item
 use Rattle.message_reader.specs.Items.{items_shape, items_read}
 use Rattle.message_reader.specs.Queries.{query_of}
 use Rattle.message_reader.specs.Resolved.{stop_named}
-use Rattle.message_reader.specs.ResolvedQueries.{query_resolved}
+use Rattle.message_reader.specs.ResolvedQueries.{query_places, query_resolved}
 
 -- ---- times
 
@@ -96,6 +95,12 @@ reach_texts d = do
   time ← need Shape (text_at (codes "time") d)
   Ok (record { stop = stop; time = time })
 
+-- the stop that it names
+unfoldable pub reach_stop : Names → Data → Result ℕ BadLine
+reach_stop names d = do
+  texts ← reach_texts d
+  need Stop (stop_named names texts.stop)
+
 -- the stop and the time that it names, on a service day
 unfoldable pub reach_of : Names → ℕ → Data → Result Reach BadLine
 reach_of names day d = do
@@ -117,6 +122,8 @@ claim_of names d = do
   reach_items ← need Shape (items_at (codes "reached") d)
   _ ← items_shape ride_texts ride_items
   _ ← items_shape reach_texts reach_items
+  _ ← query_places names query
+  _ ← items_shape (reach_stop names) reach_items
   asked ← query_resolved names query
   arrives ← need Time (claim_time_if_any names asked.day arrival)
   rides ← items_read ride_of ride_items

@@ -19,6 +19,13 @@ stop_or_station_named names id =
     (kind_of_place names place) false then Some place else None)
     (place_named names id)
 
+-- the two places of a query are there
+unfoldable pub query_places : Names → WireQuery → Result (Unit {0}) BadLine
+query_places names q = do
+  _ ← need Stop (stop_or_station_named names q.from)
+  _ ← need Stop (stop_or_station_named names q.to)
+  Ok tt
+
 -- the query by number. Its date is that of a loaded service day, and its time lies on that day
 unfoldable pub query_resolved : Names → WireQuery → Result AskedQuery BadLine
 query_resolved names q = do

@@ -18,12 +18,12 @@ pub enum BadLine {
     /// Its value does not have a version, a type of this version, and the members that a line of
     /// this type needs.
     Shape,
-    /// A query or a claim names a place that is no stop, platform or station of the feed, or a claim
-    /// says that a place is reached that is no stop or platform.
+    /// A query or a claim names a place that is no stop, platform or station of the feed, or a
+    /// claim says that a place is reached that is no stop or platform.
     Stop,
     /// A date is not eight digits that name a civil date, a time of day is not H:MM:SS or HH:MM:SS,
-    /// the date of a query or a claim is not loaded, or a time that a claim gives has more than four
-    /// digits of hours or is 2^25 or more.
+    /// the date of a query or a claim is not loaded, or a time that a claim gives has more than
+    /// four digits of hours or is 2^25 or more.
     Time,
 }
 

@@ -3,7 +3,7 @@
 ghost use Rattle.std.specs.Prelude.{◌≡◌};
 ghost use Rattle.std.specs.Result.{result_map_both};
 ghost use Rattle.serde_json.specs.View.{view, items_view};
-ghost use Rattle.message_reader.specs.Claims.{reach_texts, reach_of};
+ghost use Rattle.message_reader.specs.Claims.{reach_texts, reach_stop, reach_of};
 ghost use Rattle.message_reader.specs.Errors.{Gives, bad_in};
 ghost use Rattle.message_reader.specs.Items.{items_shape, items_read};
 
@@ -12,7 +12,7 @@ use crate::claim_times::claim_time;
 use crate::fields::text_at;
 use crate::numbers::stop;
 use mt_base::certificates::Reach;
-use mt_base::numbers::Day;
+use mt_base::numbers::{Day, StopNo};
 use mt_base::rows::Rows;
 use schedule_build::Directory;
 use serde_json::Value;
@@ -36,6 +36,15 @@ fn texts_at<'v>(value: &'v Value) -> Result<ReachTexts<'v>, BadLine>
     Ok(ReachTexts { stop, time })
 }
 
+/// The stop of a reached stop: `Stop` where its text is no id of a stop.
+#[tactic(auto, unfolding(crate::specs::Claims::reach_stop))]
+fn stop_at(dir: &Directory, value: &Value) -> Result<StopNo, BadLine>
+    ensures { result ≡ reach_stop dir.now (view value.now) }
+{
+    let texts = texts_at(value)?;
+    stop(dir, texts.stop).ok_or(BadLine::Stop)
+}
+
 #[tactic(auto, unfolding(crate::specs::Claims::reach_of))]
 fn reach_at(dir: &Directory, day: Day, value: &Value) -> Result<Reach, BadLine>
     ensures { result ≡ reach_of dir.now day (view value.now) }
@@ -52,6 +61,16 @@ pub(crate) fn check_reached(values: &[Value]) -> Result<(), BadLine>
 {
     for value in values {
         let _texts = texts_at(value)?;
+    }
+    Ok(())
+}
+
+/// Whether each value names a reached stop that is there: `Stop` where one does not.
+pub(crate) fn check_stops(dir: &Directory, values: &[Value]) -> Result<(), BadLine>
+    ensures { result ≡ items_shape (reach_stop dir.now) (items_view values.now) }
+{
+    for value in values {
+        let _stop = stop_at(dir, value)?;
     }
     Ok(())
 }

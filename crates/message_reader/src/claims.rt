@@ -6,12 +6,12 @@ ghost use Rattle.message_reader.specs.Errors.{Gives, bad_in};
 ghost use Rattle.message_reader.specs.Messages.{HasFewItems};
 
 use crate::bad_line::{BadLine, LineError};
-use crate::claim_reached::{check_reached, read_reached};
+use crate::claim_reached::{check_reached, check_stops, read_reached};
 use crate::claim_rides::{check_rides, read_rides};
 use crate::claim_times::claim_time_if_any;
 use crate::fields::{items_at, text_or_null_at};
 use crate::queries::query;
-use crate::resolve_queries::resolve_query;
+use crate::resolve_queries::{check_places, resolve_query};
 use mt_base::certificates::Reach;
 use mt_base::journeys::Query;
 use mt_base::names::Name;
@@ -58,8 +58,8 @@ pub struct Claim {
     pub reached: Rows<Reach>,
 }
 
-/// A claim. `Bad` has the first fault: `Shape`, and otherwise `Stop` or `Time`. `OutOfMemory` where
-/// there is no memory.
+/// A claim. `Bad` has the first fault: `Shape`, otherwise `Stop`, and otherwise `Time`.
+/// `OutOfMemory` where there is no memory.
 #[tactic(auto, unfolding(crate::specs::Claims::claim_of))]
 pub(crate) fn read_claim(alloc: Global, value: &Value, dir: &Directory) -> Result<Claim, LineError>
     requires few { HasFewItems (view value.now) }
@@ -71,6 +71,8 @@ pub(crate) fn read_claim(alloc: Global, value: &Value, dir: &Directory) -> Resul
     let reach_items = items_at(value, "reached").ok_or(BadLine::Shape)?;
     check_rides(ride_items)?;
     check_reached(reach_items)?;
+    check_places(&query, dir)?;
+    check_stops(dir, reach_items)?;
     let asked = resolve_query(&query, dir)?;
     let arrives = claim_time_if_any(dir, asked.day, arrival).ok_or(BadLine::Time)?;
     let rides = read_rides(alloc, ride_items)?;

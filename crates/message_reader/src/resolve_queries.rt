@@ -1,7 +1,7 @@
 //! Queries by name as queries by number.
 
 ghost use Rattle.std.specs.Prelude.{◌≡◌};
-ghost use Rattle.message_reader.specs.ResolvedQueries.{stop_or_station_named, query_resolved};
+ghost use Rattle.message_reader.specs.ResolvedQueries.{stop_or_station_named, query_places, query_resolved};
 ghost use Rattle.message_reader.specs.Wires.{IsWireQuery};
 
 use crate::bad_line::BadLine;
@@ -32,6 +32,17 @@ fn stop_or_station(dir: &Directory, id: &str) -> Option<StopNo>
     } else {
         None
     }
+}
+
+/// Whether the two places of a query are there: `Stop` where `from` or `to` is no id of a stop or
+/// station.
+#[tactic(auto, unfolding(crate::specs::ResolvedQueries::query_places))]
+pub(crate) fn check_places(query: &WireQuery, dir: &Directory) -> Result<(), BadLine>
+    ensures { result ≡ query_places dir.now query.now }
+{
+    stop_or_station(dir, query.from.text()).ok_or(BadLine::Stop)?;
+    stop_or_station(dir, query.to.text()).ok_or(BadLine::Stop)?;
+    Ok(())
 }
 
 /// The query with the numbers for which its names stand. The line that asks it is bad: `Stop` where

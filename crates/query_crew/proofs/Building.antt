@@ -19,6 +19,7 @@ pub opened-board : (o : Option TimetableState) (t : TimetableState) (posted : Li
 opened-board o t posted names opened none in_step =
     rw (opened, none) (service_with t 0 names, record { timetable = t; after = refl; is = refl; in_step = in_step })
 
-pub opened-room : {V : Type 0} (o : Option TimetableState) (t : TimetableState) (ws : List (Worker V)) (room : ScratchRoom) → o ≡ Some t → IsRoomFor t room → All (λ w. w.scratch.room ≡ room) ws → All (λ w. HasSearchRoom o w.scratch.room) ws
+pub opened-room : {V : Type 0} (o : Option TimetableState) (t : TimetableState) (ws : List (Worker V)) (room : ScratchRoom)
+    → o ≡ Some t → IsRoomFor t room → All (λ w. w.scratch.room ≡ room) ws → All (λ w. HasSearchRoom o w.scratch.room) ws
 opened-room o t ws room opened fits all = λ k d l u is.
     subst (IsRoomFor u) (sym (all k d l)) (subst (λ v. IsRoomFor v room) (same_Some t u (sym opened ∙ is)) fits)

@@ -10,7 +10,8 @@ pub replies-length : (s : ServiceState) (first : ℕ) (lines : List WindowLine) 
 replies-length s first [] = refl
 replies-length s first (x ∷ xs) = omega (arith, replies-length (after_shown s x) (first + 1) xs)
 
-own-left : (own : List (Option Reply)) (place : ℕ) (rr r : Reply) (answer : Option Reply) → slice_get own place ≡ Some (Some rr) → Some r ≡ chosen (get_or own place None) answer → slice_get own place ≡ Some (Some r)
+own-left : (own : List (Option Reply)) (place : ℕ) (rr r : Reply) (answer : Option Reply)
+    → slice_get own place ≡ Some (Some rr) → Some r ≡ chosen (get_or own place None) answer → slice_get own place ≡ Some (Some r)
 own-left own place rr r answer at j =
     let e = get_or_from_slice_get own place (Some rr) None at in
     at ∙ ap (λ (z : Option Reply). Some z) (sym (rw e at j))
@@ -40,7 +41,8 @@ module _ {o : Option TimetableState} {list : List Message} {least first workers 
 
   -- ---- each line has a reply
 
-  covers-query : (t : ServiceState) (number place : ℕ) (q : ClientQuery) (asked : Result AskedQuery BadLine) (entry : Option Reply) → q.asked ≡ asked → slice_get lines place ≡ Some (shown.Query q) → entry ≡ publisher_reply t number (shown.Query q)
+  covers-query : (t : ServiceState) (number place : ℕ) (q : ClientQuery) (asked : Result AskedQuery BadLine) (entry : Option Reply)
+      → q.asked ≡ asked → slice_get lines place ≡ Some (shown.Query q) → entry ≡ publisher_reply t number (shown.Query q)
       → IsSome (chosen entry (answer_for answers workers (shown.Query q) place))
   covers-query t number place q (Err b) entry is at e = rw (e, is) refl
   covers-query t number place q (Ok asked) entry is at e =
@@ -48,13 +50,15 @@ module _ {o : Option TimetableState} {list : List Message} {least first workers 
       let got = get_or_from_slice_get (answers (sum q.client % workers)) place (Some a.0) None a.1 in
       rw (e, is, got) refl
 
-  covers : (t : ServiceState) (number place : ℕ) (x : WindowLine) (entry : Option Reply) → slice_get lines place ≡ Some x → entry ≡ publisher_reply t number x → IsSome (chosen entry (answer_for answers workers x place))
+  covers : (t : ServiceState) (number place : ℕ) (x : WindowLine) (entry : Option Reply)
+      → slice_get lines place ≡ Some x → entry ≡ publisher_reply t number x → IsSome (chosen entry (answer_for answers workers x place))
   covers t number place (shown.Message w) entry at e = rw e refl
   covers t number place (shown.Query q) entry at e = covers-query t number place q q.asked entry refl at e
   covers t number place shown.Flush entry at e = rw e refl
   covers t number place (shown.Bad b) entry at e = rw e refl
 
-  pub all-covered : (s : ServiceState) (own : List (Option Reply)) (place : ℕ) (x : WindowLine) → own ≡ publisher_replies s first lines → slice_get lines place ≡ Some x → IsSome (reply_for own answers workers x place)
+  pub all-covered : (s : ServiceState) (own : List (Option Reply)) (place : ℕ) (x : WindowLine)
+      → own ≡ publisher_replies s first lines → slice_get lines place ≡ Some x → IsSome (reply_for own answers workers x place)
   all-covered s own place x is at =
       let t = after_lines s (take place lines) in
       let there = ap (λ (rs : List (Option Reply)). slice_get rs place) is ∙ reply-at s first place lines x at in
@@ -62,8 +66,10 @@ module _ {o : Option TimetableState} {list : List Message} {least first workers 
 
   -- ---- the replies are those of the crew
 
-  query-reply : (t : ServiceState) (number place : ℕ) (q : ClientQuery) (asked : Result AskedQuery BadLine) (own : List (Option Reply)) (r : Reply) → q.asked ≡ asked → slice_get lines place ≡ Some (shown.Query q)
-      → slice_get own place ≡ Some (publisher_reply t number (shown.Query q)) → Some r ≡ reply_for own answers workers (shown.Query q) place → IsCrewReply o list least (first + (place + 1)) own place (shown.Query q) r
+  query-reply : (t : ServiceState) (number place : ℕ) (q : ClientQuery) (asked : Result AskedQuery BadLine) (own : List (Option Reply)) (r : Reply)
+      → q.asked ≡ asked → slice_get lines place ≡ Some (shown.Query q)
+      → slice_get own place ≡ Some (publisher_reply t number (shown.Query q))
+      → Some r ≡ reply_for own answers workers (shown.Query q) place → IsCrewReply o list least (first + (place + 1)) own place (shown.Query q) r
   query-reply t number place q (Err b) own r is at there j = inl (own-left own place _ r _ (rw is at there) j)
   query-reply t number place q (Ok asked) own r is at there j =
       let a = answer-there place q asked at is in
@@ -79,8 +85,10 @@ module _ {o : Option TimetableState} {list : List Message} {least first workers 
   line-reply t number place (shown.Bad b) own r at there j = inl (own-left own place _ r _ there j)
 
   -- a reply that shows a count is the answer of the worker
-  shows-entry : (t : ServiceState) (number place m : ℕ) (q : ClientQuery) (asked : Result AskedQuery BadLine) (own : List (Option Reply)) (r : Reply) → q.asked ≡ asked → slice_get lines place ≡ Some (shown.Query q)
-      → slice_get own place ≡ Some (publisher_reply t number (shown.Query q)) → Some r ≡ reply_for own answers workers (shown.Query q) place → shown_count r ≡ Some m → slice_get (answers (sum q.client % workers)) place ≡ Some (Some r)
+  shows-entry : (t : ServiceState) (number place m : ℕ) (q : ClientQuery) (asked : Result AskedQuery BadLine) (own : List (Option Reply)) (r : Reply)
+      → q.asked ≡ asked → slice_get lines place ≡ Some (shown.Query q)
+      → slice_get own place ≡ Some (publisher_reply t number (shown.Query q)) → Some r ≡ reply_for own answers workers (shown.Query q) place
+      → shown_count r ≡ Some m → slice_get (answers (sum q.client % workers)) place ≡ Some (Some r)
   shows-entry t number place m q (Err b) own r is at there j shows =
       let bad = same_Some _ _ (sym (rw is at there) ∙ own-left own place _ r _ (rw is at there) j) in
       let none = same_Some _ r bad in
@@ -90,7 +98,8 @@ module _ {o : Option TimetableState} {list : List Message} {least first workers 
       let got = get_or_from_slice_get (answers (sum q.client % workers)) place (Some a.0) None a.1 in
       a.1 ∙ ap (λ (z : Option Reply). Some z) (sym (own-right own place r _ (rw is at there) j ∙ got))
 
-  pub joined-crew : (s : ServiceState) (own : List (Option Reply)) (old : List Message) (replies : List Reply) → least ≡ length old → own ≡ publisher_replies s first lines → length replies ≡ length lines → AreJoined lines own answers workers replies
+  pub joined-crew : (s : ServiceState) (own : List (Option Reply)) (old : List Message) (replies : List Reply)
+      → least ≡ length old → own ≡ publisher_replies s first lines → length replies ≡ length lines → AreJoined lines own answers workers replies
       → AreCrewReplies o old list first lines own replies
   joined-crew s own old replies same is count joined =
       let there : (place : ℕ) (x : WindowLine) → slice_get lines place ≡ Some x → slice_get own place ≡ Some (publisher_reply (after_lines s (take place lines)) (first + (place + 1)) x) =
@@ -115,23 +124,32 @@ both (Ok x) p q h = h x p q
 both (Err e) p q h = tt
 
 -- the publisher's replies are all that was put behind none
-pub own-replies : {o : Option TimetableState} {s : ServiceState} {first : ℕ} {lines : List WindowLine} {old new : List Message} {names : Names} {before own : List (Option Reply)} → before ≡ [] → ArePosted o s first lines old new names before own → own ≡ publisher_replies s first lines
+pub own-replies : {o : Option TimetableState} {s : ServiceState} {first : ℕ} {lines : List WindowLine} {old new : List Message} {names : Names}
+    {before own : List (Option Reply)} → before ≡ [] → ArePosted o s first lines old new names before own → own ≡ publisher_replies s first lines
 own-replies {s = s} {first = first} {lines = lines} none p = p.replied ∙ ap (λ xs. xs ++ publisher_replies s first lines) none
 
-pub window-answered : {o : Option TimetableState} {old new : List Message} {first workers : ℕ} {lines : List WindowLine} {answers : ℕ → List (Option Reply)} {names_new : Names} {none own : List (Option Reply)} {replies : List Reply} (nw : Network) (names : Names) (st : State) (ns : Names) (before window : List Line)
-    → 1 ≤ workers → ((k : ℕ) → k < workers → HasAnsweredAll o new (length old) first k workers lines (answers k)) → StandsAt o old ns (service_after nw names st before) → first ≡ length before → lines ≡ window_lines ns window → none ≡ []
-    → ArePosted o (service_after nw names st before) first lines old new names_new none own → length replies ≡ length lines → AreJoined lines own answers workers replies → AreWindowReplies nw names st before window replies
-window-answered {o = o} {old = old} {new = new} {first = first} {lines = lines} {names_new = names_new} {none = none} {own = own} {replies = replies} nw names st ns before window some all h first_is lines_are none_is p count joined =
+pub window-answered : {o : Option TimetableState}
+    {old new : List Message} {first workers : ℕ} {lines : List WindowLine} {answers : ℕ → List (Option Reply)} {names_new : Names}
+    {none own : List (Option Reply)} {replies : List Reply} (nw : Network) (names : Names) (st : State) (ns : Names) (before window : List Line)
+    → 1 ≤ workers → ((k : ℕ) → k < workers → HasAnsweredAll o new (length old) first k workers lines (answers k))
+    → StandsAt o old ns (service_after nw names st before) → first ≡ length before → lines ≡ window_lines ns window → none ≡ []
+    → ArePosted o (service_after nw names st before) first lines old new names_new none own
+    → length replies ≡ length lines → AreJoined lines own answers workers replies → AreWindowReplies nw names st before window replies
+window-answered {o = o} {old = old} {new = new} {first = first} {lines = lines}
+    {names_new = names_new} {none = none} {own = own} {replies = replies} nw names st ns before window some all h first_is lines_are none_is p count joined =
     let s = service_after nw names st before in
     let crew = joined-crew some all s own old replies refl (own-replies none_is p) count joined in
-    let crew_there = subst (λ (ls : List WindowLine). AreCrewReplies o old new (length before) ls own replies) lines_are (subst (λ (n : ℕ). AreCrewReplies o old new n lines own replies) first_is crew) in
+    let crew_there = subst (λ (ls : List WindowLine). AreCrewReplies o old new (length before) ls own replies) lines_are
+    (subst (λ (n : ℕ). AreCrewReplies o old new n lines own replies) first_is crew) in
     let posted_first = subst (λ (n : ℕ). ArePosted o s n lines old new names_new none own) first_is p in
     let posted_lines = subst (λ (ls : List WindowLine). ArePosted o s (length before) ls old new names_new none own) lines_are posted_first in
     let posted = subst (λ (xs : List (Option Reply)). ArePosted o s (length before) (window_lines ns window) old new names_new xs own) none_is posted_lines in
     joined-replies o nw names st ns before window old new names_new own replies h posted crew_there
 
-pub stands-answered : {o : Option TimetableState} {old new : List Message} {first : ℕ} {lines : List WindowLine} {names_new : Names} {none own : List (Option Reply)} (nw : Network) (names : Names) (st : State) (ns : Names) (before window : List Line)
-    → first ≡ length before → lines ≡ window_lines ns window → ArePosted o (service_after nw names st before) first lines old new names_new none own → StandsAt o new names_new (service_after nw names st (before ++ window))
+pub stands-answered : {o : Option TimetableState} {old new : List Message} {first : ℕ} {lines : List WindowLine}
+    {names_new : Names} {none own : List (Option Reply)} (nw : Network) (names : Names) (st : State) (ns : Names) (before window : List Line)
+    → first ≡ length before → lines ≡ window_lines ns window → ArePosted o (service_after nw names st before) first lines old new names_new none own
+    → StandsAt o new names_new (service_after nw names st (before ++ window))
 stands-answered {o = o} {old = old} {new = new} {first = first} {lines = lines} {names_new = names_new} {none = none} {own = own} nw names st ns before window first_is lines_are p =
     let s = service_after nw names st before in
     let posted_first = subst (λ (n : ℕ). ArePosted o s n lines old new names_new none own) first_is p in

@@ -51,7 +51,8 @@ module _ {names : Names} {first mid now : Reader} {left left_mid left_now : Opti
   flush-is : (w : WindowLine) (one : IsOneLine names w more mid now) (b : Bool) → is_flush_line w ≡ b → is_flush one.line ≡ b
   flush-is w one b is = sym (shown-flush names (said_by one.line)) ∙ ap is_flush_line (sym one.said) ∙ is
 
-  pub begun-more : (w : WindowLine) (one : IsOneLine names w more mid now) → length lines < 256 → is_flush_line w ≡ false → IsBegun names first now left left_now (lines ++ one.line ∷ []) (window ++ w ∷ [])
+  pub begun-more : (w : WindowLine) (one : IsOneLine names w more mid now)
+      → length lines < 256 → is_flush_line w ≡ false → IsBegun names first now left left_now (lines ++ one.line ∷ []) (window ++ w ∷ [])
   begun-more w one few other =
       record {
         taken = taken-line w one;
@@ -96,12 +97,14 @@ handed-on (Ok x) f P is p = tt
 handed-on (Err e) f P is p = subst P (sym is) p
 
 -- and how many reads failed then
-pub same-reads : {A : Type 0} (B : Type 0) (run : Result A LinesFault) (f : LinesFault) (first mid now : Faults) → IsErrAnd run (λ e. e ≡ f) → mid ≡ first → Some now ≡ reads_failed {T = B} (Err f) mid → Some now ≡ reads_failed run first
+pub same-reads : {A : Type 0} (B : Type 0) (run : Result A LinesFault) (f : LinesFault) (first mid now : Faults)
+    → IsErrAnd run (λ e. e ≡ f) → mid ≡ first → Some now ≡ reads_failed {T = B} (Err f) mid → Some now ≡ reads_failed run first
 same-reads B (Ok x) f first mid now is same failed = absurd is
 same-reads B (Err e) f first mid now is same failed = failed ∙ ap (λ (n : Faults). reads_failed {T = B} (Err f) n) same ∙ sym (ap (λ (x : LinesFault). reads_failed {T = B} (Err x) first) is)
 
 -- the window is full
-pub full : {names : Names} {first now : Reader} {left left_now : Option (List ℕ)} {lines : List Line} {window : List WindowLine} → IsBegun names first now left left_now lines window → nat_eq (length window) 256 ≡ true
+pub full : {names : Names} {first now : Reader} {left left_now : Option (List ℕ)} {lines : List Line} {window : List WindowLine}
+    → IsBegun names first now left left_now lines window → nat_eq (length window) 256 ≡ true
     → (all : List Line) × GivesNext first now left left_now all × IsReadWindow names ends.More all window first now
 full {names = names} {lines = lines} {window = window} b is =
     let same : length window ≡ length lines = ap length b.shown ∙ length-map lines (λ x. window_line names (said_by x)) in

@@ -14,9 +14,11 @@ whole before w place = append_assoc before (take place w) (drop place w) ∙ ap 
 -- no more messages are accepted of the first lines
 up-to : (nw : Network) (names : Names) (st : State) (before w : List Line) (place : ℕ) → length (accepted_of nw names st (before ++ take place w)) ≤ length (accepted_of nw names st (before ++ w))
 up-to nw names st before w place =
-    subst (λ (l : List Line). length (accepted_of nw names st (before ++ take place w)) ≤ length (accepted_of nw names st l)) (whole before w place) (accepted-rise nw names st (before ++ take place w) (drop place w))
+    subst (λ (l : List Line). length (accepted_of nw names st (before ++ take place w)) ≤ length (accepted_of nw names st l))
+    (whole before w place) (accepted-rise nw names st (before ++ take place w) (drop place w))
 
-up-to-later : (nw : Network) (names : Names) (st : State) (before w : List Line) (i j : ℕ) → i ≤ j → length (accepted_of nw names st (before ++ take i w)) ≤ length (accepted_of nw names st (before ++ take j w))
+up-to-later : (nw : Network) (names : Names) (st : State) (before w : List Line) (i j : ℕ)
+    → i ≤ j → length (accepted_of nw names st (before ++ take i w)) ≤ length (accepted_of nw names st (before ++ take j w))
 up-to-later nw names st before w i j le =
     subst (λ (l : List Line). length (accepted_of nw names st (before ++ l)) ≤ length (accepted_of nw names st (before ++ take j w))) (take-take i j w le) (up-to nw names st before (take j w) i)
 
@@ -43,14 +45,16 @@ said-in-order nw names st before w place (Ok Flush) reply is = is
 said-in-order nw names st before w place (Err b) reply is = is
 
 -- the count that is shown is that of the state in which a query is answered
-count-in-order : (nw : Network) (names : Names) (st : State) (lines : List Line) (number m : ℕ) (x : Line) (reply : Reply) (q : WireQuery) → IsReplyTo (service_after nw names st lines) number x reply → said_by x ≡ Ok (Asks q) → shown_count reply ≡ Some m
+count-in-order : (nw : Network) (names : Names) (st : State) (lines : List Line) (number m : ℕ) (x : Line) (reply : Reply) (q : WireQuery)
+    → IsReplyTo (service_after nw names st lines) number x reply → said_by x ≡ Ok (Asks q) → shown_count reply ≡ Some m
     → length (accepted_of nw names st lines) ≡ m
 count-in-order nw names st lines number m x reply q is asks shows =
     let t = service_after nw names st lines in
     count-of nw t.state t.count number m (query_resolved t.names q) reply (subst (λ (said : Result Spoken BadLine). IsReply nw t.names t.state t.count number said reply) asks is) shows
 
 pub window-in-order : (nw : Network) (names : Names) (st : State) (before w : List Line) (rs : List Reply) → length rs ≡ length w
-    → ((place : ℕ) (x : Line) (reply : Reply) → slice_get w place ≡ Some x → slice_get rs place ≡ Some reply → IsReplyTo (service_after nw names st (before ++ take place w)) (length before + (place + 1)) x reply)
+    → ((place : ℕ) (x : Line) (reply : Reply) → slice_get w place ≡ Some x
+    → slice_get rs place ≡ Some reply → IsReplyTo (service_after nw names st (before ++ take place w)) (length before + (place + 1)) x reply)
     → AreWindowReplies nw names st before w rs
 window-in-order nw names st before w rs same h =
     record {

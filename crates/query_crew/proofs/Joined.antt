@@ -29,7 +29,8 @@ pub record AreCrewReplies (o : Option TimetableState) (old new : List Message) (
 
 -- ---- replies of the publisher
 
-bad-reply : (number : ℕ) (asked : Result AskedQuery BadLine) (reply : Reply) (nw : Network) (st : State) (count : ℕ) → reply_to_bad number asked ≡ Some reply → IsReplyToResolved nw st count number asked reply
+bad-reply : (number : ℕ) (asked : Result AskedQuery BadLine) (reply : Reply) (nw : Network) (st : State) (count : ℕ)
+    → reply_to_bad number asked ≡ Some reply → IsReplyToResolved nw st count number asked reply
 bad-reply number (Ok asked) reply nw st count is = absurd (cc)
 bad-reply number (Err b) reply nw st count is = sym (same_Some (Bad number b) reply is)
 
@@ -53,13 +54,16 @@ publisher-is nw names st ns before window place (Ok (Asks q)) reply known is =
 -- ---- answers over the posted messages
 
 -- the message list behind the old one is that of the window
-posted-later : (o : Option TimetableState) (nw : Network) (names : Names) (st : State) (ns : Names) (before window : List Line) (old new : List Message) (names_new : Names) (replies_old own : List (Option Reply))
+posted-later : (o : Option TimetableState) (nw : Network)
+    (names : Names) (st : State) (ns : Names) (before window : List Line) (old new : List Message) (names_new : Names) (replies_old own : List (Option Reply))
     → ArePosted o (service_after nw names st before) (length before) (window_lines ns window) old new names_new replies_old own → new ≡ old ++ Later nw names st before window
 posted-later o nw names st ns before window old new names_new replies_old own p =
     p.posted ∙ ap (λ ws. old ++ accepted nw by_names (after_messages st (accepted_of nw names st before)) (names_after nw names st before) ws) (messages-same ns window)
 
-answered-is : (o : Option TimetableState) (nw : Network) (names : Names) (st : State) (ns : Names) (before window : List Line) (old : List Message) (place : ℕ) (q : WireQuery) (asked : AskedQuery) (reply : Reply)
-    → StandsAt o old ns (service_after nw names st before) → query_resolved ns q ≡ Ok asked → IsAnswerAt o (old ++ Later nw names st before window) (length old) (length before + (place + 1)) asked reply
+answered-is : (o : Option TimetableState) (nw : Network)
+    (names : Names) (st : State) (ns : Names) (before window : List Line) (old : List Message) (place : ℕ) (q : WireQuery) (asked : AskedQuery) (reply : Reply)
+    → StandsAt o old ns (service_after nw names st before)
+    → query_resolved ns q ≡ Ok asked → IsAnswerAt o (old ++ Later nw names st before window) (length old) (length before + (place + 1)) asked reply
     → IsReplyAt nw names st before window place (Ok (Asks q)) reply
 answered-is o nw names st ns before window old place q asked reply h resolves a =
     let acc = accepted_of nw names st before in
@@ -79,7 +83,8 @@ answered-is o nw names st ns before window old place q asked reply h resolves a 
           (subst (λ (ms : List Message). IsReplyToQuery nw (after_messages st (take a.count ms)) a.count number asked.day asked.query reply) (sym all) answer);
     }
 
-query-shown : (ns : Names) (said : Result Spoken BadLine) (p : ClientQuery) (asked : AskedQuery) → window_line ns said ≡ shown.Query p → p.asked ≡ Ok asked → (q : WireQuery) × (said ≡ Ok (Asks q)) × (query_resolved ns q ≡ Ok asked)
+query-shown : (ns : Names) (said : Result Spoken BadLine) (p : ClientQuery) (asked : AskedQuery)
+    → window_line ns said ≡ shown.Query p → p.asked ≡ Ok asked → (q : WireQuery) × (said ≡ Ok (Asks q)) × (query_resolved ns q ≡ Ok asked)
 query-shown ns (Ok (Says w)) p asked is ok = absurd (cc)
 query-shown ns (Ok (Asks q)) p asked is ok = (q, refl, grind arith)
 query-shown ns (Ok Flush) p asked is ok = absurd (cc)
@@ -91,7 +96,8 @@ line-at : (ns : Names) (window : List Line) (place : ℕ) (x : Line) → slice_g
 line-at ns window place x at =
     slice_get-map (λ (y : Line). window_line ns (said_by y)) window place ∙ ap (option_map (λ (y : Line). window_line ns (said_by y))) at
 
-pub joined-replies : (o : Option TimetableState) (nw : Network) (names : Names) (st : State) (ns : Names) (before window : List Line) (old new : List Message) (names_new : Names) (own : List (Option Reply)) (replies : List Reply)
+pub joined-replies : (o : Option TimetableState) (nw : Network) (names : Names)
+    (st : State) (ns : Names) (before window : List Line) (old new : List Message) (names_new : Names) (own : List (Option Reply)) (replies : List Reply)
     → StandsAt o old ns (service_after nw names st before) → ArePosted o (service_after nw names st before) (length before) (window_lines ns window) old new names_new [] own
     → AreCrewReplies o old new (length before) (window_lines ns window) own replies → AreWindowReplies nw names st before window replies
 joined-replies o nw names st ns before window old new names_new own replies h p c =
@@ -122,7 +128,9 @@ joined-replies o nw names st ns before window old new names_new own replies h p 
     }
 
 -- the board stands in the state after all lines
-pub stands-after : (o : Option TimetableState) (nw : Network) (names : Names) (st : State) (ns : Names) (before window : List Line) (old new : List Message) (names_new : Names) (replies_old own : List (Option Reply))
-    → ArePosted o (service_after nw names st before) (length before) (window_lines ns window) old new names_new replies_old own → StandsAt o new names_new (service_after nw names st (before ++ window))
+pub stands-after : (o : Option TimetableState) (nw : Network)
+    (names : Names) (st : State) (ns : Names) (before window : List Line) (old new : List Message) (names_new : Names) (replies_old own : List (Option Reply))
+    → ArePosted o (service_after nw names st before) (length before) (window_lines ns window) old new names_new replies_old own
+    → StandsAt o new names_new (service_after nw names st (before ++ window))
 stands-after o nw names st ns before window old new names_new replies_old own p =
     subst (StandsAt o new names_new) (lines-lead nw names st ns before window) p.stands

@@ -27,13 +27,15 @@ emptied-next place xs ys h = record {
 }
 
 -- the answer to a line depends on the entries in its place
-pub answer-same : (f g : ℕ → List (Option Reply)) (workers : ℕ) (line : WindowLine) (place : ℕ) → 1 ≤ workers → ((k : ℕ) → k < workers → get_or (g k) place None ≡ get_or (f k) place None) → answer_for g workers line place ≡ answer_for f workers line place
+pub answer-same : (f g : ℕ → List (Option Reply)) (workers : ℕ) (line : WindowLine) (place : ℕ) → 1 ≤ workers
+    → ((k : ℕ) → k < workers → get_or (g k) place None ≡ get_or (f k) place None) → answer_for g workers line place ≡ answer_for f workers line place
 answer-same f g workers (shown.Query q) place some h = h (sum q.client % workers) (omega arith)
 answer-same f g workers (shown.Message w) place some h = refl
 answer-same f g workers shown.Flush place some h = refl
 answer-same f g workers (shown.Bad b) place some h = refl
 
-pub reply-same : (own now : List (Option Reply)) (f g : ℕ → List (Option Reply)) (workers : ℕ) (line : WindowLine) (place : ℕ) → 1 ≤ workers → IsSameFrom place own now → ((k : ℕ) → k < workers → IsSameFrom place (f k) (g k))
+pub reply-same : (own now : List (Option Reply)) (f g : ℕ → List (Option Reply)) (workers : ℕ) (line : WindowLine) (place : ℕ)
+    → 1 ≤ workers → IsSameFrom place own now → ((k : ℕ) → k < workers → IsSameFrom place (f k) (g k))
     → chosen (get_or now place None) (answer_for g workers line place) ≡ reply_for own f workers line place
 reply-same own now f g workers line place some h each =
     let answer = answer-same f g workers line place some (λ k l. let s = each k l in s.from place (omega arith)) in
@@ -45,8 +47,10 @@ read-any (x ∷ xs) zero d e l = refl
 read-any (x ∷ xs) (suc i) d e l = read-any xs i d e (omega arith)
 
 -- what is taken at this place is the reply to its line
-pub taken-is : (own now : List (Option Reply)) (f g : ℕ → List (Option Reply)) (workers workers_now : ℕ) (line : WindowLine) (place : ℕ) (entry d result : Option Reply) → 1 ≤ workers → place < length now → IsSameFrom place own now
-    → ((k : ℕ) → k < workers → IsSameFrom place (f k) (g k)) → workers_now ≡ workers → entry ≡ get_or now place d → result ≡ chosen entry (answer_for g workers_now line place) → result ≡ reply_for own f workers line place
+pub taken-is : (own now : List (Option Reply)) (f g : ℕ → List (Option Reply))
+    (workers workers_now : ℕ) (line : WindowLine) (place : ℕ) (entry d result : Option Reply) → 1 ≤ workers → place < length now → IsSameFrom place own now
+    → ((k : ℕ) → k < workers → IsSameFrom place (f k) (g k)) → workers_now ≡ workers
+    → entry ≡ get_or now place d → result ≡ chosen entry (answer_for g workers_now line place) → result ≡ reply_for own f workers line place
 taken-is own now f g workers workers_now line place entry d result some l h each same entry_is is =
     is
     ∙ ap (λ e. chosen e (answer_for g workers_now line place)) (entry_is ∙ read-any now place d None l)
@@ -61,7 +65,8 @@ none-is-there (Some r) is e = absurd (cc)
 pub not-missing : (o p : Option Reply) → o ≡ p → IsSome p → o ≡ None → ⊥
 not-missing o p e is none = none-is-there p is (sym e ∙ none)
 
-pub joined-more : (lines : List WindowLine) (own : List (Option Reply)) (answers : ℕ → List (Option Reply)) (workers i : ℕ) (line : WindowLine) (rs : List Reply) (r : Reply) → AreJoined lines own answers workers rs → length rs ≡ i
+pub joined-more : (lines : List WindowLine) (own : List (Option Reply)) (answers : ℕ → List (Option Reply))
+    (workers i : ℕ) (line : WindowLine) (rs : List Reply) (r : Reply) → AreJoined lines own answers workers rs → length rs ≡ i
     → slice_get lines i ≡ Some line → Some r ≡ reply_for own answers workers line i → AreJoined lines own answers workers (rs ++ r ∷ [])
 joined-more lines own answers workers i line rs r h count at is = record {
   each = λ place x s at_line at_reply.

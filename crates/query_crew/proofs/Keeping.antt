@@ -52,7 +52,8 @@ pub viewers-more : {V : Type 0} (count : ℕ) (ws : List (Worker V)) (w : Worker
 viewers-more count ws w h here = each-more (λ k x. IsSome x.viewer ↔ (k < count)) ws w h here
 
 -- of so many viewers no more are given away than there are workers
-pub viewers-given : {V : Type 0} (viewers workers seats left : ℕ) (ws : List (Worker V)) → HaveViewers left ws → length ws ≡ workers → seats ≡ max (min viewers workers) 1 → left + (seats - viewers) ≡ seats → HaveViewers viewers ws
+pub viewers-given : {V : Type 0} (viewers workers seats left : ℕ) (ws : List (Worker V))
+    → HaveViewers left ws → length ws ≡ workers → seats ≡ max (min viewers workers) 1 → left + (seats - viewers) ≡ seats → HaveViewers viewers ws
 viewers-given viewers workers seats left ws h count seated given k d l =
     let is = h k d l in
     (λ s. omega (arith, is.0 s, l, count, seated, given), λ lt. is.1 (omega (arith, lt, l, count, seated, given)))

@@ -55,7 +55,8 @@ left nw names st lines = record {
 }
 
 -- the names after one line more
-names-next : (nw : Network) (names : Names) (st : State) (before : List Line) (x : Line) → names_after nw names st (before ++ x ∷ []) ≡ (fold (after_line nw by_names) (left nw names st before) (messages_of (x ∷ []))).names
+names-next : (nw : Network) (names : Names) (st : State) (before : List Line) (x : Line)
+    → names_after nw names st (before ++ x ∷ []) ≡ (fold (after_line nw by_names) (left nw names st before) (messages_of (x ∷ []))).names
 names-next nw names st before x =
     let next : Progress Names → Wire → Progress Names = after_line nw by_names in
     let ms = messages_of before in
@@ -64,23 +65,29 @@ names-next nw names st before x =
     ∙ ap (λ (p : Progress Names). (fold next p (messages_of (x ∷ []))).names) (progress-all nw by_names st names ms)
 
 -- the reply to a message has the same text by the names after it: one that is accepted shows none
-answer-text : (p : Progress Names) (nw : Network) (w : Wire) (m : Message) (line : ℕ) (o : Option Refusal) → text_of_reply (after_accepted p (names_with p.names w) (cond (is_none o) (Some m) None)).names (reply_by_refusal nw p.names p.state p.count line w m o) ≡ text_of_reply p.names (reply_by_refusal nw p.names p.state p.count line w m o)
+answer-text : (p : Progress Names) (nw : Network) (w : Wire) (m : Message) (line : ℕ) (o : Option Refusal)
+    → text_of_reply (after_accepted p (names_with p.names w) (cond (is_none o) (Some m) None)).names (reply_by_refusal nw p.names p.state p.count line w m o)
+    ≡ text_of_reply p.names (reply_by_refusal nw p.names p.state p.count line w m o)
 unfolding text_of_reply
 answer-text p nw w m line None = refl
 answer-text p nw w m line (Some r) = refl
 
-message-text : (p : Progress Names) (nw : Network) (w : Wire) (line : ℕ) (read : Result Message Refusal) → text_of_reply (after_accepted p (names_with p.names w) (accepted_message nw p.state read)).names (reply_to_message nw p.names p.state p.count line w read) ≡ text_of_reply p.names (reply_to_message nw p.names p.state p.count line w read)
+message-text : (p : Progress Names) (nw : Network) (w : Wire) (line : ℕ) (read : Result Message Refusal)
+    → text_of_reply (after_accepted p (names_with p.names w) (accepted_message nw p.state read)).names (reply_to_message nw p.names p.state p.count line w read)
+    ≡ text_of_reply p.names (reply_to_message nw p.names p.state p.count line w read)
 message-text p nw w line (Ok m) = answer-text p nw w m line (refusal nw p.state m)
 message-text p nw w line (Err r) = refl
 
 -- a line without a message adds no name
-same-text : (nw : Network) (names : Names) (st : State) (before : List Line) (x : Line) (reply : Reply) → messages_of (x ∷ []) ≡ [] → text_of_reply (names_after nw names st (before ++ x ∷ [])) reply ≡ text_of_reply (names_after nw names st before) reply
+same-text : (nw : Network) (names : Names) (st : State) (before : List Line) (x : Line) (reply : Reply)
+    → messages_of (x ∷ []) ≡ [] → text_of_reply (names_after nw names st (before ++ x ∷ [])) reply ≡ text_of_reply (names_after nw names st before) reply
 same-text nw names st before x reply none =
     ap (λ (n : Names). text_of_reply n reply) (names-next nw names st before x ∙ ap (λ (l : List Wire). (fold (after_line nw by_names) (left nw names st before) l).names) none)
 
 -- the reply to any line has the same text by the names after it
 said-text : (nw : Network) (names : Names) (st : State) (before : List Line) (x : Line) (said : Result Spoken BadLine) (line : ℕ) (reply : Reply) → said_by x ≡ said
-    → (let p = left nw names st before in IsReply nw p.names p.state p.count line said reply) → text_of_reply (names_after nw names st (before ++ x ∷ [])) reply ≡ text_of_reply (names_after nw names st before) reply
+    → (let p = left nw names st before in IsReply nw p.names p.state p.count line said reply)
+    → text_of_reply (names_after nw names st (before ++ x ∷ [])) reply ≡ text_of_reply (names_after nw names st before) reply
 said-text nw names st before x (Ok (Says w)) line reply e is =
     let p = left nw names st before in
     let one : messages_of (x ∷ []) ≡ w ∷ [] = rw e refl in

@@ -18,7 +18,8 @@ shown-said s ns (Ok Flush) = refl
 shown-said s ns (Err b) = refl
 
 -- the state after the lines of a window is that after all lines of the input up to them
-pub lines-lead : (nw : Network) (names : Names) (st : State) (ns : Names) (before window : List Line) → after_lines (service_after nw names st before) (window_lines ns window) ≡ service_after nw names st (before ++ window)
+pub lines-lead : (nw : Network) (names : Names) (st : State) (ns : Names) (before window : List Line)
+    → after_lines (service_after nw names st before) (window_lines ns window) ≡ service_after nw names st (before ++ window)
 lines-lead nw names st ns before [] = ap (service_after nw names st) (sym (append-nil before))
 lines-lead nw names st ns before (x ∷ xs) =
     ap (λ (s : ServiceState). after_lines s (window_lines ns xs)) (shown-said (service_after nw names st before) ns (said_by x) ∙ line-after nw names st before x)
@@ -36,7 +37,8 @@ messages-same ns [] = refl
 messages-same ns (x ∷ xs) = rw (message-same ns (said_by x), messages-same ns xs) refl
 
 -- what is replied at once to a line of these
-pub reply-at : (s : ServiceState) (first place : ℕ) (lines : List WindowLine) (x : WindowLine) → slice_get lines place ≡ Some x → slice_get (publisher_replies s first lines) place ≡ Some (publisher_reply (after_lines s (take place lines)) (first + (place + 1)) x)
+pub reply-at : (s : ServiceState) (first place : ℕ) (lines : List WindowLine) (x : WindowLine) → slice_get lines place ≡ Some x
+    → slice_get (publisher_replies s first lines) place ≡ Some (publisher_reply (after_lines s (take place lines)) (first + (place + 1)) x)
 reply-at s first place [] x at = absurd (cc)
 reply-at s first zero (y ∷ ys) x at = ap (λ (z : WindowLine). Some (publisher_reply s (first + 1) z)) (same_Some y x at)
 reply-at s first (suc place) (y ∷ ys) x at =
@@ -68,7 +70,8 @@ timetable-on (Some opening) old ms t h =
 
 -- an answer over the posted messages is one in the state after as many accepted messages: those
 -- before the window, in place of those that were posted before it, and then those of the window
-pub answer-is : (o : Option TimetableState) (old ms acc : List Message) (t : TimetableState) (nw : Network) (st : State) (number : ℕ) (asked : AskedQuery) (r : Reply) → timetable_after o old ≡ Some t → nw ≡ t.network → after_messages st acc ≡ t.state
+pub answer-is : (o : Option TimetableState) (old ms acc : List Message) (t : TimetableState) (nw : Network)
+    (st : State) (number : ℕ) (asked : AskedQuery) (r : Reply) → timetable_after o old ≡ Some t → nw ≡ t.network → after_messages st acc ≡ t.state
     → length acc ≡ length old → AreAccepted nw (after_messages st acc) ms → (a : IsAnswerAt o (old ++ ms) (length old) number asked r)
     → IsReplyToQuery nw (after_messages st (take a.count (acc ++ ms))) a.count number asked.day asked.query r
 answer-is o old ms acc t nw st number asked r before is_nw is_st same accepts a =
@@ -79,7 +82,8 @@ answer-is o old ms acc t nw st number asked r before is_nw is_st same accepts a 
     let all : take a.count (acc ++ ms) ≡ acc ++ take k ms = ap (λ (n : ℕ). take n (acc ++ ms)) there ∙ take-append-add acc ms k in
     let shown : a.shown ≡ fold taken t (take k ms) =
     same-timetable a.shown (fold taken t (take k ms)) (sym a.after ∙ ap (timetable_after o) posted ∙ timetable-on o old (take k ms) t before) in
-    let fits : AreAccepted t.network t.state (take k ms) = subst (λ (n : Network). AreAccepted n t.state (take k ms)) is_nw (subst (λ (s : State). AreAccepted nw s (take k ms)) is_st (accepted-take nw (after_messages st acc) ms k accepts)) in
+    let fits : AreAccepted t.network t.state (take k ms) = subst (λ (n : Network). AreAccepted n t.state (take k ms)) is_nw
+    (subst (λ (s : State). AreAccepted nw s (take k ms)) is_st (accepted-take nw (after_messages st acc) ms k accepts)) in
     let ends = takes-them t (take k ms) fits in
     let network : a.shown.network ≡ nw = ap (λ (u : TimetableState). u.network) shown ∙ ends.0 ∙ sym is_nw in
     let state : a.shown.state ≡ after_messages st (take a.count (acc ++ ms)) =

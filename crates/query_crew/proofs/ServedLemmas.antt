@@ -27,7 +27,8 @@ accepted-rise nw names st before w =
     omega (arith, ap length (accepted-more nw names st before w), length-append (accepted_of nw names st before) (Later nw names st before w))
 
 -- and the first of them are the first of those of all lines
-pub accepted-first : (nw : Network) (names : Names) (st : State) (lines later : List Line) (count : ℕ) → count ≤ length (accepted_of nw names st lines) → take count (accepted_of nw names st (lines ++ later)) ≡ take count (accepted_of nw names st lines)
+pub accepted-first : (nw : Network) (names : Names) (st : State) (lines later : List Line) (count : ℕ)
+    → count ≤ length (accepted_of nw names st lines) → take count (accepted_of nw names st (lines ++ later)) ≡ take count (accepted_of nw names st lines)
 accepted-first nw names st lines later count few =
     ap (take count) (accepted-more nw names st lines later) ∙ take-append-le count (accepted_of nw names st lines) (Later nw names st lines later) few
 
@@ -39,21 +40,25 @@ shown-append [] ys [] ss same = refl
 shown-append [] ys (r ∷ rs) ss same = absurd (omega (arith, same))
 shown-append (x ∷ xs) ys [] ss same = absurd (omega (arith, same))
 shown-append (x ∷ xs) ys (r ∷ rs) ss same =
-    ap (λ (l : List (Answer (List ℕ))). shown_to (said_by x) r ++ l) (shown-append xs ys rs ss (omega (arith, same))) ∙ sym (append_assoc (shown_to (said_by x) r) (shown_counts xs rs) (shown_counts ys ss))
+    ap (λ (l : List (Answer (List ℕ))). shown_to (said_by x) r ++ l) (shown-append xs ys rs ss (omega (arith, same)))
+    ∙ sym (append_assoc (shown_to (said_by x) r) (shown_counts xs rs) (shown_counts ys ss))
 
 -- what holds of the counts of each line holds of all
-shown-each : (P : Answer (List ℕ) → Type 0) (xs : List Line) (rs : List Reply) → ((place : ℕ) (x : Line) (r : Reply) → slice_get xs place ≡ Some x → slice_get rs place ≡ Some r → All P (shown_to (said_by x) r)) → All P (shown_counts xs rs)
+shown-each : (P : Answer (List ℕ) → Type 0) (xs : List Line) (rs : List Reply) → ((place : ℕ) (x : Line) (r : Reply)
+    → slice_get xs place ≡ Some x → slice_get rs place ≡ Some r → All P (shown_to (said_by x) r)) → All P (shown_counts xs rs)
 shown-each P [] rs each = All-nil P
 shown-each P (x ∷ xs) [] each = All-nil P
 shown-each P (x ∷ xs) (r ∷ rs) each =
     All-append P (shown_to (said_by x) r) (shown_counts xs rs) (each 0 x r refl refl) (shown-each P xs rs (λ place y s at_line at_reply. each (suc place) y s at_line at_reply))
 
 -- what holds of each count that a reply to a query shows holds of those that any reply shows
-count-by : (P : Answer (List ℕ) → Type 0) (client : List ℕ) (o : Option ℕ) → ((n : ℕ) → o ≡ Some n → P (record { client = client; count = n })) → All P (option_map_or (λ n. record { client = client; count = n } ∷ []) o [])
+count-by : (P : Answer (List ℕ) → Type 0) (client : List ℕ) (o : Option ℕ)
+    → ((n : ℕ) → o ≡ Some n → P (record { client = client; count = n })) → All P (option_map_or (λ n. record { client = client; count = n } ∷ []) o [])
 count-by P client None h = All-nil P
 count-by P client (Some n) h = All-cons P (record { client = client; count = n }) [] (h n refl) (All-nil P)
 
-shown-by : (P : Answer (List ℕ) → Type 0) (said : Result Spoken BadLine) (reply : Reply) → ((q : WireQuery) (n : ℕ) → said ≡ Ok (Asks q) → shown_count reply ≡ Some n → P (record { client = q.client; count = n })) → All P (shown_to said reply)
+shown-by : (P : Answer (List ℕ) → Type 0) (said : Result Spoken BadLine) (reply : Reply)
+    → ((q : WireQuery) (n : ℕ) → said ≡ Ok (Asks q) → shown_count reply ≡ Some n → P (record { client = q.client; count = n })) → All P (shown_to said reply)
 shown-by P (Ok (Asks q)) reply h = count-by P q.client (shown_count reply) (λ n shows. h q n refl shows)
 shown-by P (Ok (Says w)) reply h = All-nil P
 shown-by P (Ok Flush) reply h = All-nil P
@@ -93,7 +98,8 @@ abbrev LiesWithin : ℕ → ℕ → Answer (List ℕ) → Type 0
 LiesWithin lower upper a = (lower ≤ a.count) × (a.count ≤ upper)
 
 -- the count that a reply to a query shows is that of the state in which it is answered
-pub count-of : (nw : Network) (st : State) (count line m : ℕ) (asked : Result AskedQuery BadLine) (reply : Reply) → IsReplyToResolved nw st count line asked reply → shown_count reply ≡ Some m → count ≡ m
+pub count-of : (nw : Network) (st : State) (count line m : ℕ) (asked : Result AskedQuery BadLine) (reply : Reply)
+    → IsReplyToResolved nw st count line asked reply → shown_count reply ≡ Some m → count ≡ m
 count-of nw st count line m (Ok asked) reply (inl way) shows = same_Some count m (sym (ap shown_count way.2) ∙ shows)
 count-of nw st count line m (Ok asked) reply (inr none) shows = same_Some count m (sym (ap shown_count none.0) ∙ shows)
 count-of nw st count line m (Err b) reply is shows = absurd (none-some m (sym (ap shown_count is) ∙ shows))
@@ -103,7 +109,8 @@ asked-shows : (nw : Network) (st : State) (count line : ℕ) (asked : AskedQuery
 asked-shows nw st count line asked reply (inl way) = ap shown_count way.2
 asked-shows nw st count line asked reply (inr none) = ap shown_count none.0
 
-pub query-shows : (nw : Network) (names : Names) (st : State) (before w : List Line) (number : ℕ) (q : WireQuery) (asked : AskedQuery) (reply : Reply) → (r : IsQueryReply nw names st before w number q reply) → query_resolved names q ≡ Ok asked
+pub query-shows : (nw : Network) (names : Names) (st : State) (before w : List Line) (number : ℕ) (q : WireQuery) (asked : AskedQuery) (reply : Reply)
+    → (r : IsQueryReply nw names st before w number q reply) → query_resolved names q ≡ Ok asked
     → shown_count reply ≡ Some r.count
 query-shows nw names st before w number q asked reply r is =
     let now = after_messages st (take r.count (accepted_of nw names st (before ++ w))) in
@@ -182,26 +189,31 @@ text-more nw names st before (v ∷ ws) (s ∷ rs) w r h =
     ∙ ap (λ (b : List Line). (here ++ text_from nw names st (before ++ v) ws rs) ++ text_of_replies (names_after nw names st (b ++ w)) r) (append_assoc before v (lines_of ws))
 
 -- replies and their texts, whose counts follow
-pub served-by : (nw : Network) (names : Names) (st : State) (ws : List (List Line)) (rs : List (List Reply)) (bytes : List ℕ) → AreRepliesFrom nw names st [] ws rs → bytes ≡ text_from nw names st [] ws rs → AreServed nw names st ws bytes
+pub served-by : (nw : Network) (names : Names) (st : State) (ws : List (List Line)) (rs : List (List Reply)) (bytes : List ℕ)
+    → AreRepliesFrom nw names st [] ws rs → bytes ≡ text_from nw names st [] ws rs → AreServed nw names st ws bytes
 served-by nw names st ws rs bytes are text = record { replies = rs; are = are; counts = counts-along nw names st [] ws rs are; text = text }
 
 pub none-served : (nw : Network) (names : Names) (st : State) → AreServed nw names st [] []
 none-served nw names st = served-by nw names st [] [] [] tt refl
 
-pub window-more : (nw : Network) (names : Names) (st : State) (ws : List (List Line)) (w : List Line) (bytes : List ℕ) (r : List Reply) → AreServed nw names st ws bytes → AreWindowReplies nw names st (lines_of ws) w r
+pub window-more : (nw : Network) (names : Names) (st : State) (ws : List (List Line)) (w : List Line) (bytes : List ℕ) (r : List Reply)
+    → AreServed nw names st ws bytes → AreWindowReplies nw names st (lines_of ws) w r
     → AreServed nw names st (ws ++ w ∷ []) (bytes ++ text_of_replies (names_after nw names st (lines_of ws ++ w)) r)
 window-more nw names st ws w bytes r h one =
     served-by nw names st (ws ++ w ∷ []) (h.replies ++ r ∷ []) (bytes ++ text_of_replies (names_after nw names st (lines_of ws ++ w)) r) (replies-more nw names st [] ws h.replies w r h.are one)
     (ap (λ (b : List ℕ). b ++ text_of_replies (names_after nw names st (lines_of ws ++ w)) r) h.text ∙ sym (text-more nw names st [] ws h.replies w r h.are))
 
 -- the last lines are a window if there are any
-last-window : (nw : Network) (names : Names) (st : State) (ws : List (List Line)) (last : List Line) (bytes : List ℕ) (r : List Reply) → AreServed nw names st ws bytes → AreWindowReplies nw names st (lines_of ws) last r
+last-window : (nw : Network) (names : Names) (st : State) (ws : List (List Line)) (last : List Line) (bytes : List ℕ) (r : List Reply)
+    → AreServed nw names st ws bytes → AreWindowReplies nw names st (lines_of ws) last r
     → AreServed nw names st (with_last ws last) (bytes ++ text_of_replies (names_after nw names st (lines_of ws ++ last)) r)
 last-window nw names st ws [] bytes [] h one = subst (AreServed nw names st ws) (sym (append-nil bytes)) h
 last-window nw names st ws [] bytes (s ∷ r) h one = absurd (omega (arith, one.one_each))
 last-window nw names st ws (x ∷ xs) bytes r h one = window-more nw names st ws (x ∷ xs) bytes r h one
 
-pub input-served : (nw : Network) (names : Names) (st : State) (ws : List (List Line)) (last : List Line) (bytes : List ℕ) (r : List Reply) → AreReadWindows ws last → AreServed nw names st ws bytes → AreWindowReplies nw names st (lines_of ws) last r
+pub input-served : (nw : Network) (names : Names) (st : State) (ws : List (List Line)) (last : List Line) (bytes : List ℕ) (r : List Reply)
+    → AreReadWindows ws last → AreServed nw names st ws bytes → AreWindowReplies nw names st (lines_of ws) last r
     → IsServed nw names st (lines_of ws ++ last) (bytes ++ text_of_replies (names_after nw names st (lines_of ws ++ last)) r)
 input-served nw names st ws last bytes r read h one =
-    subst (λ (vs : List (List Line)). AreServed nw names st vs (bytes ++ text_of_replies (names_after nw names st (lines_of ws ++ last)) r)) (sym (read-windows ws last read)) (last-window nw names st ws last bytes r h one)
+    subst (λ (vs : List (List Line)). AreServed nw names st vs (bytes ++ text_of_replies (names_after nw names st (lines_of ws ++ last)) r))
+    (sym (read-windows ws last read)) (last-window nw names st ws last bytes r h one)

@@ -13,7 +13,8 @@ use Rattle.query_crew.proofs.ServedLemmas.{served-by}
 -- ---- one line
 
 -- a query is no message, so the same messages are accepted up to it and behind it
-none-more : (nw : Network) (names : Names) (st : State) (before : List Line) (x : Line) (q : WireQuery) → said_by x ≡ Ok (Asks q) → accepted_of nw names st (before ++ x ∷ []) ≡ accepted_of nw names st before
+none-more : (nw : Network) (names : Names) (st : State) (before : List Line) (x : Line) (q : WireQuery)
+    → said_by x ≡ Ok (Asks q) → accepted_of nw names st (before ++ x ∷ []) ≡ accepted_of nw names st before
 none-more nw names st before x q e =
     let none : messages_of (x ∷ []) ≡ [] = rw e refl in
     ap (accepted nw by_names st names) (filter_map-append (λ (y : Line). message_in (said_by y)) before (x ∷ []) ∙ rw none (append-nil (messages_of before)))
@@ -27,7 +28,8 @@ IsReplyBehind nw names st before said reply =
 abbrev IsReplyAfter : Network → State → ℕ → List Message → ℕ → WireQuery → Names → Reply → Type 0
 IsReplyAfter nw st count ms number q names reply = IsReplyToResolved nw (after_messages st (take count ms)) count number (query_resolved names q) reply
 
-query-back : (nw : Network) (names : Names) (st : State) (before : List Line) (x : Line) (q : WireQuery) (reply : Reply) → said_by x ≡ Ok (Asks q) → IsQueryReply nw names st before (x ∷ []) (length before + 1) q reply → IsReplyBehind nw names st before (Ok (Asks q)) reply
+query-back : (nw : Network) (names : Names) (st : State) (before : List Line) (x : Line) (q : WireQuery) (reply : Reply)
+    → said_by x ≡ Ok (Asks q) → IsQueryReply nw names st before (x ∷ []) (length before + 1) q reply → IsReplyBehind nw names st before (Ok (Asks q)) reply
 query-back nw names st before x q reply e h =
     let ms = accepted_of nw names st before in
     let same = none-more nw names st before x q e in
@@ -38,23 +40,28 @@ query-back nw names st before x q reply e h =
     subst (λ (asked : Result AskedQuery BadLine). IsReplyToResolved nw (after_messages st ms) (length ms) (length before + 1) asked reply) (sym (asked-by-feed nw names st before q))
     (subst (λ (l : List Message). IsReplyToResolved nw (after_messages st l) (length ms) (length before + 1) (query_resolved names q) reply) (take-length ms) here)
 
-said-back : (nw : Network) (names : Names) (st : State) (before : List Line) (x : Line) (said : Result Spoken BadLine) (reply : Reply) → said_by x ≡ said → IsReplyAt nw names st before (x ∷ []) 0 said reply → IsReplyBehind nw names st before said reply
+said-back : (nw : Network) (names : Names) (st : State) (before : List Line) (x : Line) (said : Result Spoken BadLine) (reply : Reply)
+    → said_by x ≡ said → IsReplyAt nw names st before (x ∷ []) 0 said reply → IsReplyBehind nw names st before said reply
 said-back nw names st before x (Ok (Asks q)) reply e is = query-back nw names st before x q reply e is
-said-back nw names st before x (Ok (Says w)) reply e is = subst (λ (b : List Line). let t = service_after nw names st b in IsReply t.network t.names t.state t.count (length before + 1) (Ok (Says w)) reply) (append-nil before) is
-said-back nw names st before x (Ok Flush) reply e is = subst (λ (b : List Line). let t = service_after nw names st b in IsReply t.network t.names t.state t.count (length before + 1) (Ok Flush) reply) (append-nil before) is
+said-back nw names st before x (Ok (Says w)) reply e is = subst (λ (b : List Line). let t = service_after nw names st b in
+    IsReply t.network t.names t.state t.count (length before + 1) (Ok (Says w)) reply) (append-nil before) is
+said-back nw names st before x (Ok Flush) reply e is = subst (λ (b : List Line). let t = service_after nw names st b in
+    IsReply t.network t.names t.state t.count (length before + 1) (Ok Flush) reply) (append-nil before) is
 said-back nw names st before x (Err b) reply e is = is
 
 -- ---- a window of one line
 
 alone-in-order : (nw : Network) (names : Names) (st : State) (before : List Line) (x : Line) (reply : Reply) → IsReplyTo (service_after nw names st before) (length before + 1) x reply
-    → (place : ℕ) (y : Line) (r : Reply) → slice_get (x ∷ []) place ≡ Some y → slice_get (reply ∷ []) place ≡ Some r → IsReplyTo (service_after nw names st (before ++ take place (x ∷ []))) (length before + (place + 1)) y r
+    → (place : ℕ) (y : Line) (r : Reply) → slice_get (x ∷ []) place ≡ Some y
+    → slice_get (reply ∷ []) place ≡ Some r → IsReplyTo (service_after nw names st (before ++ take place (x ∷ []))) (length before + (place + 1)) y r
 alone-in-order nw names st before x reply is zero y r at_y at_r =
     subst (λ (z : Line). IsReplyTo (service_after nw names st (before ++ [])) (length before + 1) z r) (same_Some x y at_y)
     (subst (IsReplyTo (service_after nw names st (before ++ [])) (length before + 1) x) (same_Some reply r at_r)
     (subst (λ (l : List Line). IsReplyTo (service_after nw names st l) (length before + 1) x reply) (sym (append-nil before)) is))
 alone-in-order nw names st before x reply is (suc place) y r at_y at_r = absurd (omega (arith, slice_get_within (x ∷ []) (suc place) y at_y))
 
-window-there : (nw : Network) (names : Names) (st : State) (before : List Line) (x : Line) (reply : Reply) → IsReplyTo (service_after nw names st before) (length before + 1) x reply → AreWindowReplies nw names st before (x ∷ []) (reply ∷ [])
+window-there : (nw : Network) (names : Names) (st : State) (before : List Line) (x : Line) (reply : Reply)
+    → IsReplyTo (service_after nw names st before) (length before + 1) x reply → AreWindowReplies nw names st before (x ∷ []) (reply ∷ [])
 window-there nw names st before x reply is = window-in-order nw names st before (x ∷ []) (reply ∷ []) refl (alone-in-order nw names st before x reply is)
 
 -- ---- all windows

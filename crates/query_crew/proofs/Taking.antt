@@ -19,7 +19,8 @@ timetable-more (Some opening) list m t h =
     ap (λ (r : TimetableState). Some r) (fold-append taken opening list (m ∷ []) ∙ ap (λ (r : TimetableState). taken r m) (same-timetable _ t h))
 
 -- how many events a message changes that was accepted and posted
-pub posts-changed : (o : Option TimetableState) (old : List Message) (m : Message) (t v u : TimetableState) → timetable_after o old ≡ Some t → timetable_after o old ≡ Some v → refusal v.network v.state m ≡ None
+pub posts-changed : (o : Option TimetableState) (old : List Message) (m : Message) (t v u : TimetableState)
+    → timetable_after o old ≡ Some t → timetable_after o old ≡ Some v → refusal v.network v.state m ≡ None
     → timetable_after o (old ++ m ∷ []) ≡ Some u → length u.changed ≡ changed_count t.network t.state m
 posts-changed o old m t v u before held accepts after =
     let same : v ≡ t = same-timetable v t (sym held ∙ before) in
@@ -29,7 +30,8 @@ posts-changed o old m t v u before held accepts after =
     ap (λ (r : TimetableState). length r.changed) next ∙ changed-length t.network t.state (effect t.state m)
 
 -- the board after a message that is accepted, or refused
-posts-by : (o : Option TimetableState) (old new : List Message) (names known : Names) (s : ServiceState) (number : ℕ) (w : Wire) (m : Message) (a : Option Refusal) (reply : Reply) → (h : StandsAt o old names s) → resolved names w ≡ Ok m
+posts-by : (o : Option TimetableState) (old new : List Message) (names known : Names)
+    (s : ServiceState) (number : ℕ) (w : Wire) (m : Message) (a : Option Refusal) (reply : Reply) → (h : StandsAt o old names s) → resolved names w ≡ Ok m
     → refusal h.timetable.network h.timetable.state m ≡ a → IsHeldAfter IsPosted old new m a → known ≡ (after_answer (service_with h.timetable (length old) names) w m a).names
     → reply ≡ reply_by_refusal h.timetable.network names h.timetable.state (length old) number w m a
     → IsTaken o s number (shown.Message w) old new known (Some reply)
@@ -54,7 +56,8 @@ posts-by o old new names known s number w m (Some r) reply h read refuses same e
       replied = rw (h.is, read, refuses, is) refl;
     }
 
-posts-read : (o : Option TimetableState) (old new : List Message) (names known : Names) (s : ServiceState) (number : ℕ) (w : Wire) (read : Result Message Refusal) (reply : Reply) → (h : StandsAt o old names s) → resolved names w ≡ read
+posts-read : (o : Option TimetableState) (old new : List Message) (names known : Names)
+    (s : ServiceState) (number : ℕ) (w : Wire) (read : Result Message Refusal) (reply : Reply) → (h : StandsAt o old names s) → resolved names w ≡ read
     → HasTaken IsPosted h.timetable old new read → known ≡ (after_message (service_with h.timetable (length old) names) w read).names
     → reply ≡ reply_to_message h.timetable.network names h.timetable.state (length old) number w read
     → IsTaken o s number (shown.Message w) old new known (Some reply)
@@ -68,7 +71,8 @@ posts-read o old new names known s number w (Err r) reply h read same e is =
     }
 
 -- a message that is taken by whoever holds the timetable is one that the publisher takes
-pub posts-message : {o : Option TimetableState} {old new : List Message} {names known : Names} {s : ServiceState} {number : ℕ} {w : Wire} {reply : Reply} (h : StandsAt o old names s) → IsMessageTaken IsPosted h.timetable (length old) number w old new names known reply
+pub posts-message : {o : Option TimetableState} {old new : List Message} {names known : Names} {s : ServiceState}
+    {number : ℕ} {w : Wire} {reply : Reply} (h : StandsAt o old names s) → IsMessageTaken IsPosted h.timetable (length old) number w old new names known reply
     → IsTaken o s number (shown.Message w) old new known (Some reply)
 posts-message {o = o} {old = old} {new = new} {names = names} {known = known} {s = s} {number = number} {w = w} {reply = reply} h one =
     posts-read o old new names known s number w (resolved names w) reply h refl one.holder one.known one.replied

@@ -17,13 +17,15 @@ use Rattle.window_service.proofs.Answered.{none-received}
 
 module _ {K : Type 0} {Receives : K → K → Names → List Reply → Type 0} {nw : Network} {names : Names} {st : State} {r : Reader} {left left_now : Option (List ℕ)} {old new : K} where
   pub received-whole : (budget : ℕ) → r.budget ≡ budget → HasEnded Receives nw names st r left left_now old new → IsReceivedWhole Receives nw names st budget left left_now old new
-  received-whole budget is h = record { bytes = h.bytes; took = h.read.source; ended = end_was_read budget is h.read h.done.ended; all = rw (ends h.bytes h.lines r h.read.lines_so_far h.done) h.output }
+  received-whole budget is h =
+      record { bytes = h.bytes; took = h.read.source; ended = end_was_read budget is h.read h.done.ended; all = rw (ends h.bytes h.lines r h.read.lines_so_far h.done) h.output }
 
   pub received-in-part : HasStopped Receives nw names st r left left_now old new → IsReceivedInPart Receives nw names st left left_now old new
   received-in-part h = record { bytes = h.bytes; took = h.read.source; whole = rw h.are h.output }
 
 -- the first of some lines are the first of more
-first-more : {K Failed : Type 0} {Receives Begins : K → K → Names → List Reply → Type 0} {nw : Network} {names : Names} {st : State} {lines : List Line} {old new : K} (all more : List Line) → all ≡ lines ++ more
+first-more : {K Failed : Type 0} {Receives Begins : K → K → Names → List Reply → Type 0}
+    {nw : Network} {names : Names} {st : State} {lines : List Line} {old new : K} (all more : List Line) → all ≡ lines ++ more
     → AreFirstReceived Failed Receives Begins nw names st lines old new → AreFirstReceived Failed Receives Begins nw names st all old new
 first-more all more is f = record {
   windows = f.windows;
@@ -37,20 +39,24 @@ first-more all more is f = record {
 }
 
 module _ {K Failed : Type 0} {Receives Begins : K → K → Names → List Reply → Type 0} {nw : Network} {names : Names} {st : State} {left left_now : Option (List ℕ)} {old new : K} where
-  first-by : {r : Reader} {taken : List ℕ} {lines : List Line} (budget : ℕ) → r.budget ≡ budget → IsTaken r left left_now taken lines → AreFirstReceived Failed Receives Begins nw names st lines old new ⊎ (IsDone r × AreAllReceived Receives Begins nw names st lines old new)
+  first-by : {r : Reader} {taken : List ℕ} {lines : List Line} (budget : ℕ) → r.budget ≡ budget → IsTaken r left left_now taken lines
+      → AreFirstReceived Failed Receives Begins nw names st lines old new ⊎ (IsDone r × AreAllReceived Receives Begins nw names st lines old new)
       → AreFirstReceived Failed Receives Begins nw names st (lines_of false taken) old new
-      ⊎ (EndWasRead budget left_now taken × (AreFirstReceived Failed Receives Begins nw names st (lines_of true taken) old new ⊎ AreAllReceived Receives Begins nw names st (lines_of true taken) old new))
+      ⊎ (EndWasRead budget left_now taken × (AreFirstReceived Failed Receives Begins nw names st (lines_of true taken) old new
+      ⊎ AreAllReceived Receives Begins nw names st (lines_of true taken) old new))
   first-by {r = r} {taken = taken} {lines = lines} budget is h (inl f) = elim (cases_Bool r.ended) [
     | inl was ↦ let more = first_lines r true taken lines (λ is. refl) h.lines_so_far in inr (end_was_read budget is h was, inl (first-more (lines_of true taken) more.0 more.1 f))
     | inr not_yet ↦ let more = first_lines r false taken lines (λ is. open_ended r.ended not_yet is) h.lines_so_far in inl (first-more (lines_of false taken) more.0 more.1 f)
   ]
   first-by {r = r} {taken = taken} {lines = lines} budget is h (inr all) = inr (end_was_read budget is h all.0.ended, inr (rw (ends taken lines r h.lines_so_far all.0) all.1))
 
-  pub received-at-first : {r : Reader} (budget : ℕ) → r.budget ≡ budget → HasBegun Failed Receives Begins nw names st r left left_now old new → IsReceivedAtFirst Failed Receives Begins nw names st budget left left_now old new
+  pub received-at-first : {r : Reader} (budget : ℕ) → r.budget ≡ budget
+      → HasBegun Failed Receives Begins nw names st r left left_now old new → IsReceivedAtFirst Failed Receives Begins nw names st budget left left_now old new
   received-at-first budget is h = record { bytes = h.bytes; took = h.read.source; first = first-by budget is h.read h.output }
 
 -- an output that received nothing
-pub nothing-received : {K Failed : Type 0} {Receives Begins : K → K → Names → List Reply → Type 0} {nw : Network} {names : Names} {st : State} {budget : ℕ} {left : Option (List ℕ)} {out : K} → ¬ Failed → IsReceivedAtFirst Failed Receives Begins nw names st budget left left out out
+pub nothing-received : {K Failed : Type 0} {Receives Begins : K → K → Names → List Reply → Type 0} {nw : Network} {names : Names}
+    {st : State} {budget : ℕ} {left : Option (List ℕ)} {out : K} → ¬ Failed → IsReceivedAtFirst Failed Receives Begins nw names st budget left left out out
 nothing-received {Receives = Receives} {nw = nw} {names = names} {st = st} {left = left} {out = out} no_fault = record {
   bytes = [];
   took = consumes_none left;

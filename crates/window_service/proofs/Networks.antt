@@ -38,7 +38,8 @@ module _ (a b : Network) (h : IsSame a b) (names : Names) (st : State) where
         answers = resolved-same a b h _ r.count number (query_resolved names q) reply (rw all at r.answers);
       }
 
-  reply-alike : (before window : List Line) (place : ℕ) (said : Result Spoken BadLine) (reply : Reply) → IsReplyAt b names st before window place said reply → IsReplyAt a names st before window place said reply
+  reply-alike : (before window : List Line) (place : ℕ) (said : Result Spoken BadLine) (reply : Reply)
+      → IsReplyAt b names st before window place said reply → IsReplyAt a names st before window place said reply
   reply-alike before window place (Ok (Asks q)) reply is = query-alike before window (length before + (place + 1)) q reply is
   reply-alike before window place (Ok (Says w)) reply is =
       reply-same a b h _ _ _ (length before + (place + 1)) (Ok (Says w)) reply (rw (accepted-alike (before ++ take place window), names-alike (before ++ take place window)) at is)
@@ -77,7 +78,8 @@ module _ (a b : Network) (h : IsSame a b) (names : Names) (st : State) where
 pub served-same : (a b : Network) → IsSame a b → (names : Names) (st : State) (lines : List Line) (bytes : List ℕ) → IsServed b names st lines bytes → IsServed a names st lines bytes
 served-same a b h names st lines bytes s = windows-alike a b h names st _ bytes s
 
-pub whole-same : (a b : Network) → IsSame a b → (names : Names) (st : State) (lines : List Line) (bytes : List ℕ) → AreWholeWindowsServed b names st lines bytes → AreWholeWindowsServed a names st lines bytes
+pub whole-same : (a b : Network) → IsSame a b → (names : Names) (st : State) (lines : List Line) (bytes : List ℕ)
+    → AreWholeWindowsServed b names st lines bytes → AreWholeWindowsServed a names st lines bytes
 whole-same a b h names st lines bytes s = record {
   windows = s.windows;
   last = s.last;

@@ -37,7 +37,8 @@ few-messages [] = omega arith
 few-messages (x ∷ xs) = few-said (message_in (said_by x)) x xs refl (few-messages xs)
 
 -- no more were posted than there were lines
-pub few-posted : {o : Option TimetableState} {posted : List Message} {names_now : Names} (nw : Network) (names : Names) (st : State) (lines : List Line) → StandsAt o posted names_now (service_after nw names st lines) → length posted ≤ length lines
+pub few-posted : {o : Option TimetableState} {posted : List Message} {names_now : Names} (nw : Network) (names : Names) (st : State) (lines : List Line)
+    → StandsAt o posted names_now (service_after nw names st lines) → length posted ≤ length lines
 few-posted {posted = posted} nw names st lines stands =
     let count : length (accepted_of nw names st lines) ≡ length posted = ap (λ (s : ServiceState). s.count) stands.is in
     omega (arith, count, few-accepted nw names st (messages_of lines), few-messages lines)
@@ -55,7 +56,8 @@ opened None posted t is = absurd (none-some t is)
 opened (Some first) posted t is = (first, refl)
 
 -- a window can be run where what was read is within the number of bytes that may be taken
-module _ {o : Option TimetableState} (names : Names) {posted : List Message} {names_now : Names} {mid now : Reader} {left left_mid left_now : Option (List ℕ)} {count : ℕ} {bytes : List ℕ} {ws : List (List Line)} {w : List Line}
+module _ {o : Option TimetableState} (names : Names) {posted : List Message}
+    {names_now : Names} {mid now : Reader} {left left_mid left_now : Option (List ℕ)} {count : ℕ} {bytes : List ℕ} {ws : List (List Line)} {w : List Line}
     (read : AreRead mid left left_mid count bytes ws) (next : GivesNext mid now left_mid left_now w) (same : mid.ended ≡ true → left_now ≡ left_mid) where
   pub can-run : (lines : List WindowLine) → HasService o posted names_now → ((t : TimetableState) → o ≡ Some t → StandsAt o posted names_now (service_after t.network names t.state (lines_of ws)))
       → All IsWindowLine lines → lines ≡ window_lines names_now w → now.budget < 2 ^ 64 → CanBeRun o posted names_now count lines

@@ -22,7 +22,8 @@ use Rattle.window_service.specs.Sums.{added, no_sums, reply_sums, sums_after, wi
 use Rattle.window_service.specs.SameSums.{is_query, says_query, AreApart, SumsAreTheSame}
 
 -- each of two earliest journeys arrives no later than the other
-asked-same : (nw : Network) (st : State) (count line : ℕ) (asked : Result AskedQuery BadLine) (r s : Reply) → IsReplyToResolved nw st count line asked r → IsReplyToResolved nw st count line asked s → reply_sums r ≡ reply_sums s
+asked-same : (nw : Network) (st : State) (count line : ℕ) (asked : Result AskedQuery BadLine) (r s : Reply)
+    → IsReplyToResolved nw st count line asked r → IsReplyToResolved nw st count line asked s → reply_sums r ≡ reply_sums s
 asked-same nw st count line (Ok asked) r s i j = grind arith
 asked-same nw st count line (Err bad) r s i j = ap reply_sums (i ∙ sym j)
 
@@ -49,23 +50,27 @@ module _ (nw : Network) (names : Names) (st : State) where
       ap (accepted nw by_names st names) (filter_map-append (λ (x : Line). message_in (said_by x)) before w ∙ ap (λ ms. messages_of before ++ ms) none ∙ append-nil (messages_of before))
 
   -- so a query among them is answered in one state
-  query-same : (before w : List Line) (number : ℕ) (q : WireQuery) (r s : Reply) → messages_of w ≡ [] → IsQueryReply nw names st before w number q r → IsQueryReply nw names st before w number q s → reply_sums r ≡ reply_sums s
+  query-same : (before w : List Line) (number : ℕ) (q : WireQuery) (r s : Reply)
+      → messages_of w ≡ [] → IsQueryReply nw names st before w number q r → IsQueryReply nw names st before w number q s → reply_sums r ≡ reply_sums s
   query-same before w number q r s none i j =
       let state = λ (n : ℕ). after_messages st (take n (accepted_of nw names st (before ++ w))) in
       let same : j.count ≡ i.count = omega (arith, ap length (none-accepted before w none), i.lower, i.upper, j.lower, j.upper) in
       asked-same nw (state i.count) i.count number (query_resolved names q) r s i.answers (subst (λ (n : ℕ). IsReplyToResolved nw (state n) n number (query_resolved names q) s) same j.answers)
 
   -- a line other than a query has one reply
-  said-same : (before w : List Line) (place : ℕ) (said : Result Spoken BadLine) (r s : Reply) → (says_query said ≡ true → messages_of w ≡ []) → IsReplyAt nw names st before w place said r → IsReplyAt nw names st before w place said s → reply_sums r ≡ reply_sums s
+  said-same : (before w : List Line) (place : ℕ) (said : Result Spoken BadLine) (r s : Reply) → (says_query said ≡ true → messages_of w ≡ [])
+      → IsReplyAt nw names st before w place said r → IsReplyAt nw names st before w place said s → reply_sums r ≡ reply_sums s
   said-same before w place (Ok (Asks q)) r s none i j = query-same before w (length before + (place + 1)) q r s (none refl) i j
   said-same before w place said r s none i j = ap reply_sums (i ∙ sym j)
 
-  window-same : (before w : List Line) (rs ss : List Reply) (old : ReplySums) → AreApart w → AreWindowReplies nw names st before w rs → AreWindowReplies nw names st before w ss → sums_after old rs ≡ sums_after old ss
+  window-same : (before w : List Line) (rs ss : List Reply) (old : ReplySums)
+      → AreApart w → AreWindowReplies nw names st before w rs → AreWindowReplies nw names st before w ss → sums_after old rs ≡ sums_after old ss
   window-same before w rs ss old apart a b =
       sums-same w rs ss old a.one_each b.one_each (λ place x r s at_line at_one at_two.
       said-same before w place (said_by x) r s (no-message w place x apart at_line) (a.are place x r at_line at_one) (b.are place x s at_line at_two))
 
-  windows-same : (before : List Line) (ws : List (List Line)) (rs ss : List (List Reply)) (old : ReplySums) → All AreApart ws → AreRepliesFrom nw names st before ws rs → AreRepliesFrom nw names st before ws ss
+  windows-same : (before : List Line) (ws : List (List Line)) (rs ss : List (List Reply)) (old : ReplySums)
+      → All AreApart ws → AreRepliesFrom nw names st before ws rs → AreRepliesFrom nw names st before ws ss
       → sums_after old (replies_of rs) ≡ sums_after old (replies_of ss)
   windows-same before [] [] [] old apart a b = refl
   windows-same before [] (r ∷ rs) ss old apart a b = absurd a

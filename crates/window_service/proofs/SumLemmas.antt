@@ -10,7 +10,8 @@ use Rattle.window_service.specs.Sums.{no_sums, sums_after, sums_over, with_reply
 use Rattle.window_service.specs.Summed.{AreSummed}
 
 module _ (nw : Network) (names : Names) (st : State) where
-  sums-from : (before : List Line) (ws : List (List Line)) (rs : List (List Reply)) (old new : ReplySums) → AreRepliesFrom nw names st before ws rs → AreReceivedFrom ReceivesSums nw names st before ws rs old new → new ≡ sums_after old (replies_of rs)
+  sums-from : (before : List Line) (ws : List (List Line)) (rs : List (List Reply)) (old new : ReplySums)
+      → AreRepliesFrom nw names st before ws rs → AreReceivedFrom ReceivesSums nw names st before ws rs old new → new ≡ sums_after old (replies_of rs)
   sums-from before [] [] old new are same = same
   sums-from before [] (r ∷ rs) old new are same = absurd are
   sums-from before (w ∷ ws) [] old new are same = absurd are
@@ -25,7 +26,8 @@ module _ (nw : Network) (names : Names) (st : State) where
   summed-by ws rs sums are is = (text_from nw names st [] ws rs, record { replies = rs; are = are; counts = counts-along nw names st [] ws rs are; text = refl }, is)
 
   -- the last lines are a window if there are any
-  last-summed : (ws : List (List Line)) (rs : List (List Reply)) (last : List Line) (r : List Reply) (mid new : ReplySums) → AreRepliesFrom nw names st [] ws rs → AreWindowReplies nw names st (lines_of ws) last r
+  last-summed : (ws : List (List Line)) (rs : List (List Reply)) (last : List Line) (r : List Reply) (mid new : ReplySums)
+      → AreRepliesFrom nw names st [] ws rs → AreWindowReplies nw names st (lines_of ws) last r
       → mid ≡ sums_over (replies_of rs) → new ≡ sums_after mid r → AreWindowsSummed (with_last ws last) new
   last-summed ws rs [] [] mid new are one so_far ends = summed-by ws rs new are (ends ∙ so_far)
   last-summed ws rs [] (s ∷ r) mid new are one so_far ends = absurd (omega (arith, one.one_each))

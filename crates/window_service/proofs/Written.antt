@@ -20,7 +20,8 @@ none-open : IsOpenWindow []
 none-open = open-lines [] (omega arith) refl
 
 -- closed windows are the whole windows of their lines
-whole-served : {nw : Network} {names : Names} {st : State} {ws : List (List Line)} {bytes : List ℕ} → All IsClosedWindow ws → AreServed nw names st ws bytes → AreWholeWindowsServed nw names st (lines_of ws) bytes
+whole-served : {nw : Network} {names : Names} {st : State} {ws : List (List Line)} {bytes : List ℕ}
+    → All IsClosedWindow ws → AreServed nw names st ws bytes → AreWholeWindowsServed nw names st (lines_of ws) bytes
 whole-served {ws = ws} closed served =
     record { windows = ws; last = []; are_read = record { closed = closed; rest = none-open }; joined = sym (append-nil (lines_of ws)); served = served }
 
@@ -29,7 +30,8 @@ pub nothing-served : (nw : Network) (names : Names) (st : State) → AreWholeWin
 nothing-served nw names st = whole-served (All-nil IsClosedWindow) (none-served nw names st)
 
 module _ {K : Type 0} (written : K → Option (List ℕ)) (nw : Network) (names : Names) (st : State) where
-  texts-from : (before : List Line) (ws : List (List Line)) (rs : List (List Reply)) (old new : K) → AreReceivedFrom (ReceivesTexts written) nw names st before ws rs old new → Appends (written old) (written new) (text_from nw names st before ws rs)
+  texts-from : (before : List Line) (ws : List (List Line)) (rs : List (List Reply)) (old new : K)
+      → AreReceivedFrom (ReceivesTexts written) nw names st before ws rs old new → Appends (written old) (written new) (text_from nw names st before ws rs)
   texts-from before [] rs old new same = subst (λ (x : K). Appends (written old) (written x) []) (sym same) (Appends-nil (written old))
   texts-from before (w ∷ ws) [] old new same = subst (λ (x : K). Appends (written old) (written x) []) (sym same) (Appends-nil (written old))
   texts-from before (w ∷ ws) (r ∷ rs) old new taken =
@@ -41,7 +43,8 @@ module _ {K : Type 0} (written : K → Option (List ℕ)) (nw : Network) (names 
       let text = text_from nw names st [] ws t.replies in
       record { shown = text; is = served-by nw names st ws t.replies text t.are refl; written = texts-from [] ws t.replies old new t.received }
 
-  pub all-written : (lines : List Line) (old new : K) → AreAllReceived (ReceivesTexts written) (ReceivesTexts written) nw names st lines old new → AppendsServed nw names st lines (written old) (written new)
+  pub all-written : (lines : List Line) (old new : K)
+      → AreAllReceived (ReceivesTexts written) (ReceivesTexts written) nw names st lines old new → AppendsServed nw names st lines (written old) (written new)
   all-written lines old new a =
       let so_far = texts-served a.windows old a.mid a.received in
       let text = text_of_replies (names_after nw names st (lines_of a.windows ++ a.last)) a.ends.replies in
@@ -57,7 +60,9 @@ module _ {K : Type 0} (written : K → Option (List ℕ)) (nw : Network) (names 
       let so_far = texts-served a.windows old new a.received in
       record { shown = so_far.shown; is = record { windows = a.windows; last = a.last; are_read = a.are_read; joined = a.joined; served = so_far.is }; written = so_far.written }
 
-  first-by : {Failed : Type 0} (lines : List Line) (old new : K) (a : AreFirstReceived Failed (ReceivesTexts written) (BeginsTexts written Failed) nw names st lines old new) → ((new ≡ a.mid) × ¬ Failed) ⊎ (IsClosedWindow a.window × IsOneReceived (BeginsTexts written Failed) nw names st (lines_of a.windows) a.window a.mid new)
+  first-by : {Failed : Type 0} (lines : List Line) (old new : K)
+      (a : AreFirstReceived Failed (ReceivesTexts written) (BeginsTexts written Failed) nw names st lines old new)
+      → ((new ≡ a.mid) × ¬ Failed) ⊎ (IsClosedWindow a.window × IsOneReceived (BeginsTexts written Failed) nw names st (lines_of a.windows) a.window a.mid new)
       → AppendsFirstWindows Failed nw names st lines (written old) (written new)
   first-by {Failed = Failed} lines old new a (inl none) =
       let so_far = texts-served a.windows old a.mid a.received in
@@ -82,41 +87,56 @@ module _ {K : Type 0} (written : K → Option (List ℕ)) (nw : Network) (names 
         front = front_after (written old) (written a.mid) (written new) so_far.shown text so_far.written more.1.received;
       }
 
-  first-written : {Failed : Type 0} (lines : List Line) (old new : K) → AreFirstReceived Failed (ReceivesTexts written) (BeginsTexts written Failed) nw names st lines old new → AppendsFirstWindows Failed nw names st lines (written old) (written new)
+  first-written : {Failed : Type 0} (lines : List Line) (old new : K)
+      → AreFirstReceived Failed (ReceivesTexts written) (BeginsTexts written Failed) nw names st lines old new
+      → AppendsFirstWindows Failed nw names st lines (written old) (written new)
   first-written lines old new a = first-by lines old new a a.more
 
   -- a front of the replies to all lines of the input
-  last-written : {Failed : Type 0} (lines : List Line) (old new : K) → AreAllReceived (ReceivesTexts written) (BeginsTexts written Failed) nw names st lines old new → (all : List ℕ) × IsServed nw names st lines all × AppendsFront Failed (written old) (written new) all
+  last-written : {Failed : Type 0} (lines : List Line) (old new : K)
+      → AreAllReceived (ReceivesTexts written) (BeginsTexts written Failed) nw names st lines old new
+      → (all : List ℕ) × IsServed nw names st lines all × AppendsFront Failed (written old) (written new) all
   last-written lines old new a =
       let so_far = texts-served a.windows old a.mid a.received in
       let text = text_of_replies (names_after nw names st (lines_of a.windows ++ a.last)) a.ends.replies in (
         so_far.shown ++ text,
-        subst (λ (ls : List Line). IsServed nw names st ls (so_far.shown ++ text)) (sym a.joined) (input-served nw names st a.windows a.last so_far.shown a.ends.replies a.are_read so_far.is a.ends.are),
+        subst (λ (ls : List Line). IsServed nw names st ls (so_far.shown ++ text))
+            (sym a.joined) (input-served nw names st a.windows a.last so_far.shown a.ends.replies a.are_read so_far.is a.ends.are),
         front_after (written old) (written a.mid) (written new) so_far.shown text so_far.written a.ends.received,
       )
 
   -- of the bytes that were taken, where the run stops and where it ends
-  pub front-written : {Failed : Type 0} {budget : ℕ} {left left_now : Option (List ℕ)} (old new : K) → IsReceivedAtFirst Failed (ReceivesTexts written) (BeginsTexts written Failed) nw names st budget left left_now old new
+  pub front-written : {Failed : Type 0} {budget : ℕ} {left left_now : Option (List ℕ)} (old new : K)
+      → IsReceivedAtFirst Failed (ReceivesTexts written) (BeginsTexts written Failed) nw names st budget left left_now old new
       → AppendsServedFront Failed nw names st budget left left_now (written old) (written new)
   front-written {Failed = Failed} {budget = budget} {left_now = left_now} old new h = record { bytes = h.bytes; took = h.took; front = by h.first } where
     by : AreFirstReceived Failed (ReceivesTexts written) (BeginsTexts written Failed) nw names st (lines_in false h.bytes) old new
-        ⊎ (EndWasRead budget left_now h.bytes × (AreFirstReceived Failed (ReceivesTexts written) (BeginsTexts written Failed) nw names st (lines_in true h.bytes) old new ⊎ AreAllReceived (ReceivesTexts written) (BeginsTexts written Failed) nw names st (lines_in true h.bytes) old new))
-        → AppendsFirstWindows Failed nw names st (lines_in false h.bytes) (written old) (written new) ⊎ (EndWasRead budget left_now h.bytes × AppendsWholeFront Failed (IsServed nw names st) (AreWholeWindowsServed nw names st) (lines_in true h.bytes) (written old) (written new))
+        ⊎ (EndWasRead budget left_now h.bytes × (AreFirstReceived Failed (ReceivesTexts written) (BeginsTexts written Failed) nw names st
+        (lines_in true h.bytes) old new ⊎ AreAllReceived (ReceivesTexts written) (BeginsTexts written Failed) nw names st (lines_in true h.bytes) old new))
+        → AppendsFirstWindows Failed nw names st (lines_in false h.bytes) (written old) (written new) ⊎ (EndWasRead budget left_now h.bytes
+        × AppendsWholeFront Failed (IsServed nw names st) (AreWholeWindowsServed nw names st) (lines_in true h.bytes) (written old) (written new))
     by (inl first) = inl (first-written (lines_in false h.bytes) old new first)
     by (inr (end, inl first)) = inr (end, inl (first-written (lines_in true h.bytes) old new first))
     by (inr (end, inr all)) = inr (end, inr (last-written (lines_in true h.bytes) old new all))
 
   -- of all bytes of an input that tells them
-  pub whole-told : {budget : ℕ} {left left_now : Option (List ℕ)} (old new : K) → IsReceivedWhole (ReceivesTexts written) nw names st budget left left_now old new → (bytes : List ℕ) → left ≡ Some bytes → AppendsServed nw names st (lines_in true bytes) (written old) (written new)
+  pub whole-told : {budget : ℕ} {left left_now : Option (List ℕ)} (old new : K)
+      → IsReceivedWhole (ReceivesTexts written) nw names st budget left left_now old new
+      → (bytes : List ℕ) → left ≡ Some bytes → AppendsServed nw names st (lines_in true bytes) (written old) (written new)
   whole-told {left = left} {left_now = left_now} old new h bytes told =
-      subst (λ (bs : List ℕ). AppendsServed nw names st (lines_in true bs) (written old) (written new)) (all_taken left left_now bytes h.bytes h.took h.ended.left told) (all-written (lines_in true h.bytes) old new h.all)
+      subst (λ (bs : List ℕ). AppendsServed nw names st (lines_in true bs) (written old) (written new))
+      (all_taken left left_now bytes h.bytes h.took h.ended.left told) (all-written (lines_in true h.bytes) old new h.all)
 
-  pub whole-front : {Failed : Type 0} {budget : ℕ} {left left_now : Option (List ℕ)} (old new : K) → ¬ Failed → IsReceivedWhole (ReceivesTexts written) nw names st budget left left_now old new → AppendsServedFront Failed nw names st budget left left_now (written old) (written new)
+  pub whole-front : {Failed : Type 0} {budget : ℕ} {left left_now : Option (List ℕ)} (old new : K)
+      → ¬ Failed → IsReceivedWhole (ReceivesTexts written) nw names st budget left left_now old new
+      → AppendsServedFront Failed nw names st budget left left_now (written old) (written new)
   whole-front old new no_fault h =
       let all = all-written (lines_in true h.bytes) old new h.all in
       record { bytes = h.bytes; took = h.took; front = inr (h.ended, inr (all.shown, all.is, front_all no_fault (written old) (written new) all.shown all.written)) }
 
-  pub either-front : {budget : ℕ} {left left_now : Option (List ℕ)} (run : Result (Unit {0}) LinesFault) (old new : K) → OnOk run (IsReceivedWhole (ReceivesTexts written) nw names st budget left left_now old new)
-      → IfErr run (λ f. IsReceivedAtFirst (f ≡ WriteFault) (ReceivesTexts written) (BeginsTexts written (f ≡ WriteFault)) nw names st budget left left_now old new) → AppendsServedFront (IsErrOf run WriteFault) nw names st budget left left_now (written old) (written new)
+  pub either-front : {budget : ℕ} {left left_now : Option (List ℕ)} (run : Result (Unit {0}) LinesFault) (old new : K)
+      → OnOk run (IsReceivedWhole (ReceivesTexts written) nw names st budget left left_now old new)
+      → IfErr run (λ f. IsReceivedAtFirst (f ≡ WriteFault) (ReceivesTexts written) (BeginsTexts written (f ≡ WriteFault))
+      nw names st budget left left_now old new) → AppendsServedFront (IsErrOf run WriteFault) nw names st budget left left_now (written old) (written new)
   either-front (Ok u) old new whole first = whole-front old new (ok_not_err (Ok u) u WriteFault refl) whole
   either-front (Err f) old new whole first = taken_if (same_err (Err f) f WriteFault refl) (front-written old new first)

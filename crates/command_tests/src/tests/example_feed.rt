@@ -156,6 +156,13 @@ pub(super) const QUERY_REPLIES: &str =
 {\"after\":1,\"arrives\":null,\"line\":3}
 ";
 
+/// The replies of `plans` to the query, to the forecast of T1, and to the query once more.
+pub(super) const PLANS_REPLIES: &str =
+    "{\"after\":0,\"line\":1,\"plans\":[{\"arrives\":\"09:10:00\",\"rides\":[{\"alight\":{\"call\":1,\"stop\":\"B1\",\"time\":\"08:30:00\"},\"board\":{\"call\":0,\"stop\":\"A\",\"time\":\"08:00:00\"},\"date\":\"20260105\",\"trip\":\"T1\"},{\"alight\":{\"call\":1,\"stop\":\"D\",\"time\":\"09:10:00\"},\"board\":{\"call\":0,\"stop\":\"B2\",\"time\":\"08:36:00\"},\"date\":\"20260105\",\"trip\":\"T2\"}]}]}
+{\"accepted\":1,\"changed\":3,\"line\":2}
+{\"after\":1,\"line\":3,\"plans\":[]}
+";
+
 /// Claims that no journey from A to D at 08:00:00 arrives before 09:10:00.
 pub(super) const CLAIM: &str =
     r#"{"v":2,"type":"claim","client":"c1","from":"A","to":"D","date":"20260105","time":"08:00:00","arrives":"09:10:00","rides":[{"trip":"T1","date":"20260105","board":0,"alight":1},{"trip":"T2","date":"20260105","board":0,"alight":1}],"reached":[{"stop":"B1","time":"08:30:00"},{"stop":"C","time":"09:00:00"}]}"#;

@@ -2,8 +2,9 @@
 
 use crate::tests::example_feed::{
     ACCEPTED, BACKWARDS, BACKWARDS_REPLY, CANCEL, CLAIM, CLAIM_REPLIES, EARLIER, EXTRA,
-    EXTRA_REPLIES, FLUSH, FORECAST, HEADER, KEEP, MISSED, NO_TRAIN, QUERY, QUERY_REPLIES, REPLIES,
-    REPORT, SHORT_QUERIES, SHORT_REPLIES, T1, T1_LATE, T1_MISSED, T2, T2_HELD, USAGE, X1,
+    EXTRA_REPLIES, FLUSH, FORECAST, HEADER, KEEP, MISSED, NO_TRAIN, PLANS_REPLIES, QUERY,
+    QUERY_REPLIES, REPLIES, REPORT, SHORT_QUERIES, SHORT_REPLIES, T1, T1_LATE, T1_MISSED, T2,
+    T2_HELD, USAGE, X1,
 };
 use crate::tests::{CASE, Case, Ended, bytes_of, is_end, is_next, run, words_of};
 use commands::{Status, traind};
@@ -143,6 +144,18 @@ const CHECK_RUNS: [Run; 1] = [Run {
     },
     input: &[CLAIM, "\n", MISSED, "\n", CLAIM, "\n", QUERY],
     out: &[CLAIM_REPLIES],
+    ..WELL
+}];
+
+/// A run of `plans` on the same feed.
+const PLANS_RUNS: [Run; 1] = [Run {
+    shows: "the best plans with up to two rides, before and after a missed connection",
+    case: Case {
+        words: "plans feed --from 20260105 --slack 0 --rides 2",
+        ..CASE
+    },
+    input: &[QUERY, "\n", MISSED, "\n", QUERY],
+    out: &[PLANS_REPLIES],
     ..WELL
 }];
 
@@ -377,6 +390,12 @@ fn lines_are_answered(rt: HostRuntime) -> Result<(), Fail> {
 #[test]
 fn claims_are_judged(rt: HostRuntime) -> Result<(), Fail> {
     assert_eq!(rt; first_wrong(&rt, rt.alloc(), &CHECK_RUNS)?, None);
+    Ok(())
+}
+
+#[test]
+fn plans_are_shown(rt: HostRuntime) -> Result<(), Fail> {
+    assert_eq!(rt; first_wrong(&rt, rt.alloc(), &PLANS_RUNS)?, None);
     Ok(())
 }
 

@@ -17,6 +17,7 @@ pub returns-in-Err-Bad-clause-next : goal.returns-in-Err-Bad-clause-next
 returns-in-Err-Bad-clause-next c =
     let t = c.args.service.now in
     let bytes = c.args.bytes.now in
-    let told : check_line_of c.directory.result.now bytes ≡ Err c.in-Err-Bad.bad = subst (λ (e : LineError). IsCauseOf (bad_in e) (check_line_of c.directory.result.now bytes)) c.in-Err-Bad.field-0-is c.in-Err-Bad.ensures.exact in
+    let told : check_line_of c.directory.result.now bytes ≡ Err c.in-Err-Bad.bad =
+    subst (λ (e : LineError). IsCauseOf (bad_in e) (check_line_of c.directory.result.now bytes)) c.in-Err-Bad.field-0-is c.in-Err-Bad.ensures.exact in
     let read : check_line_of t.names bytes ≡ Err c.in-Err-Bad.bad = ap (λ names. check_line_of names bytes) (sym c.directory.ensures) ∙ told in
     on-any c.bad_text.result (sym (leaves-as t bytes ∙ ap (after_checked t) read))

@@ -10,7 +10,8 @@ returns-in-Err-clause-stopped g c = early-same c.from.result _ c.from.ensures (e
 pub returns-in_err-own-clause-stopped : goal.returns-in_err-own-clause-stopped
 returns-in_err-own-clause-stopped g c =
     early-handed c.from_residual.result _ c.from_residual.ensures.1
-    (early-own c.in-Ok.ensures.ok c.in_err-own.field-0.0 c.in_err-own.ensures.fault (λ is. c.in_err-own.ensures.failed (ap Err is)) (λ other. c.in_err-own.ensures.answered (λ is. other (same-error _ _ _ refl is))))
+    (early-own c.in-Ok.ensures.ok c.in_err-own.field-0.0 c.in_err-own.ensures.fault
+    (λ is. c.in_err-own.ensures.failed (ap Err is)) (λ other. c.in_err-own.ensures.answered (λ is. other (same-error _ _ _ refl is))))
 
 pub returns-in-Err-load_service-clause-stopped : goal.returns-in-Err-load_service-clause-stopped
 returns-in-Err-load_service-clause-stopped g c =
@@ -26,7 +27,8 @@ returns-in_err-kept-clause-stopped g c =
     early-handed c.from_residual-in_err-kept.result _ c.from_residual-in_err-kept.ensures.1
     (early-behind c.load_behind.new.service c.networks_are_begun_alike.ensures c.in-Ok-load_service.ensures.new
     (was-loaded c.in-Ok.ensures.ok (λ told is. c.in-Ok-load_service.ensures.exact told (same ∙ is)) (λ told rows is are. c.in-Ok-load_service.ensures.network told rows (same ∙ is) are))
-    (c.in-Ok-load_service.ensures.answered (not-error _ _) ∙ kept) c.in_err-kept.field-0.0 (λ told is. c.in_err-kept.ensures.loaded _ (same-table _ _ _ _ c.table.ensures (c.in_ok-own.ensures.fetched told is))) c.in_err-kept.ensures.line)
+    (c.in-Ok-load_service.ensures.answered (not-error _ _) ∙ kept) c.in_err-kept.field-0.0
+    (λ told is. c.in_err-kept.ensures.loaded _ (same-table _ _ _ _ c.table.ensures (c.in_ok-own.ensures.fetched told is))) c.in_err-kept.ensures.line)
 
 pub returns-clause-answered : goal.returns-clause-answered
 returns-clause-answered g c = c.in-Ok-load_service.ensures.answered (not-error _ _) ∙ c.in_ok-own.ensures.answered (not-error _ _)

@@ -24,7 +24,8 @@ one-base = refl
 pub returns-in-Err-clause-memory : goal.returns-in-Err-clause-memory
 returns-in-Err-clause-memory g c =
     let f = c.in-Err.error in
-    let holds = made-timetable c.build-feed.result [] c.default_options-opts.result (omega (arith, c.build-feed.ensures, c.requires.trains.0)) (omega (arith, c.build-feed.ensures, c.requires.trains.1)) in
+    let holds = made-timetable c.build-feed.result [] c.default_options-opts.result
+    (omega (arith, c.build-feed.ensures, c.requires.trains.0)) (omega (arith, c.build-feed.ensures, c.requires.trains.1)) in
     subst (λ (e : FeedError). IsFeedStop e c.feed_stop.result)
     (only-memory f _ (holds.state, holds.names) holds.holds (rw (c.utc-zone.ensures, one-base) at c.in-Err.ensures.exact (files c.build-feed.result) refl) (λ is. c.in-Err.ensures.failed (ap Err is)))
     c.feed_stop.ensures
@@ -33,7 +34,8 @@ pub returns-in_err-sums-clause-memory : goal.returns-in_err-sums-clause-memory
 returns-in_err-sums-clause-memory g c =
     let f = c.in_err-sums.field-0.0 in
     handed-on c.from_residual-in_err-sums.result (Fault f) (Fault lines.OutOfMemory) c.from_residual-in_err-sums.ensures.1
-    (only-memory-left f byte_budget c.in_ok-lines.lines (Some c.sum_windows.new.input) (omega (arith, ap length c.in_ok-lines.ensures, input-short c.args.asked.trains c.requires.trains.1)) c.in_err-sums.ensures.counts)
+    (only-memory-left f byte_budget c.in_ok-lines.lines (Some c.sum_windows.new.input)
+    (omega (arith, ap length c.in_ok-lines.ensures, input-short c.args.asked.trains c.requires.trains.1)) c.in_err-sums.ensures.counts)
 
 pub returns-clause-ok : goal.returns-clause-ok
 returns-clause-ok g c =

@@ -9,7 +9,9 @@ returns-in_err-put g c =
     let a = g.K.Sink.written c.args.out.now in
     let b = g.K.Sink.written c.put.new.sink in
     record {
-      run = gen-not-written (map string_bytes c.args.words.now) (stream_seen g.K.Sink.written g.K.Sink.faults c.args.out.now c.put.new.sink) c.args.out.now c.put.new.sink c.from_residual-in_err-put.result
-          c.in_ok-asked.asked c.in_ok-line.line.items c.in_ok-asked.ensures.ok c.in_ok-line.ensures.ok c.from_residual-in_err-put.ensures.1 (c.in_err-put.ensures.cause.failed, c.in_err-put.ensures.full)
+      run = gen-not-written (map string_bytes c.args.words.now)
+          (stream_seen g.K.Sink.written g.K.Sink.faults c.args.out.now c.put.new.sink) c.args.out.now c.put.new.sink c.from_residual-in_err-put.result
+          c.in_ok-asked.asked c.in_ok-line.line.items c.in_ok-asked.ensures.ok c.in_ok-line.ensures.ok c.from_residual-in_err-put.ensures.1
+          (c.in_err-put.ensures.cause.failed, c.in_err-put.ensures.full)
           (subst (λ (bytes : List ℕ). AppendsPart a b bytes) c.as_slice.ensures.value c.in_err-put.ensures.failed);
     }

@@ -9,7 +9,8 @@ use Rattle.commands.specs.declared.loading.LoadFault.TheVariants.{Refused, OutOf
 use Rattle.commands.proofs.loading.load_behind.Goals as goal
 
 -- the line that is due is one of the command's
-own-line : {C : Type 0} (b : Behind C) (asked : Asked) (table : Option (List ℕ)) (t now : ServiceState) (run : Result C LoadFault) → IsLoaded (b.begins asked table t) now run → IfErr run (HasOwnLine b)
+own-line : {C : Type 0} (b : Behind C) (asked : Asked) (table : Option (List ℕ)) (t now : ServiceState) (run : Result C LoadFault)
+    → IsLoaded (b.begins asked table t) now run → IfErr run (HasOwnLine b)
 own-line b asked table t now (Ok kept) due = tt
 own-line b asked table t now (Err (Refused line)) due = inl (record { asked = asked; table = table; service = t; is = due })
 own-line b asked table t now (Err OutOfMemory) due = tt

@@ -20,7 +20,9 @@ returns g c =
     let was = was-loaded c.in-Ok.ensures.ok c.in-Ok-load_service.ensures.exact c.in-Ok-load_service.ensures.network in
     record {
       run =
-          lines-end (by-check c.in-Ok-load_service.ensures.new was (c.requires.command _ c.in-Ok.ensures.ok)) (c.in-Ok-load_service.ensures.answered (not-error _ _)) c.run_of.result c.answer_input.result
-          c.run_of.ensures c.answer_input.ensures.ok c.answer_input.ensures.ended (stopped-also c.answer_input.result (λ had. (had.0, had.1, all_as (λ bytes b. inl b) had.2)) c.answer_input.ensures.stopped)
+          lines-end (by-check c.in-Ok-load_service.ensures.new was (c.requires.command _ c.in-Ok.ensures.ok))
+          (c.in-Ok-load_service.ensures.answered (not-error _ _)) c.run_of.result c.answer_input.result
+          c.run_of.ensures c.answer_input.ensures.ok c.answer_input.ensures.ended
+          (stopped-also c.answer_input.result (λ had. (had.0, had.1, all_as (λ bytes b. inl b) had.2)) c.answer_input.ensures.stopped)
           (taken_as (λ ls bytes w. w) (λ ls bytes b. inl b) c.answer_input.ensures.front) c.answer_input.ensures.counts;
     }

@@ -13,5 +13,6 @@ returns-in-empty c = asked-none string_bytes c.args.words.now Serve c.in-empty.l
 pub returns-in-len1-up : goal.returns-in-len1-up
 returns-in-len1-up c =
     let name = string_bytes c.name-item.result in
-    subst (λ (k : Command). AskFor k (map string_bytes c.args.words.now)) (sym (c.unwrap_or.ensures ∙ ap (λ (o : Option Command). unwrap_or o Serve) c.named.ensures ∙ ap (λ (bytes : List ℕ). unwrap_or (command_of bytes) Serve) c.as_str.ensures.value))
+    subst (λ (k : Command). AskFor k (map string_bytes c.args.words.now)) (sym (c.unwrap_or.ensures
+    ∙ ap (λ (o : Option Command). unwrap_or o Serve) c.named.ensures ∙ ap (λ (bytes : List ℕ). unwrap_or (command_of bytes) Serve) c.as_str.ensures.value))
     (asked-first string_bytes c.args.words.now c.name-item.result (unwrap_or (command_of name) Serve) c.in-len1-up.len_at_least c.name-item.is (command-asked name))

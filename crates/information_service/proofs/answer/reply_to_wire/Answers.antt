@@ -15,7 +15,9 @@ take_wire-requires-clause-ready c =
 
 pub invariant_of-service : goal.invariant_of-service
 invariant_of-service c =
-    let still = ready-behind c.args.number c.args.wire.now c.service.inside.timetable c.take_wire.new.holder c.service.inside.directory c.take_wire.new.directory c.take_wire.result c.take_wire.ensures.taken c.take_wire.ensures.unchanged c.take_wire.ensures.names c.service.invariant.in_step in
+    let still =
+    ready-behind c.args.number c.args.wire.now c.service.inside.timetable c.take_wire.new.holder c.service.inside.directory c.take_wire.new.directory
+    c.take_wire.result c.take_wire.ensures.taken c.take_wire.ensures.unchanged c.take_wire.ensures.names c.service.invariant.in_step in
     record {
       stops = rw still.network c.service.invariant.stops;
       numbers = rw still.numbers c.service.invariant.numbers;
@@ -25,4 +27,5 @@ invariant_of-service c =
 pub returns-clause-next : goal.returns-clause-next
 returns-clause-next c =
     let count = rw (← c.service.view_is) at c.requires.count in
-    rw (← c.service.view_is) (service-behind c.args.number c.args.wire.now c.service.inside.timetable c.take_wire.new.holder c.service.inside.directory c.take_wire.new.directory c.take_wire.result (omega (arith, count)) c.take_wire.ensures.taken)
+    rw (← c.service.view_is) (service-behind c.args.number c.args.wire.now c.service.inside.timetable
+    c.take_wire.new.holder c.service.inside.directory c.take_wire.new.directory c.take_wire.result (omega (arith, count)) c.take_wire.ensures.taken)

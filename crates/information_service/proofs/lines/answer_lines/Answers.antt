@@ -23,7 +23,8 @@ lines-init g c = record {
 }
 
 -- one line more is numbered within the number of bytes that may be taken
-one-fits : {old new : Reader} {left left_old left_new : Option (List ℕ)} {bytes : List ℕ} {lines : List Line} (before : ℕ) (x : Line) → IsTaken old left left_old bytes lines → before ≡ length lines → (old.ended ≡ true → left_new ≡ left_old)
+one-fits : {old new : Reader} {left left_old left_new : Option (List ℕ)} {bytes : List ℕ} {lines : List Line} (before : ℕ) (x : Line)
+    → IsTaken old left left_old bytes lines → before ≡ length lines → (old.ended ≡ true → left_new ≡ left_old)
     → GivesNext old new left_old left_new (x ∷ []) → before + 1 ≤ new.budget
 one-fits {new = new} {lines = lines} before x taken is same gives =
     let all = taken-more taken same gives in
@@ -74,20 +75,23 @@ pub overflow_add-before : goal.overflow_add-before
 overflow_add-before g c =
     let inv = c.lines.invariant in
     let gives = c.next.follows.holds-at-none.0 in
-    let is : next_lines c.next.result ≡ given_line c.match-next.line ∷ [] = elim c.match-next.branch [ in-Line w ↦ rw (w.in-Line.is, w.line-is) refl | in-LongLine w ↦ rw (w.in-LongLine.is, w.line-is) refl ] in
+    let is : next_lines c.next.result ≡ given_line c.match-next.line ∷ [] =
+    elim c.match-next.branch [ in-Line w ↦ rw (w.in-Line.is, w.line-is) refl | in-LongLine w ↦ rw (w.in-LongLine.is, w.line-is) refl ] in
     omega (arith, one-fits c.lines.before (given_line c.match-next.line) inv.answered.2.taken inv.answered.3 (λ e. ap g.S.Source.left (c.next.ensures.ended e)) (rw is at gives), gives.1.budget, inv.budget, c.requires.budget)
 
 pub answer_line-requires-clause-count : goal.answer_line-requires-clause-count
 answer_line-requires-clause-count g c =
     let inv = c.lines.invariant in
     let gives = c.next.follows.holds-at-none.0 in
-    let is : next_lines c.next.result ≡ given_line c.match-next.line ∷ [] = elim c.match-next.branch [ in-Line w ↦ rw (w.in-Line.is, w.line-is) refl | in-LongLine w ↦ rw (w.in-LongLine.is, w.line-is) refl ] in
+    let is : next_lines c.next.result ≡ given_line c.match-next.line ∷ [] =
+    elim c.match-next.branch [ in-Line w ↦ rw (w.in-Line.is, w.line-is) refl | in-LongLine w ↦ rw (w.in-LongLine.is, w.line-is) refl ] in
     omega (arith, inv.count, one-fits c.lines.before (given_line c.match-next.line) inv.answered.2.taken inv.answered.3 (λ e. ap g.S.Source.left (c.next.ensures.ended e)) (rw is at gives), gives.1.budget, inv.budget, c.requires.budget)
 
 pub answer_line-requires-clause-few : goal.answer_line-requires-clause-few
 answer_line-requires-clause-few g c = elim c.match-next.branch [
   | in-Line w ↦
-      let short = next_short c.next.result w.in-Line.bytes w.in-Line.is c.lines.reader c.next.follows.lender-at-none (g.S.Source.left c.lines.input) (g.S.Source.left c.next.new.source) c.next.follows.holds-at-none.0 in
+      let short = next_short c.next.result w.in-Line.bytes w.in-Line.is c.lines.reader c.next.follows.lender-at-none
+      (g.S.Source.left c.lines.input) (g.S.Source.left c.next.new.source) c.next.follows.holds-at-none.0 in
       rw w.line-is (omega (arith, short))
   | in-LongLine w ↦ rw w.line-is tt
 ]
@@ -96,7 +100,8 @@ pub overflow_add-before-in-lines : goal.overflow_add-before-in-lines
 overflow_add-before-in-lines g c =
     let inv = c.lines.invariant in
     let gives = c.next.follows.holds-at-none.0 in
-    let is : next_lines c.next.result ≡ given_line c.match-next.line ∷ [] = elim c.match-next.branch [ in-Line w ↦ rw (w.in-Line.is, w.line-is) refl | in-LongLine w ↦ rw (w.in-LongLine.is, w.line-is) refl ] in
+    let is : next_lines c.next.result ≡ given_line c.match-next.line ∷ [] =
+    elim c.match-next.branch [ in-Line w ↦ rw (w.in-Line.is, w.line-is) refl | in-LongLine w ↦ rw (w.in-LongLine.is, w.line-is) refl ] in
     omega (arith, one-fits c.lines.before (given_line c.match-next.line) inv.answered.2.taken inv.answered.3 (λ e. ap g.S.Source.left (c.next.ensures.ended e)) (rw is at gives), gives.1.budget, inv.budget, c.requires.budget)
 
 pub lines-preserved : goal.lines-preserved

@@ -6,7 +6,8 @@ use Rattle.information_service.proofs.lines.answer_lines.Given as goal
 abbrev pub invariant-lines : goal.invariant-lines
 invariant-lines g l = record {
   answered : (bytes : List ℕ) × (lines : List Line)
-      × AreAnswered g.T.AnswerLines.output.answers l.initial.service l.initial.kept l.service l.kept l.reader (g.S.Source.left l.initial.input) (g.S.Source.left l.input) (g.K.Sink.written l.initial.out) (g.K.Sink.written l.out) bytes lines
+      × AreAnswered g.T.AnswerLines.output.answers l.initial.service l.initial.kept l.service l.kept l.reader
+      (g.S.Source.left l.initial.input) (g.S.Source.left l.input) (g.K.Sink.written l.initial.out) (g.K.Sink.written l.out) bytes lines
       × (l.before ≡ length lines);
   count : l.service.count ≤ l.before;
   budget : l.reader.budget ≡ l.initial.reader.budget;

@@ -66,7 +66,8 @@ returns-in_err-rows-clause-front g c =
     let count : c.count-train-end.result ≡ length t.state.trains =
     c.count-train-end.ensures ∙ ap (λ (s : State). length s.trains) (c.trains.ensures.trains ∙ c.graph.ensures.state) ∙ ap (λ (s : ServiceState). length s.state.trains) c.service.view_is in
     let few : n ≤ length t.state.trains = omega (arith, count, c.loop-train-test.true) in
-    handed_on c.from_residual-in_err-rows.result OutOfMemory _ c.from_residual-in_err-rows.ensures.1 (table_front t.names t.network t.state w0 w1 n (length t.state.trains) few (front_all memory_not_write w0 w1 (shown t n) c.loop-train.invariant.rows))
+    handed_on c.from_residual-in_err-rows.result OutOfMemory _ c.from_residual-in_err-rows.ensures.1
+    (table_front t.names t.network t.state w0 w1 n (length t.state.trains) few (front_all memory_not_write w0 w1 (shown t n) c.loop-train.invariant.rows))
 
 pub returns-in_err-put-2-clause-front : goal.returns-in_err-put-2-clause-front
 unfolding table

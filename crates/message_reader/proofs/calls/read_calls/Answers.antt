@@ -12,7 +12,8 @@ use Rattle.message_reader.proofs.calls.read_calls.Goals as goal
 pub returns-in_err-call-clause-exact : goal.returns-in_err-call-clause-exact
 returns-in_err-call-clause-exact c =
     let p = err_from_is_err_and c.from_residual.result c.from_residual.ensures.1 in
-    rw (p.1, p.2) (calls_end (bad_in c.in_err-call.field-0.0) c.loop-value.calls.items c.args.values.now c.loop-value.value-index c.value-item.result (calls_of (items_view c.args.values.now)) c.loop-value-test.true c.value-item.is c.in_err-call.ensures.exact c.loop-value.invariant.0)
+    rw (p.1, p.2) (calls_end (bad_in c.in_err-call.field-0.0) c.loop-value.calls.items c.args.values.now c.loop-value.value-index c.value-item.result
+    (calls_of (items_view c.args.values.now)) c.loop-value-test.true c.value-item.is c.in_err-call.ensures.exact c.loop-value.invariant.0)
 
 pub loop-value-preserved : goal.loop-value-preserved
 loop-value-preserved c =
@@ -21,7 +22,8 @@ loop-value-preserved c =
     let e = c.in_ok-push.ensures.items in
     let longer : length (front ++ call ∷ []) ≡ length front + 1 = length-append front (call ∷ []) in
     rw e (
-      calls_go_on front c.args.values.now c.loop-value.value-index c.value-item.result call (calls_of (items_view c.args.values.now)) c.loop-value-test.true c.value-item.is c.in_ok-call.ensures.exact c.loop-value.invariant.0,
+      calls_go_on front c.args.values.now c.loop-value.value-index c.value-item.result call
+          (calls_of (items_view c.args.values.now)) c.loop-value-test.true c.value-item.is c.in_ok-call.ensures.exact c.loop-value.invariant.0,
       All-push IsWireCall front call c.loop-value.invariant.1 c.in_ok-call.ensures.kept,
       omega arith,
     )

@@ -11,7 +11,8 @@ pub returns-in_err-call-clause-exact : goal.returns-in_err-call-clause-exact
 returns-in_err-call-clause-exact c =
     let p = err_from_is_err_and c.from_residual.result c.from_residual.ensures.1 in
     rw (p.1, p.2) (
-    new_calls_end c.in_err-call.field-0.0 c.args.dir.now c.args.day c.loop-wire_call.calls.items c.args.wire_calls.now c.loop-wire_call.wire_call-index c.wire_call-item.result (new_calls c.args.dir.now c.args.day c.args.wire_calls.now)
+    new_calls_end c.in_err-call.field-0.0 c.args.dir.now c.args.day c.loop-wire_call.calls.items
+    c.args.wire_calls.now c.loop-wire_call.wire_call-index c.wire_call-item.result (new_calls c.args.dir.now c.args.day c.args.wire_calls.now)
     c.loop-wire_call-test.true c.wire_call-item.is c.in_err-call.ensures.exact c.loop-wire_call.invariant.0
     )
 

@@ -8,4 +8,5 @@ reply_to_asked-requires g c =
 
 pub returns-in-Some-clause-entry : goal.returns-in-Some-clause-entry
 returns-in-Some-clause-entry g c =
-    new-entry g.H.Opening.opening c.args.publisher.now c.args.number c.count-after.result c.in-Some.query c.args.asked.now c.state.result.now c.in_ok-reply.reply c.in-Some.is c.count-after.ensures c.state.ensures c.in_ok-reply.ensures.reply
+    new-entry g.H.Opening.opening c.args.publisher.now c.args.number c.count-after.result
+    c.in-Some.query c.args.asked.now c.state.result.now c.in_ok-reply.reply c.in-Some.is c.count-after.ensures c.state.ensures c.in_ok-reply.ensures.reply

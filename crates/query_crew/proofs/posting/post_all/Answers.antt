@@ -19,7 +19,8 @@ pub loop-i-preserved : goal.loop-i-preserved
 loop-i-preserved g c =
     let inv = c.loop-i.invariant in
     let line = c.line-item.result in
-    let rest = drop_more c.args.window.now.lines.now c.loop-i.i line (omega (arith, c.loop-i-test.true)) ∙ ap (λ (x : WindowLine). x ∷ drop (c.loop-i.i + 1) c.args.window.now.lines.now) (sym c.line-item.is) in
+    let rest = drop_more c.args.window.now.lines.now c.loop-i.i line (omega (arith, c.loop-i-test.true))
+    ∙ ap (λ (x : WindowLine). x ∷ drop (c.loop-i.i + 1) c.args.window.now.lines.now) (sym c.line-item.is) in
     let first = inv.begun c.requires.ready.board.0 c.requires.ready.board.1 in
     record {
       begun = λ s h.

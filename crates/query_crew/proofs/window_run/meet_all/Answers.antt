@@ -22,7 +22,8 @@ loop-i-preserved g c =
     record {
       answered = λ start later worked.
           let so_far = inv.answered start later worked in (
-            λ k d le far. at-put (λ z. z.is_whole ≡ true → HasWorked o start z.viewer first k n lines z.answers.items) all i k y d lt (λ e. absurd (omega (arith, e, le))) (λ ne. so_far.0 k d (omega (arith, le)) far),
+            λ k d le far. at-put (λ z. z.is_whole ≡ true → HasWorked o start z.viewer first k n lines z.answers.items) all i k y d lt
+                (λ e. absurd (omega (arith, e, le))) (λ ne. so_far.0 k d (omega (arith, le)) far),
             λ k d near. at-put (λ z. HasAnsweredAll o posted (length start) first k n lines z.answers.items) all i k y d lt
                 (λ e. subst (λ (j : ℕ). HasAnsweredAll o posted (length start) first j n lines y.answers.items) (sym e)
                 (c.meet_worker.ensures.answered c.if-not-meet_worker.false start later (λ whole. so_far.0 i x (omega arith) (omega (arith, lt, inv.kept.count)) whole)))

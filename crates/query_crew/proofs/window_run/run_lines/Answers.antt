@@ -17,14 +17,16 @@ join_replies-requires-clause-covered g c = λ place line d at.
     let s = c.requires.ready.board.0 in
     let p = c.in_ok-post_and_answer.ensures.posted s c.requires.ready.board.1 in
     let same = c.in_ok-post_and_answer.ensures.kept.count in
-    rw same (all-covered {answers = λ k. (get_or c.post_and_answer.new.all k d).answers.items} c.requires.some (λ k l. c.in_ok-post_and_answer.ensures.answered k d l) s c.post_and_answer.new.replies.items place line (own-replies c.new-own.ensures.items p) at)
+    rw same (all-covered {answers = λ k. (get_or c.post_and_answer.new.all k d).answers.items} c.requires.some
+    (λ k l. c.in_ok-post_and_answer.ensures.answered k d l) s c.post_and_answer.new.replies.items place line (own-replies c.new-own.ensures.items p) at)
 
 pub returns-clause-replies : goal.returns-clause-replies
 returns-clause-replies g c =
     let d = some-in c.args.all.now c.requires.some in
     let same = c.in_ok-post_and_answer.ensures.kept.count in
     both c.join_replies.result c.join_replies.ensures.one_each c.join_replies.ensures.each (λ replies count joined nw names st before window stands first_is lines_are.
-    window-answered {answers = λ k. (get_or c.post_and_answer.new.all k d).answers.items} nw names st c.args.directory.now before window c.requires.some (λ k l. c.in_ok-post_and_answer.ensures.answered k d l) stands first_is lines_are c.new-own.ensures.items
+    window-answered {answers = λ k. (get_or c.post_and_answer.new.all k d).answers.items} nw names st c.args.directory.now before window c.requires.some
+    (λ k l. c.in_ok-post_and_answer.ensures.answered k d l) stands first_is lines_are c.new-own.ensures.items
     (c.in_ok-post_and_answer.ensures.posted (service_after nw names st before) stands) count (rw same at joined d))
 
 pub returns-clause-stands : goal.returns-clause-stands

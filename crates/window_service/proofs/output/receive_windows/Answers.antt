@@ -7,15 +7,18 @@ use Rattle.window_service.proofs.output.receive_windows.Goals as goal
 
 pub returns-clause-all : goal.returns-clause-all
 returns-clause-all g c =
-    on_ok_weaker c.answer_windows-run.result (λ all. received-whole c.args.budget (rw c.in_ok-reader.ensures at c.answer_windows-run.ensures.budget) (rw c.in_ok-crew.ensures.names at all c.args.plan.timetable c.requires.opening)) c.answer_windows-run.ensures.all
+    on_ok_weaker c.answer_windows-run.result (λ all. received-whole c.args.budget (rw c.in_ok-reader.ensures at c.answer_windows-run.ensures.budget)
+    (rw c.in_ok-crew.ensures.names at all c.args.plan.timetable c.requires.opening)) c.answer_windows-run.ensures.all
 
 pub returns-clause-stopped : goal.returns-clause-stopped
 returns-clause-stopped g c =
-    IfErr-weaker c.answer_windows-run.result _ _ (λ f had. where_also _ _ f (λ h. received-in-part (rw c.in_ok-crew.ensures.names at h c.args.plan.timetable c.requires.opening)) had) c.answer_windows-run.ensures.stopped
+    IfErr-weaker c.answer_windows-run.result _ _ (λ f had. where_also _ _ f
+    (λ h. received-in-part (rw c.in_ok-crew.ensures.names at h c.args.plan.timetable c.requires.opening)) had) c.answer_windows-run.ensures.stopped
 
 pub returns-clause-begun : goal.returns-clause-begun
 returns-clause-begun g c =
-    IfErr-weaker c.answer_windows-run.result _ _ (λ f h. received-at-first c.args.budget (rw c.in_ok-reader.ensures at c.answer_windows-run.ensures.budget) (rw c.in_ok-crew.ensures.names at h c.args.plan.timetable c.requires.opening)) c.answer_windows-run.ensures.begun
+    IfErr-weaker c.answer_windows-run.result _ _ (λ f h. received-at-first c.args.budget (rw c.in_ok-reader.ensures at c.answer_windows-run.ensures.budget)
+    (rw c.in_ok-crew.ensures.names at h c.args.plan.timetable c.requires.opening)) c.answer_windows-run.ensures.begun
 
 pub returns-in_err-reader-clause-begun : goal.returns-in_err-reader-clause-begun
 returns-in_err-reader-clause-begun g c = handed_on c.from_residual.result OutOfMemory _ c.from_residual.ensures.1 (nothing-received memory_not_write)

@@ -13,7 +13,8 @@ returns-clause-answered g c =
       one = record {
         replies = replies;
         are = c.in_ok-replies.ensures.replies nw names st before window stands first_is lines_are;
-        received = subst (λ (ns : Names). g.T.ReceiveReplies.receives c.args.out.now c.receive.new.out ns replies) (sym (ap (λ (s : ServiceState). s.names) now.is)) (rw (c.as_slice.ensures.value, c.directory.ensures) at got);
+        received = subst (λ (ns : Names). g.T.ReceiveReplies.receives c.args.out.now c.receive.new.out ns replies)
+            (sym (ap (λ (s : ServiceState). s.names) now.is)) (rw (c.as_slice.ensures.value, c.directory.ensures) at got);
       };
     })
     c.receive.ensures.ok
@@ -29,7 +30,8 @@ returns-clause-begun g c =
     inr (record {
       replies = replies;
       are = c.in_ok-replies.ensures.replies nw names st before window stands first_is lines_are;
-      received = subst (λ (ns : Names). g.T.ReceiveReplies.begins (f ≡ WriteFault) c.args.out.now c.receive.new.out ns replies) (sym (ap (λ (s : ServiceState). s.names) now.is)) (rw (c.as_slice.ensures.value, c.directory.ensures) at began);
+      received = subst (λ (ns : Names). g.T.ReceiveReplies.begins (f ≡ WriteFault) c.args.out.now c.receive.new.out ns replies)
+          (sym (ap (λ (s : ServiceState). s.names) now.is)) (rw (c.as_slice.ensures.value, c.directory.ensures) at began);
     }))
     c.receive.ensures.front
 

@@ -100,13 +100,16 @@ returns-in_err-end-clause-begun g c =
     let run = c.windows.invariant.run in
     let got = c.in_err-end.ensures.taken in
     let f = c.in_err-end.field-0.0 in
-    handed_on c.from_residual-in_err-end.result f _ c.from_residual-in_err-end.ensures.1 (λ t is. begun-before run.2 got.1 (ended-same g.S.Source.left c.in_err-end.ensures.ended) (run.3 t is) (not-write _ _ _ _ f got.3))
+    handed_on c.from_residual-in_err-end.result f _ c.from_residual-in_err-end.ensures.1
+    (λ t is. begun-before run.2 got.1 (ended-same g.S.Source.left c.in_err-end.ensures.ended) (run.3 t is) (not-write _ _ _ _ f got.3))
 
 pub returns-in_err-end-clause-reads : goal.returns-in_err-end-clause-reads
-returns-in_err-end-clause-reads g c = same-reads WindowEnd c.from_residual-in_err-end.result c.in_err-end.field-0.0 _ _ _ c.from_residual-in_err-end.ensures.1 c.windows.invariant.read c.in_err-end.ensures.reads
+returns-in_err-end-clause-reads g c = same-reads WindowEnd
+    c.from_residual-in_err-end.result c.in_err-end.field-0.0 _ _ _ c.from_residual-in_err-end.ensures.1 c.windows.invariant.read c.in_err-end.ensures.reads
 
 pub returns-in_err-end-clause-writes : goal.returns-in_err-end-clause-writes
-returns-in_err-end-clause-writes g c = same-writes _ _ _ _ c.from_residual-in_err-end.result c.in_err-end.field-0.0 _ _ c.from_residual-in_err-end.ensures.1 c.windows.invariant.write c.in_err-end.ensures.taken.3
+returns-in_err-end-clause-writes g c = same-writes _ _
+    _ _ c.from_residual-in_err-end.result c.in_err-end.field-0.0 _ _ c.from_residual-in_err-end.ensures.1 c.windows.invariant.write c.in_err-end.ensures.taken.3
 
 pub returns-in_err-end-clause-full : goal.returns-in_err-end-clause-full
 returns-in_err-end-clause-full g c = λ is.

@@ -16,4 +16,5 @@ returns-clause-answer c =
     let shown : c.in_ok-reply.reply ≡ reply_to_found line t.count asked.day found rides =
     c.in_ok-reply.ensures ∙ ap (λ n. reply_to_found line n asked.day found c.rides.result.now) c.count-after.ensures ∙ ap (reply_to_found line t.count asked.day found) c.rides.ensures in
     subst (λ (r : Reply). IsCheckedReply t.network t.state t.count line asked.day asked.query r cert.reached) (sym shown)
-    (checked-reply t.network t.state asked.query t.count line asked.day rides found cert c.earliest-found.ensures.answer c.in_ok-cert.ensures.good c.in_ok-cert.ensures.arrives c.in_ok-cert.ensures.rides c.in_ok-cert.ensures.since)
+    (checked-reply t.network t.state asked.query t.count line asked.day rides
+    found cert c.earliest-found.ensures.answer c.in_ok-cert.ensures.good c.in_ok-cert.ensures.arrives c.in_ok-cert.ensures.rides c.in_ok-cert.ensures.since)

@@ -18,4 +18,5 @@ returns-in-Ok-clause-ready g c =
 
 pub returns-in-Ok-clause-viewers : goal.returns-in-Ok-clause-viewers
 returns-in-Ok-clause-viewers g c =
-    viewers-given c.args.viewers c.args.plan.workers c.max-seats.result (vec_len c.truncate.new.self) c.in-Ok.workers.items c.in-Ok.ensures.viewers (omega (arith, c.in-Ok.ensures.count, c.in-Ok.workers.ok.0)) (search rules) (search rules)
+    viewers-given c.args.viewers c.args.plan.workers c.max-seats.result (vec_len c.truncate.new.self) c.in-Ok.workers.items c.in-Ok.ensures.viewers
+    (omega (arith, c.in-Ok.ensures.count, c.in-Ok.workers.ok.0)) (search rules) (search rules)

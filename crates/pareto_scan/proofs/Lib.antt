@@ -1,0 +1,10 @@
+mod RiderRows
+mod LevelLists
+mod BegunLevels
+mod Stepped
+mod Kept
+mod KeptSteps
+mod KeptEnds
+mod WaySteps
+mod WayHome
+mod BestPlans

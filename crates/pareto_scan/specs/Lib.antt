@@ -1,0 +1,5 @@
+pub mod Riders
+pub mod Levels
+pub mod Ridden
+pub mod Traced
+pub mod FrontRoom

@@ -1,0 +1,2 @@
+pub mod PlannedQueries
+pub mod PlannedLines
