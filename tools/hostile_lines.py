@@ -6,7 +6,7 @@ from dataclasses import dataclass, field
 
 from plain_draw import SERVED
 
-COMMANDS = "times", "serve", *(command for command in ("check", "plans") if command in SERVED)
+COMMANDS = "times", "serve", *(command for command in ("check", "plans", "watch") if command in SERVED)
 BLOCK = 1 << 20
 LONG = 65_536
 MILLION = 1_000_000
@@ -79,6 +79,12 @@ def same(members, count):
     """The same reply to so many lines."""
     before, after = reply(987_654_321, members).split(b"987654321")
     return (b"%b%d%b" % (before, line, after) for line in range(1, count + 1))
+
+
+def alerts(line, members, journeys):
+    """The lines that tell this of each of the journeys 1, 2 and so on behind the reply to the line of this number."""
+    before, after = reply(line, {"alert": 987_654_321} | members).split(b"987654321")
+    return (b"%b%d%b" % (before, journey, after) for journey in range(1, journeys + 1))
 
 
 def bad(word):
@@ -318,6 +324,60 @@ def planned(n):
     return Case(input=[(line, n // 100)], output=[same(found, n // 100)], command="plans", words=["--rides=8"])
 
 
+MOST_WATCHED = 10_000
+FROM_A_TO_C = line_of("query", client="q", **FROM_A_TO_D | {"to": "C"}) + b"\n"
+
+
+def from_a_to_c(is_watched):
+    """The reply to a query from A to C, which T1 alone answers."""
+    (first, _), alight = rides_from_a_to_d(), {"call": 2, "stop": "C", "time": "09:00:00"}
+    return {"after": 0, "arrives": "09:00:00", "rides": [first | {"alight": alight}], "watched": is_watched}
+
+
+def late_at_c(time):
+    """A forecast for T1 at C."""
+    return line_of("forecast", trip="T1", date=DAY, call=2, event="arr", time=time) + b"\n"
+
+
+def asked_of_t1(asked, **others):
+    """The case of so many queries that T1 alone answers; then it is late, and cancelled."""
+    number, line = min(asked, MOST_WATCHED), asked + 1
+    late, cancelled = late_at_c("09:01:00"), line_of("cancel", trip="T1", date=DAY, **{"from": 0, "to": 2}) + b"\n"
+    output = [
+        same(from_a_to_c(True), number),
+        *(reply(place, from_a_to_c(False)) for place in range(number + 1, line)),
+        reply(line, {"accepted": 1, "changed": 1}), alerts(line, {"arrives": "09:01:00"}, number),
+        reply(line + 1, {"accepted": 2, "changed": 4}), alerts(line + 1, {"broken": 0}, number),
+    ]  # fmt: skip
+    return Case(input=[(FROM_A_TO_C, asked), late, cancelled], output=output, command="watch", **others)
+
+
+def watches():
+    """One journey more than can be watched, and all of them on one train."""
+    if "watch" in COMMANDS:
+        yield asked_of_t1(MOST_WATCHED + 1, name="one journey more than can be watched, all on one train")
+
+
+def watched(n):
+    """Journeys on one train, as many at the greater size as can be watched."""
+    return asked_of_t1(n // 100)
+
+
+def told_often(n):
+    """Messages behind each of which something is told of a thousand journeys."""
+    journeys, times = 1_000, ("09:01:00", "09:02:00")
+
+    def replies():
+        for number in range(n // 10_000):
+            line = journeys + 1 + number
+            yield reply(line, {"accepted": number + 1, "changed": 1})
+            yield from alerts(line, {"arrives": times[number % 2]}, journeys)
+
+    lines = (late_at_c(times[number % 2]) for number in range(n // 10_000))
+    output = [same(from_a_to_c(True), journeys), replies()]
+    return Case(input=[(FROM_A_TO_C, journeys), lines], output=output, command="watch")
+
+
 def lines_of(line, every, answer):
     """The case of a size: the same line, one for so many of its units."""
     return lambda n: Case(input=[(line, n // every)], output=[same(answer, n // every)])
@@ -353,3 +413,6 @@ def growing_lines():
     yield "queries of clients of one worker", clients
     if "plans" in COMMANDS:
         yield "queries of plans", planned
+    if "watch" in COMMANDS:
+        yield "journeys that are watched on one train", watched
+        yield "messages that each tell something of a thousand journeys", told_often

@@ -8,6 +8,7 @@ there most times, and trains that wait for one another.
 
 import itertools
 import json
+import math
 from collections import Counter
 from pathlib import Path
 from random import Random
@@ -16,6 +17,7 @@ from plain_claims import changed, right_claim
 from plain_feed import WEEKDAYS, time_text
 from plain_lines import OF_VERSION_2
 from plain_program import place_of
+from plain_watch import events_of
 from plain_zone import DAY
 
 SERVED = (Path(__file__).resolve().parent.parent / "rows" / "served").read_text().split()
@@ -163,11 +165,28 @@ class Waves(Maker):
             time += standing + running + self.unit * steps(2)
 
 
-class Messages:
-    """Draws lines in the present state of a plain program, for a few connections and their trains."""
+class Places:
+    """What Messages needs to know of a feed that is there already."""
 
-    def __init__(self, maker, plain):
+    def __init__(self, random, plain):
+        self.random, self.pick, self.options = random, random.choice, plain.options
+        self.unit = random.choice((60, 60, 20))
+        feed = plain.feed
+        self.stops = [place for place in feed.stops if feed.is_stop(place)]
+        stations = [place for place in feed.stops if feed.place_type(place) == "1"]
+        self.hubs = {hub: [stop for stop in self.stops if feed.station(stop) == hub] for hub in stations}
+        self.routes = sorted(feed.routes) or [""]
+
+
+class Messages:
+    """Draws lines in the present state of a plain program, for a few connections and their trains.
+
+    Where journeys are watched, most of these connections are theirs.
+    """
+
+    def __init__(self, maker, plain, watching=None):
         self.random, self.pick, self.maker, self.plain = maker.random, maker.pick, maker, plain
+        self.watching = watching
         self.pairs = [self.pair() for _ in range(5)]
         self.drawn, self.claims = [], []
 
@@ -181,8 +200,10 @@ class Messages:
             draws += kinds if feature in SERVED else []
         draws += [self.claim] * 16 if with_claims else []
         draws += [self.query] * 8 + [self.far_query] * 16 if with_more_queries else []
+        draws += [self.far_query] * 4 + [self.value_in_time] * 8 + [self.within] * 4 if self.watching else []
+        draws += [self.correct] * 4 + [self.withdraw] * 4 if self.watching and "corrections" in SERVED else []
         for _ in range(number):
-            if self.pick(range(8)) == 0:
+            if self.pick(range(2 if self.watching else 8)) == 0:
                 self.pairs[self.pick(range(5))] = self.pair()
             message = self.pick(draws)()
             yield json.dumps({"v": self.version(message)} | message)
@@ -194,7 +215,13 @@ class Messages:
         return self.pick((1, *[2] * 15) if message["type"] in OF_VERSION_2 else (1, 2))
 
     def pair(self):
-        """An arrival and a departure: a planned connection, one that can be kept, or any."""
+        """An arrival and a departure: of a watched journey, a planned connection, one that can be kept, or any."""
+        if self.watching and self.watching.watched and self.pick(range(8)):
+            watched = self.watching.watched
+            broken = [journey for journey in watched if "broken" in journey.standing]
+            found = [*connections_of(self.plain, self.pick(self.pick((watched, watched[-3:], broken or watched))))]
+            if found:
+                return self.pick(found)
         live = self.plain.live_events()
         arrivals, departures = ([event for event in live if event.kind == kind] for kind in ("arr", "dep"))
         planned = [(u, v) for v in departures for u in self.plain.planned[v] if u.live]
@@ -205,7 +232,7 @@ class Messages:
         return self.pick(self.pick((planned, planned, planned, newest, near, others)) or near or others)
 
     def event(self):
-        """An event of the watched trains, which may be cancelled, or any live one."""
+        """An event of the trains of the pairs, which may be cancelled, or any live one."""
         train = self.pick(self.pick(self.pairs)).train
         return self.pick(self.pick((train.events, train.events, train.events, self.plain.live_events())))
 
@@ -226,16 +253,42 @@ class Messages:
         kind = self.pick(("report", *["forecast"] * 4))
         return self.named(event.name() | {"type": kind, "time": event.day_time(time)})
 
+    def value_in_time(self):
+        """A report or forecast by which a ride of a watched journey can just be taken, or just not, where it stays so.
+
+        It is for the departure, or most times for the arrival before it.
+        """
+        found = [(journey, number) for journey in self.watching.watched for number in range(len(journey.rides))]
+        if not found:
+            return self.value()
+        journey, number = self.pick(self.pick((found, found[-6:])))
+        events = [events_of(self.plain, *ride) for ride in journey.rides[max(0, number - 1) : number + 1]]
+        if [] in events:
+            return self.value()
+        arrival, event, times = events[0][-1], events[-1][0], self.plain.times
+        if number == 0:
+            time = journey.query.first_boarding(event.stop)
+        else:
+            time = journey.query.after_change(arrival.stop, times[arrival], event.stop)
+        if time == math.inf:
+            return self.value()
+        if number and self.pick(range(4)):
+            event, time = arrival, times[arrival] + times[event] - time
+        time = max(event.train.base, time + self.pick((0, 0, 1, 1, -1, -1, 60, -60)))
+        self.drawn.append((event, time))
+        kind = self.pick(("report", "forecast", "forecast"))
+        return self.named(event.name() | {"type": kind, "time": event.day_time(time)})
+
     def event_with(self, value):
-        """An event that has a report or a forecast: of a watched train, of one that has several, or any.
+        """An event that has a report or a forecast: of a train of the pairs, of one that has several, or any.
 
         At times it has none, on such a train or on any.
         """
         events = [event for train in self.plain.trains for event in train.events if event.live]
         having = [event for event in events if getattr(event, value) is not None]
         number = Counter(event.train.number for event in having)
-        watched = {end.train.number for pair in self.pairs for end in pair}
-        near = [event for event in having if event.train.number in watched]
+        numbers = {end.train.number for pair in self.pairs for end in pair}
+        near = [event for event in having if event.train.number in numbers]
         several = [event for event in having if number[event.train.number] > 1]
         beside = [event for event in events if event.train.number in number and event not in having]
         return self.pick(self.pick((*[near or having] * 3, *[several or having] * 4, beside, [])) or [self.event()])
@@ -257,7 +310,7 @@ class Messages:
         return {"type": self.pick(("keep", "drop", "rule")), "feeder": feeder, "train": train}
 
     def stretch(self):
-        """The departure of a call of a watched train and the arrival of a later one, at times of any."""
+        """The departure of a call of a train of the pairs and the arrival of a later one, at times of any."""
         train = self.event().train
         departures, arrivals = ([event for event in train.events if event.kind == kind] for kind in ("dep", "arr"))
         legs = [*zip(departures, arrivals[1:])]
@@ -273,11 +326,26 @@ class Messages:
     def reroute(self):
         """Of a few stretches, one across a cancelled part goes before the others."""
         stretches = [self.stretch() for _ in range(6)]
-        u, v = next((ends for ends in stretches if is_cut(*ends)), stretches[0])
+        return self.reroute_between(*next((ends for ends in stretches if is_cut(*ends)), stretches[0]))
+
+    def reroute_between(self, u, v):
+        """A rerouting from one call to another, by way of up to three."""
         steps = range(max(1, (v.scheduled - u.scheduled) // self.maker.unit + 1))
         places = sorted(self.pick(steps) for _ in range(2 * self.pick((0, 1, 1, 2, 3))))
         via = self.calls([u.scheduled + self.maker.unit * place for place in places], u.train.base)
         return self.named(u.train.name() | {"type": "reroute", "from": u.label, "to": v.label, "via": via})
+
+    def within(self):
+        """Other calls within a ride of a watched journey, or a part of it without its ends that is cancelled."""
+        rides = (events_of(self.plain, *ride) for journey in self.watching.watched for ride in journey.rides)
+        long = [events for events in rides if len(events) > 4]
+        if not long or self.pick(range(8)) == 0:
+            return self.cancel()
+        events = self.pick(long)
+        if self.pick((True, False)):
+            return self.reroute_between(events[0], events[-1])
+        u, v = events[2], events[-3]
+        return self.named(u.train.name() | {"type": "cancel", "from": u.label, "to": v.label})
 
     def extra(self):
         """A train near another one, with a new name most times. Its first arrival and its last departure are any."""
@@ -318,7 +386,7 @@ class Messages:
         return claim
 
     def ride(self):
-        """A departure and a later arrival of a watched train, across a cancelled part where there is one."""
+        """A departure and a later arrival of a train of the pairs, across a cancelled part where there is one."""
         trains = {id(end.train): end.train for pair in self.pairs for end in pair}
         stretches = (itertools.combinations(train.events, 2) for train in trains.values())
         cut = [(u, v) for u, v in itertools.chain(*stretches) if (u.kind, v.kind) == ("dep", "arr") and is_cut(u, v)]
@@ -336,6 +404,17 @@ class Messages:
         """The message, at times with a name that is not known."""
         other = self.pick((*UNKNOWN, *[{}] * 150))
         return message | other if other.keys() <= message.keys() else message
+
+
+def connections_of(plain, journey):
+    """The connections of a watched journey, each an arrival and a departure that its trains still have.
+
+    A journey of one ride has its arrival and its departure.
+    """
+    for before, ride in [*itertools.pairwise(journey.rides)] or zip(journey.rides, journey.rides):
+        u, v = plain.event("arr", *before[:2], before[3]), plain.event("dep", *ride[:3])
+        if u and v:
+            yield u, v
 
 
 def far_query(random, rides):

@@ -12,6 +12,7 @@ from plain_certificates import Checked
 from plain_feed import seconds_of, time_text
 from plain_journeys import Question, shown
 from plain_lines import Bad
+from plain_watch import Watching
 
 USUAL_RIDES = 4
 
@@ -107,5 +108,5 @@ class Planned:
 
 def answering(command, plain):
     """What answers the lines of a command over a plain program."""
-    answers = {"check": Checked, "plans": Planned}.get(command)
+    answers = {"check": Checked, "plans": Planned, "watch": Watching}.get(command)
     return answers(plain) if answers else plain

@@ -65,6 +65,7 @@ pub record IsChecked (t : ServiceState) (line : ℕ) (x : Line) (text : List ℕ
 -- a reply to each line, and nothing else
 abbrev pub checked_output : LineOutput (Unit {0})
 checked_output = record {
+  fits = λ t kept. Unit {0};
   begins = λ t kept. [];
   answers = λ t kept number x text now kept_now. IsChecked t number x text now;
   ends = λ t kept. [];

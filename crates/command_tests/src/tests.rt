@@ -4,13 +4,14 @@
 mod example_feed;
 mod exhaustion;
 mod failing_calls;
+mod full_watch;
 mod held_runs;
 mod in_memory;
 mod limited;
+mod line_commands;
 mod refused_memory;
 mod refused_posts;
 mod runs;
-mod small_commands;
 mod threads;
 
 use crate::tests::example_feed::TABLES;

@@ -3,7 +3,7 @@ use Rattle.std.specs.Prelude.{◌≡◌, List, [], ◌∷◌, Some, codes}
 use Rattle.clap.specs.Words.{Text}
 use Rattle.service_zones.specs.Zones.{utc}
 use Rattle.command_words.specs.declared.words.Command.{Command}
-use Rattle.command_words.specs.declared.words.Command.TheVariants.{Times, Serve, Check, Plans}
+use Rattle.command_words.specs.declared.words.Command.TheVariants.{Times, Serve, Check, Plans, Watch}
 use Rattle.command_words.specs.GenWords.{default_options}
 use Rattle.command_words.specs.Words.{Asked, asked_of}
 
@@ -30,3 +30,4 @@ DefaultsAreAsked =
     × (asked_of (words_without_options (codes "serve")) ≡ Some (asked_by_default Serve))
     × (asked_of (words_without_options (codes "check")) ≡ Some (asked_by_default Check))
     × (asked_of (words_without_options (codes "plans")) ≡ Some (asked_by_default Plans))
+    × (asked_of (words_without_options (codes "watch")) ≡ Some (asked_by_default Watch))

@@ -34,6 +34,10 @@ pub enum Command {
 
     /// Answers each line at once, each query with all best plans by arrival and number of rides.
     Plans,
+
+    /// Answers each line at once, and watches the journey that it shows to a query: behind the
+    /// reply to an accepted message it tells of each watched journey whose standing changes.
+    Watch,
 }
 
 /// What the words ask for.
@@ -114,6 +118,7 @@ impl Command {
             "serve" => Some(Command::Serve),
             "check" => Some(Command::Check),
             "plans" => Some(Command::Plans),
+            "watch" => Some(Command::Watch),
             _ => None,
         }
     }

@@ -1,4 +1,5 @@
 pub mod Endings
+pub mod Exits
 mod Failing
 pub mod GenEndings
 pub mod Made

@@ -5,7 +5,7 @@ use Rattle.std.proofs.lemmas.Option.{none-some}
 use Rattle.delay_model.specs.declared.network.Network.{Network}
 use Rattle.delay_model.specs.declared.state.State.{State}
 use Rattle.command_words.specs.declared.words.Command.{Command}
-use Rattle.command_words.specs.declared.words.Command.TheVariants.{Times, Serve, Check, Plans}
+use Rattle.command_words.specs.declared.words.Command.TheVariants.{Times, Serve, Check, Plans, Watch}
 use Rattle.command_words.specs.Words.{Asked, asked_of}
 use Rattle.gtfs_tables.specs.declared.refusals.FeedRefusal.{FeedRefusal}
 use Rattle.feed_load.specs.Loaded.{loaded}
@@ -26,13 +26,16 @@ use Rattle.window_service.proofs.Networks.{served-same, whole-same}
 use Rattle.window_service.proofs.Written.{nothing-served}
 use Rattle.checked_answers.proofs.Alike.{checked-alike}
 use Rattle.plan_answers.proofs.Alike.{planned-alike}
+use Rattle.journey_watch.specs.Watching.{WatchState}
+use Rattle.watch_answers.specs.WatchedLines.{watched_output}
+use Rattle.watch_answers.proofs.Alike.{watched-alike}
 use Rattle.commands.specs.Beginnings.{IsBegun}
 use Rattle.commands.specs.Feeds.{network, tables_in, asked_in}
 use Rattle.commands.specs.LineTasks.{Behind, IsBegunAlike, Refuses, Start, begins_by, begun_over, is_long, line_output, line_task, long_line, table_among, unless_long}
 use Rattle.commands.specs.Loading.{IsFetched}
 use Rattle.commands.specs.declared.loading.Fetched.{Fetched}
 use Rattle.commands.specs.Runs.{Begins, IsFeedRefused, IsLoadRefused, IsRefused, Loads, Refusal, SaysWhy, by_feed, by_command, line_of_refusal}
-use Rattle.commands.specs.Tasks.{Task, check_output, feed_task, first_service, output_for, output_of, plans_output}
+use Rattle.commands.specs.Tasks.{Task, check_output, feed_task, first_service, kept_output, output_for, output_of, plans_output}
 
 -- the timetable that was loaded is the one that the words ask for
 pub record IsStart (words : List (List ℕ)) (tables : Option Files) (a : Asked) (nw loaded : Network)
@@ -84,6 +87,10 @@ begun-not-refused b (by_command line) r = let one = are-one b.loads r.loads in a
 
 -- ---- commands that load nothing behind the feed
 
+-- `watch` begins with no journey
+abbrev pub none-watched : WatchState
+none-watched = record { room = 10000; watched = [] }
+
 -- networks alike have the same outputs and the same replies, whatever the command
 whole-alike : (c : Command) (rides : ℕ) (a b : Network) → IsSame a b → (names : Names) (st : State) (lines : List Line) (bytes : List ℕ)
     → (output_for c rides).IsWhole (first_service b names st) lines bytes → (output_for c rides).IsWhole (first_service a names st) lines bytes
@@ -91,6 +98,7 @@ whole-alike Times rides a b h names st lines bytes w = output-same a b h names s
 whole-alike Serve rides a b h names st lines bytes w = served-same a b h names st lines bytes w
 whole-alike Check rides a b h names st lines bytes w = whole-over checked-alike a (first_service b names st) tt h lines bytes w
 whole-alike Plans rides a b h names st lines bytes w = whole-over planned-alike a (first_service b names st) rides h lines bytes w
+whole-alike Watch rides a b h names st lines bytes w = whole-over watched-alike a (first_service b names st) none-watched h lines bytes w
 
 replies-alike : (c : Command) (rides : ℕ) (a b : Network) → IsSame a b → (names : Names) (st : State) (lines : List Line) (bytes : List ℕ)
     → (output_for c rides).AreReplies (first_service b names st) lines bytes → (output_for c rides).AreReplies (first_service a names st) lines bytes
@@ -98,12 +106,15 @@ replies-alike Times rides a b h names st lines bytes r = replies-same a b h name
 replies-alike Serve rides a b h names st lines bytes r = whole-same a b h names st lines bytes r
 replies-alike Check rides a b h names st lines bytes r = elim r [ inl some ↦ inl (beginning-alike checked-alike a (first_service b names st) tt h lines bytes some) | inr nothing ↦ inr nothing ]
 replies-alike Plans rides a b h names st lines bytes r = elim r [ inl some ↦ inl (beginning-alike planned-alike a (first_service b names st) rides h lines bytes some) | inr nothing ↦ inr nothing ]
+replies-alike Watch rides a b h names st lines bytes r =
+    elim r [ inl some ↦ inl (beginning-alike watched-alike a (first_service b names st) none-watched h lines bytes some) | inr nothing ↦ inr nothing ]
 
 no-replies : (c : Command) (rides : ℕ) (t : ServiceState) → (output_for c rides).AreReplies t [] []
 no-replies Times rides t = refl
 no-replies Serve rides t = nothing-served t.network t.names t.state
 no-replies Check rides t = inr (refl, refl)
 no-replies Plans rides t = inr (refl, refl)
+no-replies Watch rides t = inr (refl, refl)
 
 -- what a command begins with, and the line by which it refuses
 abbrev made : {A : Type 0} → A → Result A (List ℕ)
@@ -156,19 +167,26 @@ by-command {words = words} {tables = tables} {a = a} {loaded = loaded} {st = st}
 at-first : (t : ServiceState) → t.count ≡ 0 → t ≡ first_service t.network t.names t.state
 at-first t none = ap (λ (n : ℕ). record { network = t.network; state = t.state; count = n; names = t.names }) none
 
--- `check` and `plans` begin with it as it was loaded
-pub by-check : {words : List (List ℕ)} {tables : Option Files} {a : Asked} {t : ServiceState} → t.count ≡ 0 → WasLoaded words tables a t.network t.state t.names
-    → a.command ≡ Check → IsBegun feed_task words tables (check_output.IsWhole t) (check_output.AreReplies t)
-by-check {words = words} {tables = tables} {t = t} none was is =
-    subst (λ (s : ServiceState). IsBegun feed_task words tables (check_output.IsWhole s) (check_output.AreReplies s))
-    (sym (at-first t none)) (by-command Check was is)
+-- `check`, `plans` and `watch` begin with it as it was loaded, with what they keep
+module _ {words : List (List ℕ)} {tables : Option Files} {a : Asked} {t : ServiceState} (none : t.count ≡ 0) (was : WasLoaded words tables a t.network t.state t.names) where
+  by-loaded : (c : Command) → a.command ≡ c → IsBegun feed_task words tables ((output_for c a.rides).IsWhole t) ((output_for c a.rides).AreReplies t)
+  by-loaded c is =
+      subst (λ (s : ServiceState). IsBegun feed_task words tables ((output_for c a.rides).IsWhole s) ((output_for c a.rides).AreReplies s)) (sym (at-first t none)) (by-command c was is)
 
-pub by-plans : {words : List (List ℕ)} {tables : Option Files} {a : Asked} {t : ServiceState} {rides : ℕ} → t.count ≡ 0 → WasLoaded words tables a t.network t.state t.names
-    → a.command ≡ Plans → rides ≡ a.rides → IsBegun feed_task words tables ((plans_output rides).IsWhole t) ((plans_output rides).AreReplies t)
-by-plans {words = words} {tables = tables} {a = a} {t = t} none was is own =
-    subst (λ (n : ℕ). IsBegun feed_task words tables ((plans_output n).IsWhole t) ((plans_output n).AreReplies t)) (sym own)
-    (subst (λ (s : ServiceState). IsBegun feed_task words tables ((plans_output a.rides).IsWhole s) ((plans_output a.rides).AreReplies s))
-    (sym (at-first t none)) (by-command Plans was is))
+  pub by-check : a.command ≡ Check → IsBegun feed_task words tables (check_output.IsWhole t) (check_output.AreReplies t)
+  by-check is = by-loaded Check is
+
+  pub by-plans : {rides : ℕ} → a.command ≡ Plans → rides ≡ a.rides → IsBegun feed_task words tables ((plans_output rides).IsWhole t) ((plans_output rides).AreReplies t)
+  by-plans is own = subst (λ (n : ℕ). IsBegun feed_task words tables ((plans_output n).IsWhole t) ((plans_output n).AreReplies t)) (sym own) (by-loaded Plans is)
+
+  pub by-watch : {kept : WatchState} → a.command ≡ Watch → kept ≡ none-watched
+      → IsBegun feed_task words tables ((kept_output watched_output kept).IsWhole t) ((kept_output watched_output kept).AreReplies t)
+  by-watch is own =
+      subst (λ (k : WatchState). IsBegun feed_task words tables ((kept_output watched_output k).IsWhole t) ((kept_output watched_output k).AreReplies t)) (sym own) (by-loaded Watch is)
+
+-- where no journey is watched, what is kept fits every service
+pub fits-none : (t : ServiceState) {kept : WatchState} → kept ≡ none-watched → watched_output.fits t kept
+fits-none t {kept = kept} is = subst (watched_output.fits t) (sym is) (λ k w within. absurd (omega (arith, within)))
 
 -- what begins the same over networks alike does so also where its table is too long
 alike-if : {C : Type 0} (nw : Network) (long : Bool) (line : List ℕ) (x y : Result (Start C) (List ℕ))

@@ -52,6 +52,18 @@ abbrev pub begins_by : {C : Type 0} → Behind C → Asked → Option (List ℕ)
     → Result (Start C) (List ℕ)
 begins_by b asked table t = unless_long b.table table (b.begins asked table t)
 
+-- it begins with this by some words and some table, behind some service
+pub record BeginsSome {C : Type 0} (b : Behind C) (s : Start C) : Type 0 where
+  pub asked : Asked
+  pub table : Option (List ℕ)
+  pub service : ServiceState
+  pub is : b.begins asked table service ≡ Ok s
+
+-- whatever it begins with, the service and what is kept fit each other, as this output has it
+abbrev pub BeginsFitting : {C : Type 0} → Behind C → LineOutput C → Type 0
+BeginsFitting {C = C} b o = (asked : Asked) (table : Option (List ℕ)) (t : ServiceState)
+    (s : Start C) → b.begins asked table t ≡ Ok s → o.fits s.service s.kept
+
 -- it refuses by this line some table, behind some service
 pub record RefusesSome {C : Type 0} (b : Behind C) (line : List ℕ) : Type 0 where
   pub asked : Asked

@@ -1,7 +1,7 @@
 -- What a command is to do: what it begins with, and what it writes.
 use Rattle.std.specs.Prelude.{ℕ, ◌≡◌, ◌⊎◌, List, [], Result, Ok}
 use Rattle.command_words.specs.declared.words.Command.{Command}
-use Rattle.command_words.specs.declared.words.Command.TheVariants.{Times, Serve, Check, Plans}
+use Rattle.command_words.specs.declared.words.Command.TheVariants.{Times, Serve, Check, Plans, Watch}
 use Rattle.command_words.specs.Words.{Asked}
 use Rattle.checked_answers.specs.CheckedLines.{checked_output}
 use Rattle.delay_model.specs.declared.network.Network.{Network}
@@ -14,6 +14,7 @@ use Rattle.mt_io.specs.Lines.{Line}
 use Rattle.plan_answers.specs.PlannedLines.{planned_output}
 use Rattle.query_crew.specs.Served.{IsServed}
 use Rattle.schedule_build.specs.Directory.{Names}
+use Rattle.watch_answers.specs.WatchedLines.{watched_output}
 use Rattle.window_service.specs.Whole.{AreWholeWindowsServed}
 
 -- a service that has accepted no message
@@ -69,11 +70,16 @@ kept_output o kept = record {
 abbrev pub check_output : Output ServiceState
 check_output = kept_output checked_output tt
 
--- what `plans` writes that looks for plans with up to so many rides: a reply to each line. Each query
--- is answered in the state after the messages that were accepted before it, with its front for so
--- many rides (`IsPlannedText` in plan_answers)
+-- what `plans` writes that looks for plans with up to so many rides: a reply to each line. Each
+-- query is answered in the state after the messages that were accepted before it, with its front for
+-- so many rides (`IsPlannedText` in plan_answers)
 abbrev pub plans_output : ℕ → Output ServiceState
 plans_output rides = kept_output planned_output rides
+
+-- what `watch` writes: a reply to each line, and behind the reply to an accepted message what it
+-- tells of the watched journeys (`IsWatchedText` in watch_answers). At first none is watched
+abbrev pub watch_output : Output ServiceState
+watch_output = kept_output watched_output (record { room = 10000; watched = [] })
 
 -- what a command writes, with plans of up to so many rides
 abbrev pub output_for : Command → ℕ → Output ServiceState
@@ -81,6 +87,7 @@ output_for Times rides = times_output
 output_for Serve rides = served_output
 output_for Check rides = check_output
 output_for Plans rides = plans_output rides
+output_for Watch rides = watch_output
 
 -- what the command writes that the words ask for
 abbrev pub output_of : Asked → Output ServiceState

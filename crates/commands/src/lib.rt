@@ -12,5 +12,5 @@ mod telling;
 
 pub use feed::{LoadedTimetable, load_timetable};
 pub use loading::{LoadBehind, LoadFault, LoadNothing};
-pub use run::{run_check, run_lines, run_plans, run_times, traind, traind_within};
+pub use run::{run_check, run_lines, run_plans, run_times, run_watch, traind, traind_within};
 pub use status::Status;

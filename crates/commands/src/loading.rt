@@ -5,7 +5,7 @@ ghost use Rattle.std.specs.declared.option.Option.{Option};
 ghost use Rattle.command_words.specs.Held.{asked_view};
 ghost use Rattle.gtfs_tables.specs.Feeds.{Files};
 ghost use Rattle.mt_io.specs.Causes.{counted};
-ghost use Rattle.commands.specs.LineTasks.{begins_by, table_among};
+ghost use Rattle.commands.specs.LineTasks.{BeginsSome, begins_by, table_among};
 ghost use Rattle.commands.specs.Loading.{HasLongLine, HasOwnLine, IsFetched, IsLoaded, IsOfFeed};
 
 use crate::refusal::long_line;
@@ -151,6 +151,10 @@ pub(crate) fn load_behind<L: LoadBehind<C>, C>(
 
     ensures loaded { (table : Option (List ℕ)) → IsFetched table own → IsLoaded
         (begins_by L.behind (asked_view asked.now) table service.old) service.new result }
+    ensures begins { IfOk result (λ kept. BeginsSome L.behind (record {
+      service = service.new;
+      kept = kept;
+    })) }
     ensures line { IfErr result (HasOwnLine L.behind) }
     ensures new { OnOk result (service.new.count ≡ 0) }
 {

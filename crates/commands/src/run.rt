@@ -6,11 +6,11 @@ ghost use Rattle.commands.specs.Contract.{EndsAs, MeetsContract, byte_budget};
 ghost use Rattle.commands.specs.Seen.{feed_seen, stream_seen};
 ghost use Rattle.commands.specs.GenContract.{MeetsGenContract};
 ghost use Rattle.commands.specs.Runs.{AskFor};
-ghost use Rattle.commands.specs.LineTasks.{line_task};
+ghost use Rattle.commands.specs.LineTasks.{BeginsFitting, line_task};
 ghost use Rattle.commands.specs.Tasks.{feed_task};
 
 use crate::beginning::begin;
-use crate::feed::{load_asked, load_planner, load_service};
+use crate::feed::{load_asked, load_planner, load_service, load_watcher};
 use crate::generated::run_gen;
 use crate::loading::LoadBehind;
 use crate::refusal::feed_stop;
@@ -19,6 +19,7 @@ use crate::telling::tell;
 use checked_answers::CheckLines;
 use command_words::{Command, is_gen, read_words};
 use information_service::{AnswerLines, answer_input, write_output};
+use journey_watch::Watch;
 use mt_io::{Feed, Gate, Sink, Source};
 use plan_answers::{PlanLines, PlanSearch};
 use query_crew::{CrewPlan, Setting};
@@ -27,6 +28,7 @@ use std::alloc::Global;
 use std::marker::Brand;
 use std::sync::Wait;
 use std::thread::Threads;
+use watch_answers::WatchLines;
 use window_service::write_windows;
 
 /// Reads the words of `times`, loads the feed that they ask for, and answers the input.
@@ -156,7 +158,42 @@ fn plans_words<F: Feed, S: Source, K: Sink>(
     run_of(answer_input::<PlanLines, PlanSearch, S, K>(
         alloc,
         &mut planner.service,
-        &mut planner.search,
+        &mut planner.kept,
+        input,
+        out,
+        budget,
+    ))
+}
+
+/// The same for `watch`.
+fn watch_words<F: Feed, S: Source, K: Sink>(
+    alloc: Global,
+    words: &[String],
+    feed: &mut F,
+    input: &mut S,
+    out: &mut K,
+    budget: u64,
+) -> Result<(), Stop>
+    requires command { AskFor Command.Watch (map string_bytes words.now) }
+
+    ensures run { EndsAs feed_task budget (map string_bytes words.now)
+        (feed_seen F.tables F.faults feed.old feed.new)
+        (stream_seen S.left S.faults input.old input.new)
+        (stream_seen K.written K.faults out.old out.new)
+        feed.old feed.new input.old input.new out.old out.new result }
+{
+    let asked = match read_words(alloc, words) {
+        Ok(asked) => asked,
+        Err(fault) => return Err(Stop::from(fault)),
+    };
+    let mut watcher = match load_watcher(alloc, &asked, feed) {
+        Ok(watcher) => watcher,
+        Err(error) => return Err(feed_stop(alloc, error)),
+    };
+    run_of(answer_input::<WatchLines, Watch, S, K>(
+        alloc,
+        &mut watcher.service,
+        &mut watcher.kept,
         input,
         out,
         budget,
@@ -172,6 +209,8 @@ fn answer_words<T: AnswerLines<C>, L: LoadBehind<C>, C: Drop, F: Feed, S: Source
     out: &mut K,
     budget: u64,
 ) -> Result<(), Stop>
+    requires fits { BeginsFitting L.behind T.output }
+
     ensures run { EndsAs (line_task L.behind T.output) budget (map string_bytes words.now)
         (feed_seen F.tables F.faults feed.old feed.new)
         (stream_seen S.left S.faults input.old input.new)
@@ -193,8 +232,9 @@ fn answer_words<T: AnswerLines<C>, L: LoadBehind<C>, C: Drop, F: Feed, S: Source
 /// `times`, and takes a table of its own or keeps something: it reads the tables of the feed and,
 /// as `L` says, a table of the feed's folder that is the command's own, and begins with what it
 /// makes of them, or refuses them. Then it answers each line of the input at once, as `T` says,
-/// with what stands before the first line and behind the last. It stops where `budget` bytes of the
-/// input were taken and no end was read. It waits for nobody and returns.
+/// with what stands before the first line and behind the last. Whatever it begins with, the service
+/// and what is kept have to fit each other as `T` says. It stops where `budget` bytes of the input
+/// were taken and no end was read. It waits for nobody and returns.
 pub fn run_lines<
     T: AnswerLines<C>,
     L: LoadBehind<C>,
@@ -213,6 +253,7 @@ pub fn run_lines<
     budget: u64,
 ) -> Status
     requires budget { 1 ≤ budget }
+    requires fits { BeginsFitting L.behind T.output }
     ensures contract { MeetsContract (line_task L.behind T.output) budget
         (map string_bytes words.now)
         (feed_seen F.tables F.faults feed.old feed.new)
@@ -329,6 +370,33 @@ pub fn run_plans<F: Feed, S: Source, K: Sink, E: Sink>(
     tell(&run, err)
 }
 
+/// All that the program does for `watch`. It reads the tables of the feed, and answers each line of
+/// the input at once, by the times after the messages of the lines before it. The journey that it
+/// shows to a query is watched from then on, up to 10,000 of them, and behind the reply to an
+/// accepted message it tells of each watched journey whose standing changes. It stops where
+/// `budget` bytes of the input were taken and no end was read. It waits for nobody and returns.
+pub fn run_watch<F: Feed, S: Source, K: Sink, E: Sink>(
+    alloc: Global,
+    words: &[String],
+    feed: &mut F,
+    input: &mut S,
+    out: &mut K,
+    err: &mut E,
+    budget: u64,
+) -> Status
+    requires command { AskFor Command.Watch (map string_bytes words.now) }
+    requires budget { 1 ≤ budget }
+    ensures contract { MeetsContract feed_task budget (map string_bytes words.now)
+        (feed_seen F.tables F.faults feed.old feed.new)
+        (stream_seen S.left S.faults input.old input.new)
+        (stream_seen K.written K.faults out.old out.new)
+        (stream_seen E.written E.faults err.old err.new)
+        feed.old feed.new input.old input.new out.old out.new result }
+{
+    let run = watch_words(alloc, words, feed, input, out, budget);
+    tell(&run, err)
+}
+
 /// The command that words ask for, if they ask for anything.
 fn command_for(words: &[String]) -> Command
     ensures { AskFor result (map string_bytes words.now) }
@@ -339,13 +407,13 @@ fn command_for(words: &[String]) -> Command
     }
 }
 
-/// The program. For `times` it does what `run_times` does, for `check` what `run_check` does, and
-/// for `plans` what `run_plans` does. For `serve` it reads the tables of the feed and answers the
-/// input window after window, and queries beside the messages; the gate is called after each
-/// message and before each query. It stops where `budget` bytes of the input were taken and no end
-/// was read. For `gen` it does what it does for `serve` over a feed and an input that it makes from
-/// a number of trains, and writes one line with the sums over the replies; it asks nothing of
-/// `feed` and `input`.
+/// The program. For `times` it does what `run_times` does, for `check` what `run_check` does, for
+/// `plans` what `run_plans` does, and for `watch` what `run_watch` does. For `serve` it reads the
+/// tables of the feed and answers the input window after window, and queries beside the messages;
+/// the gate is called after each message and before each query. It stops where `budget` bytes of
+/// the input were taken and no end was read. For `gen` it does what it does for `serve` over a feed
+/// and an input that it makes from a number of trains, and writes one line with the sums over the
+/// replies; it asks nothing of `feed` and `input`.
 pub fn traind_within<
     R: Threads + Wait + Sync,
     F: Feed,
@@ -390,6 +458,7 @@ pub fn traind_within<
         Command::Times => run_times(alloc, words, feed, input, out, err, budget),
         Command::Check => run_check(alloc, words, feed, input, out, err, budget),
         Command::Plans => run_plans(alloc, words, feed, input, out, err, budget),
+        Command::Watch => run_watch(alloc, words, feed, input, out, err, budget),
         Command::Serve => run_serve(rt, alloc, words, feed, input, out, err, gate, budget),
     }
 }

@@ -5,4 +5,5 @@ pub mod Plans
 pub mod Replies
 pub mod Table
 pub mod Trains
+pub mod Watches
 pub mod Written

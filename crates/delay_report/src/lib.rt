@@ -8,8 +8,10 @@ mod objects;
 mod plans;
 mod replies;
 mod table;
+mod watches;
 
 pub use checks::{checked_text, claim_text};
 pub use plans::plans_text;
 pub use replies::{Reply, object_text, reply_text};
 pub use table::{times_header, times_rows};
+pub use watches::{alert_text, watched_text};

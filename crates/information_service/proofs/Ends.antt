@@ -5,7 +5,6 @@ use Rattle.std.specs.Result.{IsErrAnd}
 use Rattle.information_service.specs.Causes.{HasCounts, TookAll, TookAtMost, TookFewer, reads_failed, writes_failed}
 use Rattle.mt_io.specs.Causes.{Faults}
 use Rattle.information_service.specs.Fronts.{IsTaken}
-use Rattle.mt_io.proofs.Runs.{ends}
 use Rattle.information_service.specs.declared.fault.LinesFault.{LinesFault}
 use Rattle.information_service.specs.declared.fault.LinesFault.TheVariants.{ReadFault, WriteFault, OutOfMemory, TooLong}
 

@@ -1,6 +1,7 @@
 pub mod Words
 pub mod Answered
 pub mod Ends
+pub mod Behind
 pub mod Fronts
 pub mod InStep
 pub mod Networks

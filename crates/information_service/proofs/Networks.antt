@@ -25,7 +25,7 @@ unfolding edges
 edges-same a b h st = grind (arith, h.opts, transfer-same a b h)
 
 -- the same event times
-times-same : (a b : Network) → IsSame a b → (st : State) (k : Key) → event_time b st k ≡ event_time a st k
+pub times-same : (a b : Network) → IsSame a b → (st : State) (k : Key) → event_time b st k ≡ event_time a st k
 unfolding event_time
 times-same a b h st k = grind (arith, edges-same a b h)
 
@@ -42,7 +42,7 @@ changed-same : (a b : Network) → IsSame a b → (st : State) (m : Message) →
 unfolding changed
 changed-same a b h st m = grind (arith, times-same a b h)
 
-answer-same : (a b : Network) → IsSame a b → (st : State) (read : Result Message Refusal) → accepted_message b st read ≡ accepted_message a st read
+pub answer-same : (a b : Network) → IsSame a b → (st : State) (read : Result Message Refusal) → accepted_message b st read ≡ accepted_message a st read
 answer-same a b h st read = grind (arith, refusal-same a b h)
 
 -- the same messages are accepted
@@ -57,7 +57,7 @@ known-same a b h reading st names [] = refl
 known-same a b h reading st names (x ∷ xs) =
     grind (arith, answer-same a b h, λ (s : State). known-same a b h reading s (reading.known names x) xs, known-same a b h reading st names xs)
 
-reply-to-message-same : (a b : Network) → IsSame a b → (names : Names) (st : State) (count line : ℕ) (w : Wire) (read : Result Message Refusal)
+pub reply-to-message-same : (a b : Network) → IsSame a b → (names : Names) (st : State) (count line : ℕ) (w : Wire) (read : Result Message Refusal)
     → reply_to_message b names st count line w read ≡ reply_to_message a names st count line w read
 reply-to-message-same a b h names st count line w read = grind (arith, refusal-same a b h, changed-same a b h)
 

@@ -1,8 +1,8 @@
 -- What becomes of whoever holds a timetable by a message.
-use Rattle.information_service.proofs.Words.{◌≡◌, ◌<◌, ◌+◌, ℕ, Option, Some, None, Result, Ok, Err, refl, sym, ap, ◌∙◌, arith, Message, Names, Refusal, Reply, refusal, Wire, resolved, names_with}
+use Rattle.information_service.proofs.Words.{◌≡◌, ◌<◌, ◌+◌, ℕ, Option, Some, None, Result, Ok, Err, refl, arith, Message, Names, Refusal, Reply, refusal, Wire, resolved}
 use Rattle.std.specs.Prelude.{◌^◌, IfErr, IfOk, OnOk}
 use Rattle.schedule_build.specs.InStep.{AreInStep}
-use Rattle.timetable.specs.TimetableState.{TimetableState, counted, stepped}
+use Rattle.timetable.specs.TimetableState.{TimetableState, counted}
 use Rattle.information_service.specs.ServiceState.{after_answer, after_message}
 use Rattle.information_service.specs.Taking.{HasTaken, IsHeldAfter, IsStepped, IsTakenFrom, IsTimetable, service_with}
 use Rattle.information_service.proofs.InStep.{stays-in_step}

@@ -1,5 +1,5 @@
 -- What `times` writes is the same over networks that are alike.
-use Rattle.information_service.proofs.Words.{◌≡◌, ◌∙◌, ap, refl, sym, subst, Result, Ok, Err, Option, None, Some, Network, Message, Refusal, refusal, resolved, BadLine, Line, ServiceState, Wire, after_line, said_by}
+use Rattle.information_service.proofs.Words.{◌≡◌, ◌∙◌, ap, refl, sym, Result, Ok, Err, Option, None, Some, Network, Message, Refusal, refusal, resolved, BadLine, Line, ServiceState, Wire, after_line, said_by}
 use Rattle.message_reader.specs.declared.wire.Line.{Line as Spoken}
 use Rattle.message_reader.specs.declared.wire.Line.TheVariants.{Message as Says, Query as Asks, Flush}
 use Rattle.information_service.specs.Networks.{IsSame, IsWrittenAlike, over}

@@ -22,6 +22,8 @@ Answering C = ServiceState → C → ℕ → Line → List ℕ → ServiceState 
 
 -- what a command writes that keeps something of this type
 pub record LineOutput (C : Type 0) : Type 1 where
+  -- what always holds between the service and what is kept, from before the first line on
+  pub fits : ServiceState → C → Type 0
   -- before the first line, by the service and what is kept then
   pub begins : ServiceState → C → List ℕ
   -- to each line

@@ -1,6 +1,7 @@
 pub mod Alike
 pub mod Answering
 pub mod Causes
+pub mod Following
 pub mod Fronts
 pub mod Lines
 pub mod Networks

@@ -20,6 +20,7 @@ pub record IsReplied (t : ServiceState) (number : ℕ) (x : Line) (text : List �
 -- a reply to each line, and then the table of all times
 abbrev pub times_output : LineOutput (Unit {0})
 times_output = record {
+  fits = λ t kept. Unit {0};
   begins = λ t kept. [];
   answers = λ t kept number x text now kept_now. IsReplied t number x text now;
   ends = λ t kept. table t.network t.names t.state;

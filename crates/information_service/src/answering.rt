@@ -45,9 +45,11 @@ pub trait AnswerLines<C> {
     ) -> Result<Vec<u8>, OutOfMemory>
         requires count { service.old.count < 2 ^ 64 - 1 }
         requires few { HasFewBytes (given_line line.now) }
+        requires fits { output.fits service.old kept.old }
         ensures text { IfOk result (λ text. output.answers service.old kept.old number
             (given_line line.now) text.items service.new kept.new) }
-        ensures count { service.new.count ≤ service.old.count + 1 };
+        ensures count { service.new.count ≤ service.old.count + 1 }
+        ensures fits { OnOk result (output.fits service.new kept.new) };
 
     /// Writes what stands behind the last line. It fails with `WriteFault` where a write of the
     /// output failed, and with `OutOfMemory` where there was no memory.

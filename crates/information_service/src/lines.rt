@@ -28,6 +28,7 @@ fn answer_line<T: AnswerLines<C>, C, K: Sink>(
 ) -> Result<(), LinesFault>
     requires count { service.old.count < 2 ^ 64 - 1 }
     requires few { HasFewBytes (given_line line.now) }
+    requires fits { T.output.fits service.old kept.old }
 
     // what is written
     ensures ok { OnOk result (AppendsAnswer T.output.answers service.old kept.old number
@@ -36,6 +37,7 @@ fn answer_line<T: AnswerLines<C>, C, K: Sink>(
         T.output.answers service.old kept.old number (given_line line.now) (K.written out.old)
         (K.written out.new)) }
     ensures count { service.new.count ≤ service.old.count + 1 }
+    ensures fits { OnOk result (T.output.fits service.new kept.new) }
 
     // the faults
     ensures fault { IfErr result IsNotOfInput }
@@ -64,6 +66,7 @@ pub(crate) fn answer_lines<T: AnswerLines<C>, C, S: Source, K: Sink>(
     requires reader { reader.old ≡ fresh reader.old.budget }
     requires budget { reader.old.budget < 2 ^ 64 }
     requires count { service.old.count ≡ 0 }
+    requires fits { T.output.fits service.old kept.old }
 
     // what is answered at the end, or where it stops
     ensures all { OnOk result ((bytes : List ℕ) × (lines : List Line) × IsDone reader.new

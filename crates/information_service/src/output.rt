@@ -52,6 +52,7 @@ pub fn answer_input<T: AnswerLines<C>, C, S: Source, K: Sink>(
     budget: u64,
 ) -> Result<(), LinesFault>
     requires count { service.old.count ≡ 0 }
+    requires fits { T.output.fits service.old kept.old }
 
     // all went well
     ensures ok { OnOk result ((bytes : List ℕ) → S.left input.old ≡ Some bytes

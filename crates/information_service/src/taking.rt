@@ -1,6 +1,7 @@
 //! Messages taken, whoever holds the timetable.
 
 ghost use Rattle.std.specs.Prelude.{◌≡◌, ◌<◌, ◌-◌, ◌^◌, Ok, None, IfOk, IfErr};
+ghost use Rattle.delay_model.specs.Messages.{IsWellFormed};
 ghost use Rattle.delay_model.specs.Refusals.{refusal};
 ghost use Rattle.delay_model.specs.Touched.{changed_count};
 ghost use Rattle.message_reader.specs.Resolved.{resolved};
@@ -162,9 +163,12 @@ pub fn take_wire<T: TakeMessages<P, R>, P, R>(
         holder.new directory.old directory.new reply) }
     ensures unchanged { IfErr result (λ _. holder.new ≡ holder.old) }
     ensures names { IfErr result (λ _. directory.new ≡ directory.old) }
+    ensures formed { IfOk result (λ _. IfOk (resolved directory.old wire.now) IsWellFormed) }
 {
     match resolve(alloc, wire, directory) {
         Ok(message) => {
+            // It is well-formed, as a message of this type says.
+            let _ = message.message();
             take_message::<T, P, R>(alloc, rt, holder, directory, number, wire, message)
         }
         Err(ResolveError::Refused(refusal)) => Ok(Reply::Refused {

@@ -1,4 +1,4 @@
-mod CallLemmas
+pub mod CallLemmas
 mod RideLemmas
 mod ReachedLemmas
 mod StopLemmas

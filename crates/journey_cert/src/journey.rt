@@ -18,7 +18,7 @@ use timetable::Timetable;
 use train_nodes::Steps;
 
 /// Whether a passenger of the query can board at a stop at a time straight from the origin.
-fn is_from_origin(t: &Timetable, q: &Query, stop: StopNo, time: Time) -> bool
+pub fn is_from_origin(t: &Timetable, q: &Query, stop: StopNo, time: Time) -> bool
     ensures { result ≡ is_from_origin t.now.network q.now stop time }
 {
     if is_one_station(t, q.from_stop, stop) {

@@ -12,3 +12,5 @@ mod stops;
 
 pub use certifying::certify;
 pub use checking::check;
+pub use journey::is_from_origin;
+pub use places::is_in_time;

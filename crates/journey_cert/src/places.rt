@@ -28,7 +28,7 @@ pub(crate) fn is_one_station(t: &Timetable, a: StopNo, b: StopNo) -> bool
 }
 
 /// Whether a change from where a passenger has arrived is done at a place by this time.
-pub(crate) fn is_in_time(t: &Timetable, from: &Reach, place: StopNo, by: Time) -> bool
+pub fn is_in_time(t: &Timetable, from: &Reach, place: StopNo, by: Time) -> bool
     ensures { result ≡ is_in_time t.now.network from.now.stop from.now.time place by }
 {
     match t.graph().changes().change(from.stop, place) {

@@ -40,6 +40,7 @@ pub record IsPlanned (t : ServiceState) (rides line : ℕ) (x : Line) (text : Li
 -- a reply to each line, and nothing else; the number of rides is kept
 abbrev pub planned_output : LineOutput ℕ
 planned_output = record {
+  fits = λ t rides. Unit {0};
   begins = λ t rides. [];
   answers = λ t rides number x text now rides_now.
       IsPlanned t rides number x text now × (rides_now ≡ rides);

@@ -163,6 +163,22 @@ pub(super) const PLANS_REPLIES: &str =
 {\"after\":1,\"line\":3,\"plans\":[]}
 ";
 
+/// T1 arrives at B1 at 08:30:00, as scheduled.
+pub(super) const ON_TIME: &str =
+    r#"{"v":1,"type":"forecast","trip":"T1","date":"20260105","call":1,"event":"arr","time":"08:30:00"}"#;
+
+/// What `watch` writes to the query, to the forecast of T1, which breaks the journey before its
+/// ride with T2, to the query once more, and to the forecast with which the journey can be taken
+/// again.
+pub(super) const WATCH_REPLIES: &str =
+    "{\"after\":0,\"arrives\":\"09:10:00\",\"line\":1,\"rides\":[{\"alight\":{\"call\":1,\"stop\":\"B1\",\"time\":\"08:30:00\"},\"board\":{\"call\":0,\"stop\":\"A\",\"time\":\"08:00:00\"},\"date\":\"20260105\",\"trip\":\"T1\"},{\"alight\":{\"call\":1,\"stop\":\"D\",\"time\":\"09:10:00\"},\"board\":{\"call\":0,\"stop\":\"B2\",\"time\":\"08:36:00\"},\"date\":\"20260105\",\"trip\":\"T2\"}],\"watched\":true}
+{\"accepted\":1,\"changed\":3,\"line\":2}
+{\"alert\":1,\"broken\":1,\"line\":2}
+{\"after\":1,\"arrives\":null,\"line\":3,\"watched\":false}
+{\"accepted\":2,\"changed\":3,\"line\":4}
+{\"alert\":1,\"arrives\":\"09:10:00\",\"line\":4}
+";
+
 /// Claims that no journey from A to D at 08:00:00 arrives before 09:10:00.
 pub(super) const CLAIM: &str =
     r#"{"v":2,"type":"claim","client":"c1","from":"A","to":"D","date":"20260105","time":"08:00:00","arrives":"09:10:00","rides":[{"trip":"T1","date":"20260105","board":0,"alight":1},{"trip":"T2","date":"20260105","board":0,"alight":1}],"reached":[{"stop":"B1","time":"08:30:00"},{"stop":"C","time":"09:00:00"}]}"#;

@@ -2,9 +2,9 @@
 
 use crate::tests::example_feed::{
     ACCEPTED, BACKWARDS, BACKWARDS_REPLY, CANCEL, CLAIM, CLAIM_REPLIES, EARLIER, EXTRA,
-    EXTRA_REPLIES, FLUSH, FORECAST, HEADER, KEEP, MISSED, NO_TRAIN, PLANS_REPLIES, QUERY,
+    EXTRA_REPLIES, FLUSH, FORECAST, HEADER, KEEP, MISSED, NO_TRAIN, ON_TIME, PLANS_REPLIES, QUERY,
     QUERY_REPLIES, REPLIES, REPORT, SHORT_QUERIES, SHORT_REPLIES, T1, T1_LATE, T1_MISSED, T2,
-    T2_HELD, USAGE, X1,
+    T2_HELD, USAGE, WATCH_REPLIES, X1,
 };
 use crate::tests::{CASE, Case, Ended, bytes_of, is_end, is_next, run, words_of};
 use commands::{Status, traind};
@@ -156,6 +156,18 @@ const PLANS_RUNS: [Run; 1] = [Run {
     },
     input: &[QUERY, "\n", MISSED, "\n", QUERY],
     out: &[PLANS_REPLIES],
+    ..WELL
+}];
+
+/// A run of `watch` on the same feed.
+const WATCH_RUNS: [Run; 1] = [Run {
+    shows: "a watched journey, which is broken by a missed connection and then can be taken again",
+    case: Case {
+        words: "watch feed --from 20260105 --slack 0",
+        ..CASE
+    },
+    input: &[QUERY, "\n", MISSED, "\n", QUERY, "\n", ON_TIME],
+    out: &[WATCH_REPLIES],
     ..WELL
 }];
 
@@ -396,6 +408,12 @@ fn claims_are_judged(rt: HostRuntime) -> Result<(), Fail> {
 #[test]
 fn plans_are_shown(rt: HostRuntime) -> Result<(), Fail> {
     assert_eq!(rt; first_wrong(&rt, rt.alloc(), &PLANS_RUNS)?, None);
+    Ok(())
+}
+
+#[test]
+fn journeys_are_watched(rt: HostRuntime) -> Result<(), Fail> {
+    assert_eq!(rt; first_wrong(&rt, rt.alloc(), &WATCH_RUNS)?, None);
     Ok(())
 }
 

@@ -1,18 +1,16 @@
-use Rattle.std.proofs.Common.{Err, ap, refl}
+use Rattle.std.proofs.Common.{refl}
 use Rattle.command_words.specs.declared.words.Command.TheVariants.{Serve}
-use Rattle.commands.proofs.Endings.{early-feed, early-run, early-words, lines-end, not-error, same-error}
-use Rattle.commands.proofs.Tables.{by-command, by-none, was-loaded}
+use Rattle.commands.proofs.Endings.{lines-end, not-error}
+use Rattle.commands.proofs.Exits.{load-exit, words-exit}
+use Rattle.commands.proofs.Tables.{by-command, was-loaded}
 use Rattle.commands.proofs.run.serve_words.Goals as goal
 
 pub returns-in-Err : goal.returns-in-Err
-returns-in-Err g c = record { run = early-run by-none (Err c.from.result) _ c.from.ensures (early-words (λ absent. refl) c.in-Err.fault refl (λ is. c.in-Err.ensures.usage (ap Err is))) }
+returns-in-Err g c = record { run = words-exit c.in-Err.fault _ c.from.ensures refl refl c.in-Err.ensures.usage }
 
 pub returns-in-Err-load_asked : goal.returns-in-Err-load_asked
 returns-in-Err-load_asked g c = record {
-  run =
-      early-run by-none (Err c.feed_stop.result) c.feed_stop.result refl
-      (early-feed c.in-Ok.ensures.ok c.in-Err-load_asked.error c.feed_stop.result c.feed_stop.ensures c.in-Err-load_asked.ensures.exact (λ is. c.in-Err-load_asked.ensures.failed (ap Err is))
-      (λ other. c.in-Err-load_asked.ensures.answered (λ is. other (same-error _ _ _ refl is))));
+  run = load-exit c.in-Ok.ensures.ok c.in-Err-load_asked.error _ c.feed_stop.ensures c.in-Err-load_asked.ensures.exact c.in-Err-load_asked.ensures.failed c.in-Err-load_asked.ensures.answered;
 }
 
 pub returns : goal.returns

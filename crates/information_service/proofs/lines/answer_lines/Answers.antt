@@ -17,6 +17,7 @@ pub lines-init : goal.lines-init
 lines-init g c = record {
   answered = ([], [], nothing-answered _ c.args.service.now c.args.kept.now c.args.reader.now.budget c.args.reader.now (g.S.Source.left c.args.input.now) (g.K.Sink.written c.args.out.now) c.requires.reader, refl);
   count = omega (arith, c.requires.count);
+  fits = c.requires.fits;
   budget = refl;
   read = refl;
   write = refl;
@@ -115,6 +116,7 @@ lines-preserved g c =
     record {
       answered = (more.0, a.1 ++ x ∷ [], more.1, omega (arith, a.3, length-append a.1 (x ∷ [])));
       count = omega (arith, c.in_ok-answer_line.ensures.count, inv.count);
+      fits = c.in_ok-answer_line.ensures.fits;
       budget = c.next.follows.holds-at-none.0.1.budget ∙ inv.budget;
       read = c.next.ensures.answered no_fault ∙ inv.read;
       write = same_Some _ _ c.in_ok-answer_line.ensures.writes ∙ inv.write;

@@ -10,6 +10,7 @@ invariant-lines g l = record {
       (g.S.Source.left l.initial.input) (g.S.Source.left l.input) (g.K.Sink.written l.initial.out) (g.K.Sink.written l.out) bytes lines
       × (l.before ≡ length lines);
   count : l.service.count ≤ l.before;
+  fits : g.T.AnswerLines.output.fits l.service l.kept;
   budget : l.reader.budget ≡ l.initial.reader.budget;
   read : g.S.Source.faults l.input ≡ g.S.Source.faults l.initial.input;
   write : g.K.Sink.faults l.out ≡ g.K.Sink.faults l.initial.out;

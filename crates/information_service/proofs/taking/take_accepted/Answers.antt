@@ -1,4 +1,4 @@
-use Rattle.information_service.proofs.Words.{ap, refl, ◌∙◌}
+use Rattle.information_service.proofs.Words.{refl}
 use Rattle.information_service.proofs.InStep.{can-be-added}
 use Rattle.information_service.proofs.taking.take_accepted.Goals as goal
 

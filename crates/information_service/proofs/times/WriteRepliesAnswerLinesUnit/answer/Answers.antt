@@ -1,4 +1,3 @@
-use Rattle.information_service.proofs.Words.{◌∙◌, arith, ap, ServiceState}
 use Rattle.information_service.specs.Answering.{given_line}
 use Rattle.information_service.proofs.OneMore.{counts-one}
 use Rattle.information_service.proofs.times.WriteRepliesAnswerLinesUnit.answer.Goals as goal

@@ -1,6 +1,0 @@
-use Rattle.information_service.proofs.OneMore.{counts-one}
-use Rattle.information_service.specs.Answering.{given_line}
-use Rattle.command_tests.proofs.tests.small_commands.CountAcceptedAnswerLinesUnit.answer.Goals as goal
-
-pub returns-clause-count : goal.returns-clause-count
-returns-clause-count c = counts-one c.args.service.now c.answer.new.self (given_line c.args.line.now) c.in_ok-reply.ensures.next

@@ -1,0 +1,3 @@
+pub mod WatchedLines
+pub mod WatchedMessages
+pub mod WatchedQueries
