@@ -1,0 +1,5 @@
+mod Calls
+mod Clear
+mod Digits
+mod ReadBack
+mod Whole
