@@ -19,6 +19,7 @@ mod worker;
 pub use clients::Client;
 pub use crew::{Crew, CrewPlan};
 pub use laws::windows_are_those_of_the_input;
+pub use posting::OnBoard;
 pub use reading::{WindowEnd, read_window};
 pub use served_laws::{
     counts_do_not_fall_along_all_lines, first_messages_are_those_of_the_input,

@@ -24,7 +24,7 @@ use timetable::Timetable;
 use train_nodes::Msg;
 
 /// A timetable on a board, to which the publisher posts the messages that are accepted.
-struct OnBoard;
+pub struct OnBoard;
 
 impl<H: Opening<Timetable>, R: Wait> TakeMessages<Publisher<Timetable, H>, R> for OnBoard {
     ghost use Rattle.query_crew.specs.Posting.{IsTimetableAfter, IsPosted};
