@@ -25,5 +25,5 @@ pub use output::answer_input;
 pub use replies::{reply_to_asked, reply_to_found};
 pub use service::InformationService;
 pub use taking::{TakeMessages, take_wire};
-pub use times::write_output;
+pub use times::{WriteReplies, write_output};
 pub use writing::write_bytes;

@@ -50,10 +50,10 @@ fn answer_line<T: AnswerLines<C>, C, K: Sink>(
 }
 
 /// Answers each line of the input, from line 1 on, and writes its answer before the next line is
-/// read, until the input is at its end: for a new reader, and a service that has accepted no
-/// message. It fails with `ReadFault` or `TooLong` where the reader does, when all lines before are
-/// answered, with `WriteFault` where a write of the output failed, and with `OutOfMemory` where
-/// there was none; then the last line may have no answer, or a part of one.
+/// read, until the input is at its end, for a new reader. It fails with `ReadFault` or `TooLong`
+/// where the reader does, when all lines before are answered, with `WriteFault` where a write of
+/// the output failed, and with `OutOfMemory` where there was none; then the last line may have no
+/// answer, or a part of one.
 pub(crate) fn answer_lines<T: AnswerLines<C>, C, S: Source, K: Sink>(
     alloc: Global,
     service: &mut InformationService,
@@ -62,10 +62,10 @@ pub(crate) fn answer_lines<T: AnswerLines<C>, C, S: Source, K: Sink>(
     input: &mut S,
     out: &mut K,
 ) -> Result<(), LinesFault>
-    // a new reader, which counts bytes in 64 bits, and no message accepted
+    // a new reader, which counts bytes in 64 bits, and a message for each byte can be counted
     requires reader { reader.old ≡ fresh reader.old.budget }
     requires budget { reader.old.budget < 2 ^ 64 }
-    requires count { service.old.count ≡ 0 }
+    requires count { service.old.count + reader.old.budget < 2 ^ 64 }
     requires fits { T.output.fits service.old kept.old }
 
     // what is answered at the end, or where it stops

@@ -1,6 +1,6 @@
 //! All that a command writes for an input.
 
-ghost use Rattle.std.specs.Prelude.{◌≡◌, List, ℕ, Some, true, false, OnOk, IfErr, IsErrOf};
+ghost use Rattle.std.specs.Prelude.{◌≡◌, ◌+◌, ◌<◌, ◌^◌, List, ℕ, Some, true, false, OnOk, IfErr, IsErrOf};
 ghost use Rattle.std.specs.Io.KnownBytes.{Appends, Consumes, IsAtEnd};
 ghost use Rattle.mt_io.specs.Causes.{IsFull};
 ghost use Rattle.mt_io.specs.Lines.{lines_of};
@@ -37,12 +37,11 @@ fn write_beginning<T: AnswerLines<C>, C, K: Sink>(
 }
 
 /// Writes what a command says before the first line of the input, then the answer to each line at
-/// once, and at the end of the input what stands behind the last: for a service that has accepted
-/// no message. It fails with `ReadFault` where a read of the input failed, and with `TooLong` where
-/// `budget` bytes of it were taken and no end was read; then the lines that are whole among the
-/// bytes taken are answered. It fails with `WriteFault` where a write of the output failed, and
-/// with `OutOfMemory` where there was none; then a front of an output is written. It takes no more
-/// than `budget` bytes.
+/// once, and at the end of the input what stands behind the last. It fails with `ReadFault` where a
+/// read of the input failed, and with `TooLong` where `budget` bytes of it were taken and no end
+/// was read; then the lines that are whole among the bytes taken are answered. It fails with
+/// `WriteFault` where a write of the output failed, and with `OutOfMemory` where there was none;
+/// then a front of an output is written. It takes no more than `budget` bytes.
 pub fn answer_input<T: AnswerLines<C>, C, S: Source, K: Sink>(
     alloc: Global,
     service: &mut InformationService,
@@ -51,7 +50,7 @@ pub fn answer_input<T: AnswerLines<C>, C, S: Source, K: Sink>(
     out: &mut K,
     budget: u64,
 ) -> Result<(), LinesFault>
-    requires count { service.old.count ≡ 0 }
+    requires count { service.old.count + budget < 2 ^ 64 }
     requires fits { T.output.fits service.old kept.old }
 
     // all went well

@@ -18,8 +18,8 @@ use mt_base::memory::OutOfMemory;
 use mt_io::{Sink, Source};
 use std::alloc::Global;
 
-/// Writes the reply to each line, and the table at the end.
-pub(crate) struct WriteReplies;
+/// Writes the reply to each line, and the table of all times at the end.
+pub struct WriteReplies;
 
 impl AnswerLines<()> for WriteReplies {
     ghost use Rattle.information_service.specs.TimesOutput.{times_output};

@@ -16,7 +16,7 @@ use Rattle.information_service.proofs.lines.answer_lines.Goals.{in-Line, in-Long
 pub lines-init : goal.lines-init
 lines-init g c = record {
   answered = ([], [], nothing-answered _ c.args.service.now c.args.kept.now c.args.reader.now.budget c.args.reader.now (g.S.Source.left c.args.input.now) (g.K.Sink.written c.args.out.now) c.requires.reader, refl);
-  count = omega (arith, c.requires.count);
+  count = omega arith;
   fits = c.requires.fits;
   budget = refl;
   read = refl;
@@ -86,7 +86,7 @@ answer_line-requires-clause-count g c =
     let gives = c.next.follows.holds-at-none.0 in
     let is : next_lines c.next.result ≡ given_line c.match-next.line ∷ [] =
     elim c.match-next.branch [ in-Line w ↦ rw (w.in-Line.is, w.line-is) refl | in-LongLine w ↦ rw (w.in-LongLine.is, w.line-is) refl ] in
-    omega (arith, inv.count, one-fits c.lines.before (given_line c.match-next.line) inv.answered.2.taken inv.answered.3 (λ e. ap g.S.Source.left (c.next.ensures.ended e)) (rw is at gives), gives.1.budget, inv.budget, c.requires.budget)
+    omega (arith, inv.count, one-fits c.lines.before (given_line c.match-next.line) inv.answered.2.taken inv.answered.3 (λ e. ap g.S.Source.left (c.next.ensures.ended e)) (rw is at gives), gives.1.budget, inv.budget, c.requires.count)
 
 pub answer_line-requires-clause-few : goal.answer_line-requires-clause-few
 answer_line-requires-clause-few g c = elim c.match-next.branch [

@@ -1,0 +1,88 @@
+-- The reader of a journal, and what it answers.
+use Rattle.std.specs.Prelude.{◌≡◌, ◌<◌, ◌≤◌, ℕ, ◌+◌, ◌-◌, List, [], ◌++◌, Bool, is_empty, not, length, Result, Ok, Err, Some, None}
+use Rattle.std.specs.declared.option.Option.{Option}
+use Rattle.delay_model.specs.declared.messages.Message.{Message}
+use Rattle.information_service.specs.ServiceState.{ServiceState}
+use Rattle.journal_replay.specs.Reading.{Progress, after_bytes, long_from, refused}
+use Rattle.journal_replay.specs.declared.refusal.JournalRefusal.{JournalRefusal}
+use Rattle.journal_replay.specs.declared.refusal.JournalRefusal.TheVariants.{Header, Line, OutOfMemory}
+
+-- what a reader is seen as: the header that it expects, how many whole lines it has read, the bytes
+-- behind the last of them, and why the journal is refused, if it is
+pub record ReaderState : Type 0 where
+  pub header : List ℕ
+  pub lines : ℕ
+  pub held : List ℕ
+  pub refusal : Option JournalRefusal
+
+-- how far a journal is read by such a reader, whose messages made this service
+abbrev pub progress : ReaderState → ServiceState → List Message → Progress
+progress r s messages = record {
+  service = s;
+  messages = messages;
+  lines = r.lines;
+  held = r.held;
+  refusal = r.refusal;
+}
+
+-- what it answers: why the journal is refused, or how many messages it has read
+abbrev pub answer_by : ℕ → Option JournalRefusal → Result ℕ JournalRefusal
+answer_by lines (Some why) = Err why
+answer_by lines None = Ok (lines - 1)
+
+abbrev pub answer : ReaderState → Result ℕ JournalRefusal
+answer r = answer_by r.lines r.refusal
+
+-- ---- bytes that end no line
+
+-- they are held behind the others, and the line is not too long
+pub record IsHeld (old : ReaderState) (bytes : List ℕ) (new : ReaderState) : Type 0 where
+  pub new_is : new ≡ record {
+    header = old.header;
+    lines = old.lines;
+    held = old.held ++ bytes;
+    refusal = old.refusal;
+  }
+  pub short : length old.held + length bytes < long_from
+
+-- or they are not: the line is too long, or there is no memory
+abbrev pub IsNotHeld : ReaderState → List ℕ → JournalRefusal → Type 0
+IsNotHeld old bytes Header = ⊥
+IsNotHeld old bytes (Line line) =
+    (line ≡ old.lines + 1) × (long_from ≤ length old.held + length bytes)
+IsNotHeld old bytes OutOfMemory = Unit {0}
+
+-- ---- bytes
+
+-- so far the reader has read, and who takes its messages stands there
+pub record IsAt {T : Type 0} (Stands : T → ServiceState → List Message → Type 0) (holder : T)
+    (reader : ReaderState) (p : Progress) : Type 0 where
+  pub reads : p ≡ progress reader p.service p.messages
+  pub stands : Stands holder p.service p.messages
+
+-- wherever the reader and who takes its messages stood, they stand behind these bytes now
+abbrev pub HasRead : {T : Type 0} → (T → ServiceState → List Message → Type 0) → T → ReaderState
+    → List ℕ → T → ReaderState → Type 0
+HasRead Stands holder reader bytes holder_now reader_now = (p : Progress)
+    → IsAt Stands holder reader p
+    → IsAt Stands holder_now reader_now (after_bytes reader.header p bytes)
+
+-- so far a journal is read that is then refused for this
+pub record StopsAt {T : Type 0} (Stands : T → ServiceState → List Message → Type 0) (holder : T)
+    (lines : ℕ) (why : JournalRefusal) (end : Progress) : Type 0 where
+  pub last : Progress
+  pub refused_there : end ≡ refused why last
+  pub lines_are : last.lines ≡ lines
+  pub stands : Stands holder last.service last.messages
+
+-- why these bytes are refused: wherever the reader and who takes its messages stood, they stand
+-- behind the lines before now; or there was no memory
+abbrev pub StopsIn : {T : Type 0} → (T → ServiceState → List Message → Type 0) → T → ReaderState
+    → List ℕ → T → ReaderState → JournalRefusal → Type 0
+StopsIn Stands holder reader bytes holder_now reader_now Header = (p : Progress)
+    → IsAt Stands holder reader p
+    → StopsAt Stands holder_now reader_now.lines Header (after_bytes reader.header p bytes)
+StopsIn Stands holder reader bytes holder_now reader_now (Line line) = (p : Progress)
+    → IsAt Stands holder reader p
+    → StopsAt Stands holder_now reader_now.lines (Line line) (after_bytes reader.header p bytes)
+StopsIn Stands holder reader bytes holder_now reader_now OutOfMemory = Unit {0}

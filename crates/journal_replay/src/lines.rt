@@ -1,0 +1,102 @@
+//! The lines of a journal, with their ends.
+
+ghost use Rattle.std.specs.Prelude.{◌≡◌, ℕ, ◌+◌, ◌<◌, ◌≤◌, ◌^◌, List, bytes_eq, length, IfErr, IfOk, IfSome, OnOk};
+ghost use Rattle.delay_model.specs.declared.messages.Message.{Message};
+ghost use Rattle.information_service.specs.ServiceState.{ServiceState};
+ghost use Rattle.journal_lines.specs.Lines.{text_of_message};
+ghost use Rattle.message_reader.specs.Wires.{IsProper, IsWire};
+ghost use Rattle.journal_replay.specs.Reading.{message_if, message_of};
+ghost use Rattle.journal_replay.specs.Taking.{IsJudged, IsLineTaken, IsReadyFor, StaysReady};
+
+use crate::refusal::JournalRefusal;
+use crate::taking::TakeJournal;
+use journal_lines::append_line;
+use message_reader::{Line, LineError, Wire, read_line};
+use mt_base::memory::OutOfMemory;
+use std::alloc::{AllocError, Global};
+
+/// Whether this is the line of a message, byte for byte.
+fn is_line_of(alloc: Global, message: &Wire, ended: &[u8]) -> Result<bool, OutOfMemory>
+    requires { IsProper message.now }
+    ensures { IfOk result (λ is. is ≡ bytes_eq (text_of_message message.now) ended.now) }
+{
+    let text = append_line(alloc, message)?;
+    Ok(text.as_slice() == ended)
+}
+
+/// This message, if this is its line.
+fn message_if(alloc: Global, message: Wire, ended: &[u8]) -> Result<Option<Wire>, OutOfMemory>
+    requires { IsWire message }
+    ensures message { IfOk result (λ found. found ≡ message_if ended.now message) }
+    ensures wire { IfOk result (λ found. IfSome found IsWire) }
+{
+    if is_line_of(alloc, &message, ended)? {
+        Ok(Some(message))
+    } else {
+        Ok(None)
+    }
+}
+
+/// The message whose line this is, if it is the line of a message.
+fn message_of(alloc: Global, ended: &[u8]) -> Result<Option<Wire>, OutOfMemory>
+    requires some { 1 ≤ length ended.now }
+    requires few { length ended.now < 2 ^ 31 }
+    ensures message { IfOk result (λ found. found ≡ message_of ended.now) }
+    ensures wire { IfOk result (λ found. IfSome found IsWire) }
+{
+    match read_line(alloc, &ended[..ended.len() - 1]) {
+        Ok(Line::Message(message)) => message_if(alloc, message, ended),
+        Ok(_) | Err(LineError::Bad(_)) => Ok(None),
+        Err(LineError::OutOfMemory) => Err(AllocError),
+    }
+}
+
+/// Takes the message whose line this is, if it is the line of a message that is accepted, and says
+/// whether it is.
+fn take_line<T: TakeJournal<R>, R>(
+    alloc: Global,
+    rt: &R,
+    holder: &mut T,
+    ended: &[u8],
+) -> Result<bool, OutOfMemory>
+    requires some { 1 ≤ length ended.now }
+    requires few { length ended.now < 2 ^ 31 }
+    requires ready { IsReadyFor T.stands holder.old 1 }
+    ensures taken { IfOk result (λ taken. (s : ServiceState) (before : List Message)
+        → T.stands holder.old s before
+        → IsLineTaken T.stands s before (message_of ended.now) holder.new taken) }
+{
+    match message_of(alloc, ended)? {
+        Some(message) => holder.take(alloc, rt, message),
+        None => Ok(false),
+    }
+}
+
+/// Judges the line behind so many others: the first has to be the header, and any other the line of
+/// a message that is accepted, which is taken.
+pub(crate) fn judge<T: TakeJournal<R>, R>(
+    alloc: Global,
+    rt: &R,
+    holder: &mut T,
+    header: &[u8],
+    lines: u64,
+    ended: &[u8],
+) -> Result<(), JournalRefusal>
+    requires lines { lines < 2 ^ 64 - 1 }
+    requires some { 1 ≤ length ended.now }
+    requires few { length ended.now < 2 ^ 31 }
+    requires ready { IsReadyFor T.stands holder.old 1 }
+    ensures judged { (s : ServiceState) (before : List Message) → T.stands holder.old s before
+        → IsJudged T.stands header.now lines s before ended.now holder.new result }
+{
+    if lines == 0 {
+        if ended == header {
+            return Ok(());
+        }
+        return Err(JournalRefusal::Header);
+    }
+    if take_line::<T, R>(alloc, rt, holder, ended)? {
+        return Ok(());
+    }
+    Err(JournalRefusal::Line { line: lines + 1 })
+}

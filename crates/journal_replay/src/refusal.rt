@@ -1,0 +1,31 @@
+//! Why a journal is not read to its end.
+
+use std::alloc::AllocError;
+
+/// Why a journal is not read to its end.
+#[derive(Clone, Copy, Debug, PartialEq, Eq)]
+pub enum JournalRefusal {
+    /// Its first line is not the header that is expected.
+    Header,
+
+    /// The line of this number, from 1 on, is too long, or, behind the header, is not the line of a
+    /// message that is accepted there.
+    Line {
+        /// The number of the line, where the header is line 1.
+        line: u64,
+    },
+
+    /// There was no memory.
+    OutOfMemory,
+}
+
+impl From<AllocError> for JournalRefusal {
+    ghost use Rattle.std.specs.Prelude.{◌≡◌};
+    ghost use Rattle.journal_replay.specs.declared.refusal.JournalRefusal.TheVariants.{OutOfMemory};
+
+    ghost from_gives = { λ _ e. e ≡ OutOfMemory };
+
+    fn from(_want: AllocError) -> JournalRefusal {
+        JournalRefusal::OutOfMemory
+    }
+}
