@@ -277,7 +277,7 @@ module _ {C : Type 0} {b : Behind C} {words : List (List ℕ)} {tables : Option 
 
 -- nothing is what is written for no lines, whatever the words ask for
 abbrev pub WritesNothing : {B : Type 0} → Task B → Type 0
-WritesNothing {B = B} task = (a : Asked) (start : B) → (task.output a).AreReplies start [] []
+WritesNothing {B = B} task = (a : Asked) (start : B) → task.output.AreReplies start [] []
 
 pub by-none : WritesNothing feed_task
 by-none a t = no-replies a.command a.rides t
@@ -287,13 +287,13 @@ by-no_line b o a start = inr (refl, refl)
 
 -- nothing is written where nothing was taken
 pub none-written : {B : Type 0} (task : Task B) → WritesNothing task
-    → (a : Asked) (start : B) (written : Option (List ℕ)) → AppendsAll ((task.output a).AreReplies start (lines_of false [])) written written
+    → (a : Asked) (start : B) (written : Option (List ℕ)) → AppendsAll (task.output.AreReplies start (lines_of false [])) written written
 unfolding lines_of
 none-written task none a start written = record { shown = []; is = none a start; written = Appends-nil written }
 
 -- and nothing is a front of what is written
 pub none-front : {B Failed : Type 0} (task : Task B) → WritesNothing task → ¬ Failed → (a : Asked) (start : B) (budget : ℕ) (left written : Option (List ℕ))
-    → AppendsTakenFront Failed ((task.output a).IsWhole start) ((task.output a).AreReplies start) budget left left written written
+    → AppendsTakenFront Failed (task.output.IsWhole start) (task.output.AreReplies start) budget left left written written
 none-front task none no_fault a start budget left written = record {
   bytes = [];
   took = consumes_none left;
