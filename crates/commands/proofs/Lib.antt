@@ -6,5 +6,4 @@ pub mod Made
 pub mod MadeLines
 pub mod SameTables
 pub mod Tables
-pub mod Commands
-pub mod Statuses
+pub pub mod Statuses

@@ -120,7 +120,10 @@ fn journal_fault(alloc: Global, refusal: JournalRefusal) -> LoadFault
 {
     let line = match refusal {
         JournalRefusal::Header => {
-            String::from_str(alloc, "traind: feed refused: journal.jsonl row 1: bad header\n")
+            String::from_str(
+                alloc,
+                "traind: feed refused: journal.jsonl row 1: bad header\n",
+            )
         }
         JournalRefusal::Line { line } => {
             format!(in alloc; "traind: feed refused: journal.jsonl row {line}: bad line\n")
