@@ -1,5 +1,6 @@
 -- Journals as texts: of accepted messages, and what is read of a beginning of one.
-use Rattle.std.specs.Prelude.{◌≡◌, ◌<◌, ◌≤◌, ℕ, ◌+◌, ◌-◌, List, [], ◌∷◌, ◌++◌, All, IfSome, IsSome, concat, fold, length, map, nat_le, take, true, if◌then◌else◌, Some, None}
+use Rattle.std.specs.Prelude.{◌≡◌, ◌<◌, ◌≤◌, ℕ, ◌+◌, ◌-◌, List, [], ◌∷◌, ◌++◌, All, IfSome, IsSome, fold, length, map, nat_le, take, true, if◌then◌else◌, Some, None}
+use Rattle.std.specs.List.{concat}
 use Rattle.std.specs.declared.option.Option.{Option}
 use Rattle.std.specs.Str.{is_utf8}
 use Rattle.delay_model.specs.declared.messages.Message.{Message}
