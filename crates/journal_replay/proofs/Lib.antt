@@ -1,1 +1,3 @@
 pub mod ByteLemmas
+pub mod Counts
+pub mod Networks
