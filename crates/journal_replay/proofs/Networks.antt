@@ -1,5 +1,5 @@
 -- A journal is read the same over networks that are alike, and never changes the network.
-use Rattle.std.proofs.Common.{◌≡◌, ◌∙◌, ℕ, Bool, true, false, List, [], ◌∷◌, Option, Some, None, refl, sym, ap, subst, nat_eq, nat_le, length}
+use Rattle.std.proofs.Common.{◌≡◌, ◌∙◌, ℕ, ◌+◌, Bool, true, false, List, [], ◌∷◌, ◌++◌, Option, Some, None, refl, sym, ap, subst, nat_eq, nat_le, length}
 use Rattle.std.specs.Str.{bytes_eq}
 use Rattle.delay_model.specs.declared.messages.Message.{Message}
 use Rattle.delay_model.specs.declared.network.Network.{Network}
@@ -24,13 +24,13 @@ accepted-over nw s w same = answer-same s.network nw (same-back nw s.network sam
 
 -- ---- a line
 
+-- once a message is taken that leaves this service
+abbrev taken_at : Progress → Message → ServiceState → Progress
+taken_at p m s = record { service = s; messages = p.messages ++ m ∷ []; lines = p.lines + 1; held = []; refusal = None }
+
 taken_as-over : (nw : Network) (p : Progress) (w : Wire) (o : Option Message) → IsSame nw p.service.network → taken_as (read_over nw p) w o ≡ read_over nw (taken_as p w o)
 taken_as-over nw p w None same = refl
-taken_as-over nw p w (Some m) same =
-    ap (λ (s : ServiceState). taken_at s) (message-over nw p.service w (resolved p.service.names w) same)
-  where
-    abbrev taken_at : ServiceState → Progress
-    taken_at s = record { service = s; messages = (taken_as p w (Some m)).messages; lines = (taken_as p w (Some m)).lines; held = []; refusal = None }
+taken_as-over nw p w (Some m) same = ap (taken_at p m) (message-over nw p.service w (resolved p.service.names w) same)
 
 message_taken-over : (nw : Network) (p : Progress) (o : Option Wire) → IsSame nw p.service.network → message_taken (read_over nw p) o ≡ read_over nw (message_taken p o)
 message_taken-over nw p None same = refl
