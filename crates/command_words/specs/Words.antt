@@ -80,7 +80,7 @@ abbrev pub asked_bases : Asked → List ℕ
 asked_bases a = base_seconds a.zone a.first a.days
 
 -- the command of this name, of those that read a feed
-abbrev pub command_of : Text → Option Command
+unfoldable pub command_of : Text → Option Command
 command_of name = if bytes_eq name (codes "times") then Some Times
     else (if bytes_eq name (codes "serve") then Some Serve
     else (if bytes_eq name (codes "check") then Some Check

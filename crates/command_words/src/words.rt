@@ -119,6 +119,7 @@ impl From<AllocError> for WordsFault {
 
 impl Command {
     /// The command of this name, of those that read a feed.
+    #[tactic(auto, unfolding(crate::specs::Words::command_of))]
     pub fn named(name: &str) -> Option<Command>
         ensures { result ≡ command_of name.now }
     {
