@@ -33,8 +33,9 @@ use Rattle.message_reader.specs.Lines.{line_of, said_by_value}
 use Rattle.message_reader.specs.Spelled.{call_object, call_objects, connect_name, date_text, event_name, object_of, ref_object, time_or_null, time_text, value_name, CanBeSaidIn, HasLabels}
 use Rattle.message_reader.specs.Wires.{IsProper, IsWireCall}
 use Rattle.message_reader.proofs.SpelledLemmas.{messages_back}
-use Rattle.journal_lines.specs.Lines.{text_of_message, HasStopText, HasTexts}
-use Rattle.journal_lines.proofs.Clear.{IsClear, clear-all, clear-append, decimal-clear, quoted-clear}
+use Rattle.journal_lines.specs.declared.heads.Head.{Head}
+use Rattle.journal_lines.specs.Lines.{head_object, text_of_head, text_of_message, HasStopText, HasTexts}
+use Rattle.journal_lines.proofs.Clear.{IsClear, clear-all, text-clear}
 use Rattle.journal_lines.proofs.Digits.{civil-below, date-ascii, time-ascii}
 
 -- ---- values in general
@@ -107,34 +108,6 @@ mutual
       let behind = IsUtf8-append (compact_text d) (members_text true ms) (text-utf8 d h.1) (members-utf8 true ms h.2) in
       IsUtf8-append (comma_if later) _ (comma-utf8 later)
       (IsUtf8-append _ _ (IsUtf8-quoted k (IsUtf8-are_ascii k h.0)) (IsUtf8-append (58 ∷ []) _ (IsUtf8-are_ascii (58 ∷ []) refl) behind))
-
-comma-clear : (later : Bool) → IsClear (comma_if later)
-comma-clear true = refl
-comma-clear false = refl
-
-mutual
-  text-clear : (d : Data) → AreTexts d → IsClear (compact_text d)
-  text-clear null h = refl
-  text-clear (boolean true) h = refl
-  text-clear (boolean false) h = refl
-  text-clear (number (unsigned n)) h = decimal-clear n h
-  text-clear (number (negative z)) h = absurd h
-  text-clear (number (float x)) h = absurd h
-  text-clear (string s) h = quoted-clear s
-  text-clear (array ds) h = items-clear false ds h
-  text-clear (object ms) h = members-clear false ms h
-
-  items-clear : (later : Bool) (ds : Items) → ItemsAreTexts ds → IsClear (items_text later ds)
-  items-clear later no_items h = refl
-  items-clear later (item d ds) h =
-      clear-append (comma_if later) (compact_text d ++ items_text true ds) (comma-clear later) (clear-append (compact_text d) (items_text true ds) (text-clear d h.0) (items-clear true ds h.1))
-
-  members-clear : (later : Bool) (ms : Members) → MembersAreTexts ms → IsClear (members_text later ms)
-  members-clear later no_members h = refl
-  members-clear later (member k d ms) h =
-      let behind = clear-append (compact_text d) (members_text true ms) (text-clear d h.1) (members-clear true ms h.2) in
-      clear-append (comma_if later) (quoted k ++ 58 ∷ (compact_text d ++ members_text true ms)) (comma-clear later)
-      (clear-append (quoted k) (58 ∷ (compact_text d ++ members_text true ms)) (quoted-clear k) behind)
 
 -- a value with such texts, of which nothing is lost when it is outlined, is read from its text
 text-read : (d : Data) → AreTexts d → depth (outline d) ≤ max_depth → of_json (outline d) ≡ Some d → read (compact_text d) ≡ Some d
@@ -398,9 +371,17 @@ lines-again w line is labels texts ends =
     rw (utf8, ap read (sym same) ∙ text-read d back.texts back.shallow back.read) (messages_back 2 w (said-in-two w) is labels)
 
 -- it has no LF within
-pub lines-clear : (w : Wire) (line : List ℕ) → IsProper w → HasLabels w → HasTexts w → text_of_message w ≡ line ++ 10 ∷ [] → All (λ b. 32 ≤ b) line
+pub lines-clear : (w : Wire) (line : List ℕ) → text_of_message w ≡ line ++ 10 ∷ [] → All (λ b. 32 ≤ b) line
 unfolding text_of_message
-lines-clear w line is labels texts ends =
+lines-clear w line ends =
     let d = object_of 2 w in
     let same : compact_text d ≡ line = append_cancel_right (compact_text d) line (10 ∷ []) ends in
-    clear-all line (subst IsClear same (text-clear d (again w is labels texts).texts))
+    clear-all line (subst IsClear same (text-clear d))
+
+-- nor has a header
+pub header-clear : (head : Head) (line : List ℕ) → text_of_head head ≡ line ++ 10 ∷ [] → All (λ b. 32 ≤ b) line
+unfolding text_of_head
+header-clear head line ends =
+    let d = head_object head in
+    let same : compact_text d ≡ line = append_cancel_right (compact_text d) line (10 ∷ []) ends in
+    clear-all line (subst IsClear same (text-clear d))

@@ -1,1 +1,4 @@
 pub mod ByteLemmas
+pub mod LineLemmas
+pub mod MessageLines
+pub mod Beginnings
