@@ -1,6 +1,6 @@
 -- The line of a message is read as that message.
 use Rattle.std.specs.Prelude.{⊤}
-use Rattle.std.proofs.Common.{◌≡◌, ℕ, ◌<◌, ◌≤◌, ◌^◌, ◌+◌, IsUtf8, List, [], ◌∷◌, ◌++◌, All, Bool, true, false, Option, Some, None, Ok, option_and_then, option_map, append-nil, codes, decimal, IfSome, inr, refl, subst, sym, ap, ◌∙◌, arith, lit<, rules}
+use Rattle.std.proofs.Common.{◌≡◌, ℕ, ◌<◌, ◌≤◌, ◌^◌, IsUtf8, List, [], ◌∷◌, ◌++◌, All, Bool, true, false, Option, Some, None, Ok, option_and_then, option_map, append-nil, codes, decimal, IfSome, inr, refl, subst, sym, ap, ◌∙◌, arith, lit<}
 use Rattle.std.specs.List.{AllByRecursion}
 use Rattle.std.specs.Str.{is_utf8}
 use Rattle.std.proofs.lemmas.Fmt.{IsAscii-decimal}
@@ -8,7 +8,6 @@ use Rattle.std.proofs.lemmas.List.{append_cancel_right}
 use Rattle.std.proofs.lemmas.List.Elements.{recursion_from_All}
 use Rattle.std.proofs.lemmas.Str.{IsUtf8-append, IsUtf8-from_ascii, is_utf8-from_IsUtf8, IsUtf8-from_is_utf8}
 use Rattle.json.specs.Json as json
-use Rattle.json.specs.Print.{print, quoted}
 use Rattle.json.specs.Tree.{depth, items_depth, json_tokens, HasNumbers, ItemsHaveNumbers, MembersHaveNumbers}
 use Rattle.json.proofs.Printed.Decimals.{IsNumber-decimal}
 use Rattle.json.proofs.Printed.Tokens.{tokens-print}
@@ -29,8 +28,8 @@ use Rattle.message_reader.specs.declared.wire.WireCall.{WireCall}
 use Rattle.message_reader.specs.declared.wire.WireRef.{WireRef}
 use Rattle.message_reader.specs.declared.wire.Wire.{Wire}
 use Rattle.message_reader.specs.declared.wire.Wire.TheVariants.{Event, Correct, Withdraw, Cancel, Reroute, Extra, Connect}
-use Rattle.message_reader.specs.Lines.{line_of, said_by_value}
-use Rattle.message_reader.specs.Spelled.{call_object, call_objects, connect_name, date_text, event_name, object_of, ref_object, time_or_null, time_text, value_name, CanBeSaidIn, HasLabels}
+use Rattle.message_reader.specs.Lines.{line_of}
+use Rattle.message_reader.specs.Spelled.{call_object, call_objects, connect_name, date_text, event_name, object_of, ref_object, time_text, value_name, CanBeSaidIn, HasLabels}
 use Rattle.message_reader.specs.Wires.{IsProper, IsWireCall}
 use Rattle.message_reader.proofs.SpelledLemmas.{messages_back}
 use Rattle.journal_lines.specs.declared.heads.Head.{Head}

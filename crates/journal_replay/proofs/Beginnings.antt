@@ -96,8 +96,7 @@ messages-read header (w ∷ ws) p bytes rest none empty some can taken is =
     let ended = message-ends w in
     let line : List ℕ = ended.line in
     let more : List ℕ = concat (map text_of_message ws) in
-    let clear : HasNoLf line =
-        clear-no_lf line (recursion_from_All (λ (b : ℕ). 32 ≤ b) line (lines-clear w line can.0.proper can.0.labels can.0.texts ended.is)) in
+    let clear : HasNoLf line = clear-no_lf line (recursion_from_All (λ (b : ℕ). 32 ≤ b) line (lines-clear w line ended.is)) in
     let short : length line < long_from = omega (arith, can.0.short, ap length ended.is, length-append line (10 ∷ [])) in
     let cut : bytes ++ rest ≡ line ++ 10 ∷ more = is ∙ ap (λ (l : List ℕ). l ++ more) ended.is ∙ append_assoc line (10 ∷ []) more in
     elim (cases-beginning bytes line rest more cut) [
