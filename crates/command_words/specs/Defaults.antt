@@ -1,9 +1,9 @@
 -- Words that give no option ask for the default options.
-use Rattle.std.specs.Prelude.{◌≡◌, List, [], ◌∷◌, Some, codes}
+use Rattle.std.specs.Prelude.{◌≡◌, List, [], ◌∷◌, None, Some, codes}
 use Rattle.clap.specs.Words.{Text}
 use Rattle.service_zones.specs.Zones.{utc}
 use Rattle.command_words.specs.declared.words.Command.{Command}
-use Rattle.command_words.specs.declared.words.Command.TheVariants.{Times, Serve, Check, Plans, Watch}
+use Rattle.command_words.specs.declared.words.Command.TheVariants.{Times, Serve, Check, Plans, Watch, Journal, Restart}
 use Rattle.command_words.specs.GenWords.{default_options}
 use Rattle.command_words.specs.Words.{Asked, asked_of}
 
@@ -21,6 +21,7 @@ asked_by_default command = record {
   opts = default_options;
   workers = 4;
   rides = 4;
+  zone_text = None;
   zone = utc;
 }
 
@@ -31,3 +32,5 @@ DefaultsAreAsked =
     × (asked_of (words_without_options (codes "check")) ≡ Some (asked_by_default Check))
     × (asked_of (words_without_options (codes "plans")) ≡ Some (asked_by_default Plans))
     × (asked_of (words_without_options (codes "watch")) ≡ Some (asked_by_default Watch))
+    × (asked_of (words_without_options (codes "journal")) ≡ Some (asked_by_default Journal))
+    × (asked_of (words_without_options (codes "restart")) ≡ Some (asked_by_default Restart))

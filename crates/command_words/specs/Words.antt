@@ -12,11 +12,12 @@ use Rattle.service_zones.specs.Zones.{ZoneRules, utc}
 use Rattle.service_zones.specs.ZoneTexts.{zone_of}
 use Rattle.command_words.specs.Commands.{app_for}
 use Rattle.command_words.specs.declared.words.Command.{Command}
-use Rattle.command_words.specs.declared.words.Command.TheVariants.{Times, Serve, Check, Plans, Watch}
+use Rattle.command_words.specs.declared.words.Command.TheVariants.{Times, Serve, Check, Plans, Watch, Journal, Restart}
 
 -- the command, the folder of the feed, the first service day as the number YYYYMMDD, how many
 -- service days there are, the options of the timetable, how many workers answer queries, up to how
--- many rides plans have, and the zone in which service days begin
+-- many rides plans have, the text of the zone in which service days begin, where one is given, and
+-- this zone
 pub record Asked : Type 0 where
   pub command : Command
   pub folder : Text
@@ -25,6 +26,7 @@ pub record Asked : Type 0 where
   pub opts : Opts
   pub workers : ℕ
   pub rides : ℕ
+  pub zone_text : Option Text
   pub zone : ZoneRules
 
 infixl 10 ◌>>=◌
@@ -83,7 +85,9 @@ command_of name = if bytes_eq name (codes "times") then Some Times
     else (if bytes_eq name (codes "serve") then Some Serve
     else (if bytes_eq name (codes "check") then Some Check
     else (if bytes_eq name (codes "plans") then Some Plans
-    else (if bytes_eq name (codes "watch") then Some Watch else None))))
+    else (if bytes_eq name (codes "watch") then Some Watch
+    else (if bytes_eq name (codes "journal") then Some Journal
+    else (if bytes_eq name (codes "restart") then Some Restart else None))))))
 
 -- what the values of a command's arguments ask for
 abbrev pub values_ask : Command → List Row → Option Asked
@@ -103,6 +107,7 @@ values_ask command given =
       opts = opts;
       workers = workers;
       rides = rides;
+      zone_text = first_of (codes "zone") given;
       zone = zone;
     }) else None
 

@@ -38,6 +38,12 @@ pub enum Command {
     /// Answers each line at once, and watches the journey that it shows to a query: behind the
     /// reply to an accepted message it tells of each watched journey whose standing changes.
     Watch,
+
+    /// Writes the journal of the messages that are accepted, and no replies.
+    Journal,
+
+    /// Takes the messages of a journal in the feed's folder first, and then does what `Times` does.
+    Restart,
 }
 
 /// What the words ask for.
@@ -64,7 +70,10 @@ pub struct Asked<'a> {
     /// Up to how many rides plans have: 1 to 8; 4 where the command has no such option.
     pub rides: u32,
 
-    /// The zone in which service days begin.
+    /// The text of the zone, where one is given.
+    pub zone_text: Option<&'a str>,
+
+    /// The zone in which service days begin: universal time where no text is given.
     pub zone: Zone,
 }
 
@@ -119,6 +128,8 @@ impl Command {
             "check" => Some(Command::Check),
             "plans" => Some(Command::Plans),
             "watch" => Some(Command::Watch),
+            "journal" => Some(Command::Journal),
+            "restart" => Some(Command::Restart),
             _ => None,
         }
     }
@@ -175,6 +186,7 @@ fn values_ask<'a>(command: Command, given: &ArgMatches<'a>) -> Option<Asked<'a>>
         opts: options(given)?,
         workers: number_within(given, "workers", 1, 16)?,
         rides: rides_given(value(given, "rides"))?,
+        zone_text: value(given, "zone"),
         zone: zone_given(value(given, "zone"))?,
     };
     if asked.zone.has_day_of_wrong_length(asked.first, asked.days) {

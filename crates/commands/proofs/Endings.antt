@@ -79,8 +79,8 @@ stopped-early {task = task} none {budget = budget} {feed = feed} {left = left} {
       fewer = λ is. absurd (not-error tt s (sym is));
       ok = λ is. absurd (not-error tt s (sym is));
       ended = λ is. absurd (not-error tt s (sym is));
-      stopped = λ is start begins. ([], consumes_none left, none-written task none begins.loads.asked start written);
-      front = λ start begins. none-front task none (not_late lines.WriteFault (λ h. h)) begins.loads.asked start budget left written;
+      stopped = λ is start begins. ([], consumes_none left, none-written task none start written);
+      front = λ start begins. none-front task none (not_late lines.WriteFault (λ h. h)) start budget left written;
       read_fault = λ is. inl (refl, refl, one is);
       write_fault = λ is. absurd (not_late lines.WriteFault (λ h. h) is);
       no_fault = λ not_read not_written. record { feed_reads = ap Some (e.answered not_read); input_reads = refl; writes = refl };

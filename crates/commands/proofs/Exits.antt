@@ -21,24 +21,24 @@ use Rattle.commands.specs.Contract.{EndsAs}
 use Rattle.commands.specs.Feeds.{asked_in}
 use Rattle.commands.specs.Seen.{FeedSeen, StreamSeen}
 use Rattle.commands.specs.Statuses.{IsFeedStop, run_of, words_stop}
-use Rattle.commands.specs.Tasks.{Task, feed_task}
+use Rattle.commands.specs.Tasks.{Task}
 use Rattle.commands.specs.declared.status.Stop.{Stop}
 use Rattle.commands.proofs.Endings.{Counts, early-feed, early-run, early-words, lines-end, same-error, still, stopped-also}
-use Rattle.commands.proofs.Tables.{by-none}
+use Rattle.commands.proofs.Tables.{WritesNothing}
 
-module _ {F S K : Type 0} {budget : ℕ} {words : List (List ℕ)} {feed : FeedSeen} {left written : Option (List ℕ)} {reads writes : Faults} {before after : F} {input : S} {out : K} where
+module _ {B F S K : Type 0} {task : Task B} (none : WritesNothing task) {budget : ℕ} {words : List (List ℕ)} {feed : FeedSeen} {left written : Option (List ℕ)} {reads writes : Faults} {before after : F} {input : S} {out : K} where
   -- the words are not read, and the feed is as it was
   pub words-exit : {T : Type 0} (f : WordsFault) (s : Stop) → s ≡ words_stop f → feed.faults_after ≡ feed.faults → after ≡ before
       → (IsErrOf {T = T} (Err f) words_faults.Usage → asked_of words ≡ None)
-      → EndsAs feed_task budget words feed (still left reads) (still written writes) before after input input out out (Err s)
-  words-exit f s stop kept same usage = early-run by-none (Err s) _ stop (early-words (λ absent. same) f kept (λ is. usage (ap Err is)))
+      → EndsAs task budget words feed (still left reads) (still written writes) before after input input out out (Err s)
+  words-exit f s stop kept same usage = early-run none (Err s) _ stop (early-words (λ absent. same) f kept (λ is. usage (ap Err is)))
 
   -- their feed is not loaded
   pub load-exit : {T : Type 0} {a : Asked} → asked_of words ≡ Some a → (f : FeedError) (s : Stop) → IsFeedStop f s → ((told : Files) → feed.tables ≡ Some told → IsErrorOf f (asked_in told a))
       → (IsErrOf {T = T} (Err f) feeds.ReadFault → Some feed.faults_after ≡ counted feed.faults) → (¬ (IsErrOf {T = T} (Err f) feeds.ReadFault) → feed.faults_after ≡ feed.faults)
-      → EndsAs feed_task budget words feed (still left reads) (still written writes) before after input input out out (Err s)
+      → EndsAs task budget words feed (still left reads) (still written writes) before after input input out out (Err s)
   load-exit asked f s stop exact failed answered =
-      early-run by-none (Err s) s refl (early-feed asked f s stop exact (λ is. failed (ap Err is)) (λ other. answered (λ is. other (same-error _ _ _ refl is))))
+      early-run none (Err s) s refl (early-feed asked f s stop exact (λ is. failed (ap Err is)) (λ other. answered (λ is. other (same-error _ _ _ refl is))))
 
 -- the lines end or stop, of a command that may have written nothing where nothing was read
 pub kept-end : {B F S K : Type 0} {task : Task B} {budget : ℕ} {words : List (List ℕ)} {feed : FeedSeen} {input out : StreamSeen}

@@ -99,7 +99,7 @@ module _ {B : Type 0} (task : Task B) {budget : ℕ} {words : List (List ℕ)} {
   -- an output that has room for each front is not full before the end of one
   has-room : {start : B} → TookAtMost budget input.bytes input.bytes_after → HasRoom (IsFrontWritten task budget words feed.tables input.bytes out.bytes) out
       → WriteFailed feed input out → (begins : Begins task words feed.tables start)
-      → AppendsTakenFront (Unit {0}) ((task.output begins.loads.asked).IsWhole start) ((task.output begins.loads.asked).AreReplies start)
+      → AppendsTakenFront (Unit {0}) (task.output.IsWhole start) (task.output.AreReplies start)
       budget input.bytes input.bytes_after out.bytes out.bytes_after → ⊥
   has-room {start = start} few room failed begins front =
       let now = front-told out.bytes out.bytes_after room.held room.told front in

@@ -1,10 +1,10 @@
 pub mod Endings
 pub mod Exits
+pub mod Fitting
 mod Failing
 pub mod GenEndings
 pub mod Made
 pub mod MadeLines
 pub mod SameTables
 pub mod Tables
-pub mod Commands
 pub mod Statuses

@@ -4,8 +4,6 @@ use Rattle.std.proofs.KnownBytes.{Appends-nil}
 use Rattle.std.proofs.lemmas.Option.{none-some}
 use Rattle.delay_model.specs.declared.network.Network.{Network}
 use Rattle.delay_model.specs.declared.state.State.{State}
-use Rattle.command_words.specs.declared.words.Command.{Command}
-use Rattle.command_words.specs.declared.words.Command.TheVariants.{Times, Serve, Check, Plans, Watch}
 use Rattle.command_words.specs.Words.{Asked, asked_of}
 use Rattle.gtfs_tables.specs.declared.refusals.FeedRefusal.{FeedRefusal}
 use Rattle.feed_load.specs.Loaded.{loaded}
@@ -24,18 +22,13 @@ use Rattle.information_service.proofs.WrittenAlike.{beginning-alike, whole-over}
 use Rattle.mt_io.proofs.Gives.{consumes_none}
 use Rattle.window_service.proofs.Networks.{served-same, whole-same}
 use Rattle.window_service.proofs.Written.{nothing-served}
-use Rattle.checked_answers.proofs.Alike.{checked-alike}
-use Rattle.plan_answers.proofs.Alike.{planned-alike}
-use Rattle.journey_watch.specs.Watching.{WatchState}
-use Rattle.watch_answers.specs.WatchedLines.{watched_output}
-use Rattle.watch_answers.proofs.Alike.{watched-alike}
 use Rattle.commands.specs.Beginnings.{IsBegun}
 use Rattle.commands.specs.Feeds.{network, tables_in, asked_in}
 use Rattle.commands.specs.LineTasks.{Behind, IsBegunAlike, Refuses, Start, begins_by, begun_over, is_long, line_output, line_task, long_line, table_among, unless_long}
 use Rattle.commands.specs.Loading.{IsFetched}
 use Rattle.commands.specs.declared.loading.Fetched.{Fetched}
 use Rattle.commands.specs.Runs.{Begins, IsFeedRefused, IsLoadRefused, IsRefused, Loads, Refusal, SaysWhy, by_feed, by_command, line_of_refusal}
-use Rattle.commands.specs.Tasks.{Task, check_output, feed_task, first_service, kept_output, output_for, output_of, plans_output}
+use Rattle.commands.specs.Tasks.{Output, Task, first_service, served_output, service_task, times_output}
 
 -- the timetable that was loaded is the one that the words ask for
 pub record IsStart (words : List (List ℕ)) (tables : Option Files) (a : Asked) (nw loaded : Network)
@@ -85,36 +78,20 @@ pub begun-not-refused : {B : Type 0} {task : Task B} {words : List (List ℕ)} {
 begun-not-refused b (by_feed why) r = let l = b.loads in grind (arith, l.asked_is, r.asked_is, l.told_is, r.told_is, l.holds, r.refused)
 begun-not-refused b (by_command line) r = let one = are-one b.loads r.loads in absurd (cc (one.asked, one.told, one.service, b.begins, r.refused))
 
--- ---- commands that load nothing behind the feed
+-- ---- commands that begin with the service that was loaded
 
--- `watch` begins with no journey
-abbrev pub none-watched : WatchState
-none-watched = record { room = 10000; watched = [] }
+-- an output is the same over networks that no definition tells apart
+pub record IsOutputAlike (o : Output ServiceState) : Type 0 where
+  pub whole : (a b : Network) → IsSame a b → (names : Names) (st : State) (lines : List Line) (bytes : List ℕ)
+      → o.IsWhole (first_service b names st) lines bytes → o.IsWhole (first_service a names st) lines bytes
+  pub replies : (a b : Network) → IsSame a b → (names : Names) (st : State) (lines : List Line) (bytes : List ℕ)
+      → o.AreReplies (first_service b names st) lines bytes → o.AreReplies (first_service a names st) lines bytes
 
--- networks alike have the same outputs and the same replies, whatever the command
-whole-alike : (c : Command) (rides : ℕ) (a b : Network) → IsSame a b → (names : Names) (st : State) (lines : List Line) (bytes : List ℕ)
-    → (output_for c rides).IsWhole (first_service b names st) lines bytes → (output_for c rides).IsWhole (first_service a names st) lines bytes
-whole-alike Times rides a b h names st lines bytes w = output-same a b h names st lines bytes w
-whole-alike Serve rides a b h names st lines bytes w = served-same a b h names st lines bytes w
-whole-alike Check rides a b h names st lines bytes w = whole-over checked-alike a (first_service b names st) tt h lines bytes w
-whole-alike Plans rides a b h names st lines bytes w = whole-over planned-alike a (first_service b names st) rides h lines bytes w
-whole-alike Watch rides a b h names st lines bytes w = whole-over watched-alike a (first_service b names st) none-watched h lines bytes w
+pub times-alike : IsOutputAlike times_output
+times-alike = record { whole = output-same; replies = λ a b h names st lines bytes r. replies-same a b h names st [] lines bytes r }
 
-replies-alike : (c : Command) (rides : ℕ) (a b : Network) → IsSame a b → (names : Names) (st : State) (lines : List Line) (bytes : List ℕ)
-    → (output_for c rides).AreReplies (first_service b names st) lines bytes → (output_for c rides).AreReplies (first_service a names st) lines bytes
-replies-alike Times rides a b h names st lines bytes r = replies-same a b h names st [] lines bytes r
-replies-alike Serve rides a b h names st lines bytes r = whole-same a b h names st lines bytes r
-replies-alike Check rides a b h names st lines bytes r = elim r [ inl some ↦ inl (beginning-alike checked-alike a (first_service b names st) tt h lines bytes some) | inr nothing ↦ inr nothing ]
-replies-alike Plans rides a b h names st lines bytes r = elim r [ inl some ↦ inl (beginning-alike planned-alike a (first_service b names st) rides h lines bytes some) | inr nothing ↦ inr nothing ]
-replies-alike Watch rides a b h names st lines bytes r =
-    elim r [ inl some ↦ inl (beginning-alike watched-alike a (first_service b names st) none-watched h lines bytes some) | inr nothing ↦ inr nothing ]
-
-no-replies : (c : Command) (rides : ℕ) (t : ServiceState) → (output_for c rides).AreReplies t [] []
-no-replies Times rides t = refl
-no-replies Serve rides t = nothing-served t.network t.names t.state
-no-replies Check rides t = inr (refl, refl)
-no-replies Plans rides t = inr (refl, refl)
-no-replies Watch rides t = inr (refl, refl)
+pub served-alike : IsOutputAlike served_output
+served-alike = record { whole = served-same; replies = whole-same }
 
 -- what a command begins with, and the line by which it refuses
 abbrev made : {A : Type 0} → A → Result A (List ℕ)
@@ -139,54 +116,27 @@ same-service : {words : List (List ℕ)} {tables : Option Files}
 same-service {nw = nw} {st = st} {names_loaded = names_loaded} s = ap (λ (ns : Names). first_service nw ns st) s.named ∙ ap (λ (t : State). first_service nw names_loaded t) s.state
 
 -- they begin with the service that was loaded
-by-asked : {words : List (List ℕ)} {tables : Option Files} {a : Asked} {loaded : Network} {st : State} {names : Names} → WasLoaded words tables a loaded st names
-    → IsBegun feed_task words tables ((output_of a).IsWhole (first_service loaded names st)) ((output_of a).AreReplies (first_service loaded names st))
-by-asked {words = words} {tables = tables} {a = a} {loaded = loaded} {st = st} {names = names} was = record {
+pub by-service : {o : Output ServiceState} {words : List (List ℕ)} {tables : Option Files} {a : Asked} {loaded : Network} {st : State} {names : Names} → IsOutputAlike o
+    → WasLoaded words tables a loaded st names
+    → IsBegun (service_task o) words tables (o.IsWhole (first_service loaded names st)) (o.AreReplies (first_service loaded names st))
+by-service {o = o} {loaded = loaded} {st = st} {names = names} alike was = record {
   asked = λ absent. none-some _ (sym absent ∙ was.asked);
   not_refused = elim [ by_feed why ↦ not-refused was why | by_command line ↦ λ r. (not-both _ line r.refused) ];
   whole = λ start begins lines bytes w.
       let s = same-start was begins.network begins.state begins.names begins.loads in
-      subst (λ (t : ServiceState). (output_of begins.loads.asked).IsWhole t lines bytes) (sym (same-service s) ∙ same-ok _ _ begins.begins)
-      (subst (λ (b : Asked). (output_of b).IsWhole (first_service begins.network names st) lines bytes) (sym s.asked)
-      (whole-alike a.command a.rides begins.network loaded s.network names st lines bytes w));
+      subst (λ (t : ServiceState). o.IsWhole t lines bytes) (sym (same-service s) ∙ same-ok _ _ begins.begins)
+      (alike.whole begins.network loaded s.network names st lines bytes w);
   replies = λ start begins lines bytes r.
       let s = same-start was begins.network begins.state begins.names begins.loads in
-      subst (λ (t : ServiceState). (output_of begins.loads.asked).AreReplies t lines bytes) (sym (same-service s) ∙ same-ok _ _ begins.begins)
-      (subst (λ (b : Asked). (output_of b).AreReplies (first_service begins.network names st) lines bytes) (sym s.asked)
-      (replies-alike a.command a.rides begins.network loaded s.network names st lines bytes r));
+      subst (λ (t : ServiceState). o.AreReplies t lines bytes) (sym (same-service s) ∙ same-ok _ _ begins.begins)
+      (alike.replies begins.network loaded s.network names st lines bytes r);
 }
-
-pub by-command : {words : List (List ℕ)} {tables : Option Files} {a : Asked} {loaded : Network} {st : State} {names : Names} (c : Command) → WasLoaded words tables a loaded st names → a.command ≡ c
-    → IsBegun feed_task words tables ((output_for c a.rides).IsWhole (first_service loaded names st)) ((output_for c a.rides).AreReplies (first_service loaded names st))
-by-command {words = words} {tables = tables} {a = a} {loaded = loaded} {st = st} {names = names} c was is =
-    subst (λ (d : Command). IsBegun feed_task words tables ((output_for d a.rides).IsWhole (first_service loaded names st)) ((output_for d a.rides).AreReplies (first_service loaded names st))) is (by-asked was)
 
 -- ---- commands that answer line by line
 
 -- a service that has accepted no message is the first one
 at-first : (t : ServiceState) → t.count ≡ 0 → t ≡ first_service t.network t.names t.state
 at-first t none = ap (λ (n : ℕ). record { network = t.network; state = t.state; count = n; names = t.names }) none
-
--- `check`, `plans` and `watch` begin with it as it was loaded, with what they keep
-module _ {words : List (List ℕ)} {tables : Option Files} {a : Asked} {t : ServiceState} (none : t.count ≡ 0) (was : WasLoaded words tables a t.network t.state t.names) where
-  by-loaded : (c : Command) → a.command ≡ c → IsBegun feed_task words tables ((output_for c a.rides).IsWhole t) ((output_for c a.rides).AreReplies t)
-  by-loaded c is =
-      subst (λ (s : ServiceState). IsBegun feed_task words tables ((output_for c a.rides).IsWhole s) ((output_for c a.rides).AreReplies s)) (sym (at-first t none)) (by-command c was is)
-
-  pub by-check : a.command ≡ Check → IsBegun feed_task words tables (check_output.IsWhole t) (check_output.AreReplies t)
-  by-check is = by-loaded Check is
-
-  pub by-plans : {rides : ℕ} → a.command ≡ Plans → rides ≡ a.rides → IsBegun feed_task words tables ((plans_output rides).IsWhole t) ((plans_output rides).AreReplies t)
-  by-plans is own = subst (λ (n : ℕ). IsBegun feed_task words tables ((plans_output n).IsWhole t) ((plans_output n).AreReplies t)) (sym own) (by-loaded Plans is)
-
-  pub by-watch : {kept : WatchState} → a.command ≡ Watch → kept ≡ none-watched
-      → IsBegun feed_task words tables ((kept_output watched_output kept).IsWhole t) ((kept_output watched_output kept).AreReplies t)
-  by-watch is own =
-      subst (λ (k : WatchState). IsBegun feed_task words tables ((kept_output watched_output k).IsWhole t) ((kept_output watched_output k).AreReplies t)) (sym own) (by-loaded Watch is)
-
--- where no journey is watched, what is kept fits every service
-pub fits-none : (t : ServiceState) {kept : WatchState} → kept ≡ none-watched → watched_output.fits t kept
-fits-none t {kept = kept} is = subst (watched_output.fits t) (sym is) (λ k w within. absurd (omega (arith, within)))
 
 -- what begins the same over networks alike does so also where its table is too long
 alike-if : {C : Type 0} (nw : Network) (long : Bool) (line : List ℕ) (x y : Result (Start C) (List ℕ))
@@ -275,27 +225,30 @@ module _ {C : Type 0} {b : Behind C} {words : List (List ℕ)} {tables : Option 
 
 -- ---- where nothing is written
 
--- nothing is what is written for no lines, whatever the words ask for
+-- nothing is what is written for no lines
 abbrev pub WritesNothing : {B : Type 0} → Task B → Type 0
-WritesNothing {B = B} task = (a : Asked) (start : B) → (task.output a).AreReplies start [] []
+WritesNothing {B = B} task = (start : B) → task.output.AreReplies start [] []
 
-pub by-none : WritesNothing feed_task
-by-none a t = no-replies a.command a.rides t
+pub by-times : WritesNothing (service_task times_output)
+by-times t = refl
+
+pub by-served : WritesNothing (service_task served_output)
+by-served t = nothing-served t.network t.names t.state
 
 pub by-no_line : {C : Type 0} (b : Behind C) (o : LineOutput C) → WritesNothing (line_task b o)
-by-no_line b o a start = inr (refl, refl)
+by-no_line b o start = inr (refl, refl)
 
 -- nothing is written where nothing was taken
 pub none-written : {B : Type 0} (task : Task B) → WritesNothing task
-    → (a : Asked) (start : B) (written : Option (List ℕ)) → AppendsAll ((task.output a).AreReplies start (lines_of false [])) written written
+    → (start : B) (written : Option (List ℕ)) → AppendsAll (task.output.AreReplies start (lines_of false [])) written written
 unfolding lines_of
-none-written task none a start written = record { shown = []; is = none a start; written = Appends-nil written }
+none-written task none start written = record { shown = []; is = none start; written = Appends-nil written }
 
 -- and nothing is a front of what is written
-pub none-front : {B Failed : Type 0} (task : Task B) → WritesNothing task → ¬ Failed → (a : Asked) (start : B) (budget : ℕ) (left written : Option (List ℕ))
-    → AppendsTakenFront Failed ((task.output a).IsWhole start) ((task.output a).AreReplies start) budget left left written written
-none-front task none no_fault a start budget left written = record {
+pub none-front : {B Failed : Type 0} (task : Task B) → WritesNothing task → ¬ Failed → (start : B) (budget : ℕ) (left written : Option (List ℕ))
+    → AppendsTakenFront Failed (task.output.IsWhole start) (task.output.AreReplies start) budget left left written written
+none-front task none no_fault start budget left written = record {
   bytes = [];
   took = consumes_none left;
-  front = inl (record { first = []; later = lines_of false []; shown = []; split = refl; is = none a start; front = front_none no_fault written [] });
+  front = inl (record { first = []; later = lines_of false []; shown = []; split = refl; is = none start; front = front_none no_fault written [] });
 }

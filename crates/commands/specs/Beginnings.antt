@@ -19,12 +19,12 @@ pub record IsBegun {B : Type 0} (task : Task B) (words : List (List ℕ)) (table
     (IsAll Are : List Line → List ℕ → Type 0) : Type 0 where
   pub asked : ¬ (asked_of words ≡ None)
   pub not_refused : (why : Refusal) → ¬ (IsRefused task words tables why)
-  pub whole : (start : B) (begins : Begins task words tables start) (lines : List Line)
+  pub whole : (start : B) → Begins task words tables start → (lines : List Line)
       (bytes : List ℕ) → IsAll lines bytes
-      → (task.output begins.loads.asked).IsWhole start lines bytes
-  pub replies : (start : B) (begins : Begins task words tables start) (lines : List Line)
+      → task.output.IsWhole start lines bytes
+  pub replies : (start : B) → Begins task words tables start → (lines : List Line)
       (bytes : List ℕ) → Are lines bytes
-      → (task.output begins.loads.asked).AreReplies start lines bytes
+      → task.output.AreReplies start lines bytes
 
 -- a run can stop for this before it reads its input
 abbrev pub IsEarly : Stop → Type 0

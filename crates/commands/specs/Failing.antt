@@ -76,10 +76,10 @@ WritesCannotFail IsFront out = (out.faults.can ≡ never) ⊎ HasRoom IsFront ou
 abbrev pub IsFrontWritten : {B : Type 0} → Task B → ℕ → List (List ℕ) → Option Files
     → Option (List ℕ) → Option (List ℕ) → Option (List ℕ) → Type 0
 IsFrontWritten {B = B} task budget words tables left written written_now = (start : B)
-    × (begins : Begins task words tables start) × (left_now : Option (List ℕ))
+    × Begins task words tables start × (left_now : Option (List ℕ))
     × TookAtMost budget left left_now
-    × AppendsTakenFront ⊥ ((task.output begins.loads.asked).IsWhole start)
-    ((task.output begins.loads.asked).AreReplies start) budget left left_now written written_now
+    × AppendsTakenFront ⊥ (task.output.IsWhole start)
+    (task.output.AreReplies start) budget left left_now written written_now
 
 -- no read of the feed or the input can fail, and no write of the output
 pub record CannotFail {B : Type 0} (task : Task B) (budget : ℕ) (words : List (List ℕ))

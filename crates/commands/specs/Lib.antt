@@ -1,10 +1,12 @@
 pub mod Beginnings
+pub mod Commands
 pub mod Contract
 pub mod Failing
 pub mod Feeds
 pub mod GenContract
 pub mod LineTasks
 pub mod Loading
+pub mod OwnLoads
 pub mod Promises
 pub mod Runs
 pub mod Seen

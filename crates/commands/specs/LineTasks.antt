@@ -105,7 +105,7 @@ abbrev pub line_task : {C : Type 0} → Behind C → LineOutput C → Task (Star
 line_task b o = record {
   begins = λ told asked. begins_by b asked (table_among b.table (told asked.folder));
   Refuses = Refuses b;
-  output = λ asked. line_output o;
+  output = line_output o;
 }
 
 -- ---- a command that loads nothing behind the feed

@@ -1,6 +1,10 @@
 -- What is taken of the feed's folder behind the feed, and what a command makes of it.
-use Rattle.std.specs.Prelude.{ℕ, ◌≡◌, List, true, false, option_map, Result, Ok, Err, Some}
+use Rattle.std.specs.Prelude.{ℕ, ◌≡◌, ◌≤◌, ◌<◌, List, true, false, length, option_map, IfSome, Result, Ok, Err, None, Some}
 use Rattle.std.specs.declared.option.Option.{Option}
+use Rattle.command_words.specs.declared.words.Asked.{Asked}
+use Rattle.mt_base.specs.Civil.{IsCivil}
+use Rattle.mt_base.specs.Options.{IsInRange}
+use Rattle.service_zones.specs.Bases.{day_of_wrong_length}
 use Rattle.information_service.specs.ServiceState.{ServiceState}
 use Rattle.information_service.specs.declared.fault.LinesFault.{LinesFault}
 use Rattle.information_service.specs.declared.fault.LinesFault.TheVariants as faults
@@ -13,12 +17,29 @@ use Rattle.commands.specs.declared.loading.LoadFault.TheVariants.{Refused, OutOf
 use Rattle.commands.specs.declared.status.Stop.{Stop}
 use Rattle.commands.specs.declared.status.Stop.TheVariants as stops
 
+-- ---- what the words ask for
+
+-- the values of words that were read are in their ranges, and no service day is too short or too
+-- long
+pub record IsAskedFor (asked : Asked) : Type 0 where
+  pub civil : IsCivil asked.first
+  pub year : asked.first < 21010000
+  pub days : (1 ≤ asked.days) × (asked.days ≤ 31)
+  pub options : IsInRange asked.opts
+  pub rides : (1 ≤ asked.rides) × (asked.rides ≤ 8)
+  pub lengths : day_of_wrong_length asked.zone asked.first asked.days ≡ None
+
 -- ---- its table
 
 -- what was taken is this table, or it is too long
 abbrev pub IsFetched : Option (List ℕ) → Fetched → Type 0
 IsFetched table (Table bytes) = (table ≡ option_map (λ b. b.items) bytes) × (is_long table ≡ false)
 IsFetched table (TooLong line) = is_long table ≡ true
+
+-- a table that was taken has at most so many bytes
+abbrev pub HasFewBytes : Fetched → Type 0
+HasFewBytes (Table bytes) = IfSome bytes (λ b. length b.items ≤ 268435456)
+HasFewBytes (TooLong line) = Unit {0}
 
 -- a table that is too long is refused by the line with its name
 abbrev pub HasLongLine : Option (List ℕ) → Fetched → Type 0

@@ -5,7 +5,6 @@ use Rattle.std.specs.Io.KnownBytes.{Consumes}
 use Rattle.mt_base.specs.declared.tables.Tables.{Tables}
 use Rattle.delay_model.specs.declared.network.Network.{Network}
 use Rattle.delay_model.specs.declared.state.State.{State}
-use Rattle.command_words.specs.declared.words.Command.{Command}
 use Rattle.command_words.specs.Words.{Asked, asked_of}
 use Rattle.gtfs_tables.specs.declared.refusals.FeedRefusal.{FeedRefusal}
 use Rattle.gtfs_tables.specs.Feeds.{Files}
@@ -15,10 +14,6 @@ use Rattle.schedule_build.specs.Directory.{Names}
 use Rattle.commands.specs.Feeds.{network, tables_in, asked_in}
 use Rattle.commands.specs.Statuses.{refusal_line}
 use Rattle.commands.specs.Tasks.{Task, first_service}
-
--- what these words ask for, if for anything, is this command
-abbrev pub AskFor : Command → List (List ℕ) → Type 0
-AskFor command words = (asked : Asked) → asked_of words ≡ Some asked → asked.command ≡ command
 
 -- ---- what a command begins with
 
@@ -100,8 +95,8 @@ pub record SaysWhy {B : Type 0} (task : Task B) (words : List (List ℕ)) (table
 abbrev pub WritesAll : {B : Type 0} → Task B → List (List ℕ) → Option Files → Option (List ℕ)
     → Option (List ℕ) → Option (List ℕ) → Type 0
 WritesAll {B = B} task words tables left written written_now =
-    (start : B) (bytes : List ℕ) → (begins : Begins task words tables start) → left ≡ Some bytes
-    → AppendsAll ((task.output begins.loads.asked).IsWhole start (lines_of true bytes))
+    (start : B) (bytes : List ℕ) → Begins task words tables start → left ≡ Some bytes
+    → AppendsAll (task.output.IsWhole start (lines_of true bytes))
     written written_now
 
 -- what was written are the replies to the lines that are whole among the bytes taken; in `serve`,
@@ -109,9 +104,9 @@ WritesAll {B = B} task words tables left written written_now =
 abbrev pub WritesReplies : {B : Type 0} → Task B → List (List ℕ) → Option Files → Option (List ℕ)
     → Option (List ℕ) → Option (List ℕ) → Option (List ℕ) → Type 0
 WritesReplies {B = B} task words tables left left_now written written_now =
-    (start : B) → (begins : Begins task words tables start)
+    (start : B) → Begins task words tables start
     → (bytes : List ℕ) × Consumes left left_now bytes
-    × AppendsAll ((task.output begins.loads.asked).AreReplies start (lines_of false bytes))
+    × AppendsAll (task.output.AreReplies start (lines_of false bytes))
     written written_now
 
 -- what was written is a front of an output for the bytes that were taken, however the run ended: of
@@ -120,9 +115,9 @@ WritesReplies {B = B} task words tables left left_now written written_now =
 abbrev pub WritesFront : {B : Type 0} → Type 0 → Task B → ℕ → List (List ℕ) → Option Files
     → Option (List ℕ) → Option (List ℕ) → Option (List ℕ) → Option (List ℕ) → Type 0
 WritesFront {B = B} Failed task budget words tables left left_now written written_now =
-    (start : B) → (begins : Begins task words tables start)
-    → AppendsTakenFront Failed ((task.output begins.loads.asked).IsWhole start)
-    ((task.output begins.loads.asked).AreReplies start) budget left left_now written written_now
+    (start : B) → Begins task words tables start
+    → AppendsTakenFront Failed (task.output.IsWhole start)
+    (task.output.AreReplies start) budget left left_now written written_now
 
 -- ---- what can be answered
 

@@ -1,6 +1,6 @@
 //! How a command that answers line by line begins.
 
-ghost use Rattle.std.specs.Prelude.{◌≡◌, IfErr, IfOk, OnOk, map, string_bytes};
+ghost use Rattle.std.specs.Prelude.{◌≡◌, ◌≤◌, IfErr, IfOk, OnOk, map, string_bytes};
 ghost use Rattle.commands.specs.Beginnings.{IsBegun, StopsEarly};
 ghost use Rattle.commands.specs.LineTasks.{BeginsSome, line_output, line_task};
 ghost use Rattle.commands.specs.Loading.{start_of};
@@ -28,7 +28,7 @@ pub(crate) fn begin<T: AnswerLines<C>, L: LoadBehind<C>, C: Drop, F: Feed>(
         ((line_output T.output).IsWhole (start_of b))
         ((line_output T.output).AreReplies (start_of b))) }
     ensures begins { IfOk result (λ b. BeginsSome L.behind (start_of b)) }
-    ensures new { IfOk result (λ b. b.service.count ≡ 0) }
+    ensures count { IfOk result (λ b. b.service.count ≤ 268435456) }
     ensures answered { OnOk result (F.faults feed.new ≡ F.faults feed.old) }
 
     // or why it does not begin

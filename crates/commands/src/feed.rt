@@ -1,6 +1,6 @@
 //! The timetable that a feed holds.
 
-ghost use Rattle.std.specs.Prelude.{◌≡◌, ◌<◌, ◌≤◌, [], None, Ok, Some, IfOk, IsErrOf};
+ghost use Rattle.std.specs.Prelude.{◌≡◌, ◌<◌, ◌≤◌, None, Ok, Some, IfOk, IsErrOf};
 ghost use Rattle.command_words.specs.Held.{asked_view};
 ghost use Rattle.feed_load.specs.Loaded.{loaded};
 ghost use Rattle.gtfs_tables.specs.Feeds.{Files, contents_of, tables_of};
@@ -14,19 +14,17 @@ ghost use Rattle.schedule_build.specs.Bases.{AreBases};
 ghost use Rattle.schedule_build.specs.InStep.{AreInStep};
 ghost use Rattle.service_zones.specs.Bases.{base_seconds, day_of_wrong_length};
 ghost use Rattle.commands.specs.Feeds.{network, tables_in, asked_in};
+ghost use Rattle.commands.specs.Loading.{IsAskedFor};
 
-use crate::loading::Begun;
 use command_words::Asked;
 use feed_load::load_feed;
 use gtfs_tables::FeedError;
 use information_service::InformationService;
-use journey_watch::Watch;
 use mt_base::Opts;
 use mt_base::memory::OutOfMemory;
 use mt_base::numbers::Time;
 use mt_base::rows::Rows;
 use mt_io::Feed;
-use plan_answers::PlanSearch;
 use schedule_build::Directory;
 use service_zones::{BaseFault, Zone};
 use std::alloc::{AllocError, Global};
@@ -152,12 +150,7 @@ pub(crate) fn load_asked<F: Feed>(
     asked: &Asked<'_>,
     feed: &mut F,
 ) -> Result<LoadedTimetable, FeedError>
-    // what words that were read ask for
-    requires civil { IsCivil asked.now.first }
-    requires year { asked.now.first < 21010000 }
-    requires days { (1 ≤ asked.now.days) × (asked.now.days ≤ 31) }
-    requires options { IsInRange asked.now.opts }
-    requires lengths { day_of_wrong_length asked.now.zone asked.now.first asked.now.days ≡ None }
+    requires asked { IsAskedFor asked.now }
 
     // the timetable that the feed holds, or why it is refused
     ensures exact { (told : Files) → F.tables feed.old ≡ Some told
@@ -194,12 +187,7 @@ pub(crate) fn load_service<F: Feed>(
     asked: &Asked<'_>,
     feed: &mut F,
 ) -> Result<InformationService, FeedError>
-    // what words that were read ask for
-    requires civil { IsCivil asked.now.first }
-    requires year { asked.now.first < 21010000 }
-    requires days { (1 ≤ asked.now.days) × (asked.now.days ≤ 31) }
-    requires options { IsInRange asked.now.opts }
-    requires lengths { day_of_wrong_length asked.now.zone asked.now.first asked.now.days ≡ None }
+    requires asked { IsAskedFor asked.now }
 
     // the timetable that the feed holds, or why it is refused
     ensures exact { (told : Files) → F.tables feed.old ≡ Some told
@@ -217,78 +205,4 @@ pub(crate) fn load_service<F: Feed>(
 {
     let loaded = load_asked(alloc, asked, feed)?;
     Ok(InformationService::build(alloc, loaded.timetable, loaded.directory)?)
-}
-
-/// The timetable that the words ask for, as a service, with room for the search for plans.
-pub(crate) fn load_planner<F: Feed>(
-    alloc: Global,
-    asked: &Asked<'_>,
-    feed: &mut F,
-) -> Result<Begun<PlanSearch>, FeedError>
-    // what words that were read ask for
-    requires civil { IsCivil asked.now.first }
-    requires year { asked.now.first < 21010000 }
-    requires days { (1 ≤ asked.now.days) × (asked.now.days ≤ 31) }
-    requires options { IsInRange asked.now.opts }
-    requires lengths { day_of_wrong_length asked.now.zone asked.now.first asked.now.days ≡ None }
-    requires rides { (1 ≤ asked.now.rides) × (asked.now.rides ≤ 8) }
-
-    // the timetable that the feed holds, or why it is refused
-    ensures exact { (told : Files) → F.tables feed.old ≡ Some told
-        → Gives (λ b. (b.service.state, b.service.names)) result
-        (asked_in told (asked_view asked.now)) }
-    ensures network { IfOk result (λ b. (told : Files) (rows : ATables) → F.tables feed.old
-        ≡ Some told → tables_in told (asked_view asked.now) ≡ Ok rows
-        → IsSame (network rows asked.now.opts) b.service.network) }
-    ensures new { IfOk result (λ b. b.service.count ≡ 0) }
-    ensures rides { IfOk result (λ b. b.kept ≡ asked.now.rides) }
-
-    // a read fault comes where one read failed, and else none failed
-    ensures failed { IsErrOf result FeedError.ReadFault
-        → Some (F.faults feed.new) ≡ counted (F.faults feed.old) }
-    ensures answered { ¬ (IsErrOf result FeedError.ReadFault)
-        → F.faults feed.new ≡ F.faults feed.old }
-{
-    let service = load_service(alloc, asked, feed)?;
-    let kept = PlanSearch::build(alloc, asked.rides, &service)?;
-    Ok(Begun { service, kept })
-}
-
-/// How many journeys `watch` watches at most.
-const WATCHED: u32 = 10_000;
-
-/// The timetable that the words ask for, as a service, with room for journeys to watch.
-pub(crate) fn load_watcher<F: Feed>(
-    alloc: Global,
-    asked: &Asked<'_>,
-    feed: &mut F,
-) -> Result<Begun<Watch>, FeedError>
-    // what words that were read ask for
-    requires civil { IsCivil asked.now.first }
-    requires year { asked.now.first < 21010000 }
-    requires days { (1 ≤ asked.now.days) × (asked.now.days ≤ 31) }
-    requires options { IsInRange asked.now.opts }
-    requires lengths { day_of_wrong_length asked.now.zone asked.now.first asked.now.days ≡ None }
-
-    // the timetable that the feed holds, or why it is refused
-    ensures exact { (told : Files) → F.tables feed.old ≡ Some told
-        → Gives (λ b. (b.service.state, b.service.names)) result
-        (asked_in told (asked_view asked.now)) }
-    ensures network { IfOk result (λ b. (told : Files) (rows : ATables) → F.tables feed.old
-        ≡ Some told → tables_in told (asked_view asked.now) ≡ Ok rows
-        → IsSame (network rows asked.now.opts) b.service.network) }
-    ensures new { IfOk result (λ b. b.service.count ≡ 0) }
-
-    // no journey is watched
-    ensures watched { IfOk result (λ b. b.kept ≡ record { room = 10000; watched = [] }) }
-
-    // a read fault comes where one read failed, and else none failed
-    ensures failed { IsErrOf result FeedError.ReadFault
-        → Some (F.faults feed.new) ≡ counted (F.faults feed.old) }
-    ensures answered { ¬ (IsErrOf result FeedError.ReadFault)
-        → F.faults feed.new ≡ F.faults feed.old }
-{
-    let service = load_service(alloc, asked, feed)?;
-    let kept = Watch::build(alloc, WATCHED)?;
-    Ok(Begun { service, kept })
 }

@@ -5,6 +5,7 @@ mod beginning;
 mod feed;
 mod generated;
 mod loading;
+mod own_loads;
 mod refusal;
 mod run;
 mod status;
@@ -12,5 +13,9 @@ mod telling;
 
 pub use feed::{LoadedTimetable, load_timetable};
 pub use loading::{LoadBehind, LoadFault, LoadNothing};
-pub use run::{run_check, run_lines, run_plans, run_times, run_watch, traind, traind_within};
+pub use own_loads::{LoadHeader, LoadJournal, LoadPlans, LoadWatch};
+pub use run::{
+    run_check, run_journal, run_lines, run_plans, run_restart, run_times, run_watch, traind,
+    traind_within,
+};
 pub use status::Status;

@@ -1,12 +1,12 @@
 //! What a command that answers line by line loads behind the feed.
 
-ghost use Rattle.std.specs.Prelude.{◌≡◌, List, ℕ, Some, IfErr, IfOk, IsErrOf, OnOk, option_map};
+ghost use Rattle.std.specs.Prelude.{◌≡◌, ◌≤◌, List, ℕ, Some, IfErr, IfOk, IsErrOf, OnOk, option_map};
 ghost use Rattle.std.specs.declared.option.Option.{Option};
 ghost use Rattle.command_words.specs.Held.{asked_view};
 ghost use Rattle.gtfs_tables.specs.Feeds.{Files};
 ghost use Rattle.mt_io.specs.Causes.{counted};
 ghost use Rattle.commands.specs.LineTasks.{BeginsSome, begins_by, table_among};
-ghost use Rattle.commands.specs.Loading.{HasLongLine, HasOwnLine, IsFetched, IsLoaded, IsOfFeed};
+ghost use Rattle.commands.specs.Loading.{HasFewBytes, HasLongLine, HasOwnLine, IsAskedFor, IsFetched, IsLoaded, IsOfFeed};
 
 use crate::refusal::long_line;
 use command_words::Asked;
@@ -37,10 +37,10 @@ impl From<AllocError> for LoadFault {
 /// What a command loads behind the feed, before it reads its input. `C` is the type of what it
 /// keeps beside the timetable and its names.
 pub trait LoadBehind<C> {
-    ghost use Rattle.std.specs.Prelude.{◌≡◌, OnOk, option_map};
+    ghost use Rattle.std.specs.Prelude.{◌≡◌, ◌≤◌, length, IfSome, OnOk, option_map};
     ghost use Rattle.command_words.specs.Held.{asked_view};
     ghost use Rattle.commands.specs.LineTasks.{Behind, IsBegunAlike};
-    ghost use Rattle.commands.specs.Loading.{IsLoaded};
+    ghost use Rattle.commands.specs.Loading.{IsAskedFor, IsLoaded};
 
     /// The table that it takes, and what it begins with, or the line by which it refuses.
     ghost behind: { Behind C };
@@ -50,17 +50,19 @@ pub trait LoadBehind<C> {
         ensures { option_map (λ name. name.now) result ≡ behind.table };
 
     /// What it keeps at first, by the bytes of its table, if there is such a table. The service has
-    /// accepted no message, and none afterwards.
+    /// accepted no message before, and no more afterwards than a table has bytes at most.
     fn load(
         alloc: Global,
         asked: &Asked<'_>,
         table: Option<Vec<u8>>,
         service: &mut InformationService,
     ) -> Result<C, LoadFault>
+        requires asked { IsAskedFor asked.now }
+        requires few { IfSome table (λ bytes. length bytes.items ≤ 268435456) }
         requires new { service.old.count ≡ 0 }
         ensures loaded { IsLoaded (behind.begins (asked_view asked.now)
             (option_map (λ bytes. bytes.items) table) service.old) service.new result }
-        ensures new { OnOk result (service.new.count ≡ 0) };
+        ensures count { OnOk result (service.new.count ≤ 268435456) };
 
     /// A law: over networks that no definition tells apart it begins the same.
     fn networks_are_begun_alike()
@@ -119,6 +121,7 @@ pub(crate) fn fetch<F: Feed>(
     ensures fetched { IfOk result (λ own. (told : Files) → F.tables feed.old ≡ Some told
         → IsFetched (table_among (option_map (λ n. n.now) name.entry) (told folder.now)) own) }
     ensures named { IfOk result (HasLongLine (option_map (λ n. n.now) name.entry)) }
+    ensures few { IfOk result HasFewBytes }
     ensures same { F.tables feed.new ≡ F.tables feed.old }
 
     // a read fault comes where one read failed, and else none failed
@@ -146,6 +149,8 @@ pub(crate) fn load_behind<L: LoadBehind<C>, C>(
     own: Fetched,
     service: &mut InformationService,
 ) -> Result<C, LoadFault>
+    requires asked { IsAskedFor asked.now }
+    requires few { HasFewBytes own }
     requires new { service.old.count ≡ 0 }
     requires named { HasLongLine L.behind.table own }
 
@@ -156,7 +161,7 @@ pub(crate) fn load_behind<L: LoadBehind<C>, C>(
       kept = kept;
     })) }
     ensures line { IfErr result (HasOwnLine L.behind) }
-    ensures new { OnOk result (service.new.count ≡ 0) }
+    ensures count { OnOk result (service.new.count ≤ 268435456) }
 {
     match own {
         Fetched::Table(table) => L::load(alloc, asked, table, service),

@@ -1,24 +1,32 @@
 //! The program as a call: its commands over any feed, input and outputs.
 
-ghost use Rattle.std.specs.Prelude.{◌≡◌, ◌≤◌, map, true, false, string_bytes};
+ghost use Rattle.std.specs.Prelude.{◌≡◌, ◌≤◌, ◌^◌, map, true, false, string_bytes};
+ghost use Rattle.checked_answers.specs.CheckedLines.{checked_output};
 ghost use Rattle.command_words.specs.GenWords.{is_gen};
 ghost use Rattle.commands.specs.Contract.{EndsAs, MeetsContract, byte_budget};
 ghost use Rattle.commands.specs.Seen.{feed_seen, stream_seen};
 ghost use Rattle.commands.specs.GenContract.{MeetsGenContract};
-ghost use Rattle.commands.specs.Runs.{AskFor};
-ghost use Rattle.commands.specs.LineTasks.{BeginsFitting, line_task};
-ghost use Rattle.commands.specs.Tasks.{feed_task};
+ghost use Rattle.commands.specs.Commands.{command_named, task_for};
+ghost use Rattle.commands.specs.LineTasks.{BeginsFitting, line_task, nothing_behind};
+ghost use Rattle.commands.specs.OwnLoads.{header_behind, journal_behind, plans_behind, watch_behind};
+ghost use Rattle.commands.specs.Tasks.{served_output, service_task, times_output};
+ghost use Rattle.information_service.specs.TimesOutput.{times_output as replies_output};
+ghost use Rattle.journal_answers.specs.JournaledLines.{journal_output};
+ghost use Rattle.plan_answers.specs.PlannedLines.{planned_output};
+ghost use Rattle.watch_answers.specs.WatchedLines.{watched_output};
 
 use crate::beginning::begin;
-use crate::feed::{load_asked, load_planner, load_service, load_watcher};
+use crate::feed::{load_asked, load_service};
 use crate::generated::run_gen;
-use crate::loading::LoadBehind;
+use crate::loading::{LoadBehind, LoadNothing};
+use crate::own_loads::{LoadHeader, LoadJournal, LoadPlans, LoadWatch};
 use crate::refusal::feed_stop;
 use crate::status::{Status, Stop, run_of};
 use crate::telling::tell;
 use checked_answers::CheckLines;
 use command_words::{Command, is_gen, read_words};
-use information_service::{AnswerLines, answer_input, write_output};
+use information_service::{AnswerLines, WriteReplies, answer_input, write_output};
+use journal_answers::{HeaderText, JournalLines};
 use journey_watch::Watch;
 use mt_io::{Feed, Gate, Sink, Source};
 use plan_answers::{PlanLines, PlanSearch};
@@ -40,9 +48,7 @@ fn times_words<F: Feed, S: Source, K: Sink>(
     out: &mut K,
     budget: u64,
 ) -> Result<(), Stop>
-    requires command { AskFor Command.Times (map string_bytes words.now) }
-
-    ensures run { EndsAs feed_task budget (map string_bytes words.now)
+    ensures run { EndsAs (service_task times_output) budget (map string_bytes words.now)
         (feed_seen F.tables F.faults feed.old feed.new)
         (stream_seen S.left S.faults input.old input.new)
         (stream_seen K.written K.faults out.old out.new)
@@ -70,9 +76,7 @@ fn serve_words<R: Threads + Wait + Sync, F: Feed, S: Source, K: Sink, G: Gate + 
     gate: &G,
     budget: u64,
 ) -> Result<(), Stop>
-    requires command { AskFor Command.Serve (map string_bytes words.now) }
-
-    ensures run { EndsAs feed_task budget (map string_bytes words.now)
+    ensures run { EndsAs (service_task served_output) budget (map string_bytes words.now)
         (feed_seen F.tables F.faults feed.old feed.new)
         (stream_seen S.left S.faults input.old input.new)
         (stream_seen K.written K.faults out.old out.new)
@@ -102,104 +106,6 @@ fn serve_words<R: Threads + Wait + Sync, F: Feed, S: Source, K: Sink, G: Gate + 
     ))
 }
 
-/// The same for `check`.
-fn check_words<F: Feed, S: Source, K: Sink>(
-    alloc: Global,
-    words: &[String],
-    feed: &mut F,
-    input: &mut S,
-    out: &mut K,
-    budget: u64,
-) -> Result<(), Stop>
-    requires command { AskFor Command.Check (map string_bytes words.now) }
-
-    ensures run { EndsAs feed_task budget (map string_bytes words.now)
-        (feed_seen F.tables F.faults feed.old feed.new)
-        (stream_seen S.left S.faults input.old input.new)
-        (stream_seen K.written K.faults out.old out.new)
-        feed.old feed.new input.old input.new out.old out.new result }
-{
-    let asked = match read_words(alloc, words) {
-        Ok(asked) => asked,
-        Err(fault) => return Err(Stop::from(fault)),
-    };
-    let mut service = match load_service(alloc, &asked, feed) {
-        Ok(service) => service,
-        Err(error) => return Err(feed_stop(alloc, error)),
-    };
-    run_of(answer_input::<CheckLines, (), S, K>(alloc, &mut service, &mut (), input, out, budget))
-}
-
-/// The same for `plans`.
-fn plans_words<F: Feed, S: Source, K: Sink>(
-    alloc: Global,
-    words: &[String],
-    feed: &mut F,
-    input: &mut S,
-    out: &mut K,
-    budget: u64,
-) -> Result<(), Stop>
-    requires command { AskFor Command.Plans (map string_bytes words.now) }
-
-    ensures run { EndsAs feed_task budget (map string_bytes words.now)
-        (feed_seen F.tables F.faults feed.old feed.new)
-        (stream_seen S.left S.faults input.old input.new)
-        (stream_seen K.written K.faults out.old out.new)
-        feed.old feed.new input.old input.new out.old out.new result }
-{
-    let asked = match read_words(alloc, words) {
-        Ok(asked) => asked,
-        Err(fault) => return Err(Stop::from(fault)),
-    };
-    let mut planner = match load_planner(alloc, &asked, feed) {
-        Ok(planner) => planner,
-        Err(error) => return Err(feed_stop(alloc, error)),
-    };
-    run_of(answer_input::<PlanLines, PlanSearch, S, K>(
-        alloc,
-        &mut planner.service,
-        &mut planner.kept,
-        input,
-        out,
-        budget,
-    ))
-}
-
-/// The same for `watch`.
-fn watch_words<F: Feed, S: Source, K: Sink>(
-    alloc: Global,
-    words: &[String],
-    feed: &mut F,
-    input: &mut S,
-    out: &mut K,
-    budget: u64,
-) -> Result<(), Stop>
-    requires command { AskFor Command.Watch (map string_bytes words.now) }
-
-    ensures run { EndsAs feed_task budget (map string_bytes words.now)
-        (feed_seen F.tables F.faults feed.old feed.new)
-        (stream_seen S.left S.faults input.old input.new)
-        (stream_seen K.written K.faults out.old out.new)
-        feed.old feed.new input.old input.new out.old out.new result }
-{
-    let asked = match read_words(alloc, words) {
-        Ok(asked) => asked,
-        Err(fault) => return Err(Stop::from(fault)),
-    };
-    let mut watcher = match load_watcher(alloc, &asked, feed) {
-        Ok(watcher) => watcher,
-        Err(error) => return Err(feed_stop(alloc, error)),
-    };
-    run_of(answer_input::<WatchLines, Watch, S, K>(
-        alloc,
-        &mut watcher.service,
-        &mut watcher.kept,
-        input,
-        out,
-        budget,
-    ))
-}
-
 /// The same for a command that answers line by line, with what it loads behind the feed.
 fn answer_words<T: AnswerLines<C>, L: LoadBehind<C>, C: Drop, F: Feed, S: Source, K: Sink>(
     alloc: Global,
@@ -209,6 +115,7 @@ fn answer_words<T: AnswerLines<C>, L: LoadBehind<C>, C: Drop, F: Feed, S: Source
     out: &mut K,
     budget: u64,
 ) -> Result<(), Stop>
+    requires budget { budget ≤ 2 ^ 63 }
     requires fits { BeginsFitting L.behind T.output }
 
     ensures run { EndsAs (line_task L.behind T.output) budget (map string_bytes words.now)
@@ -252,7 +159,7 @@ pub fn run_lines<
     err: &mut E,
     budget: u64,
 ) -> Status
-    requires budget { 1 ≤ budget }
+    requires budget { (1 ≤ budget) × (budget ≤ 2 ^ 63) }
     requires fits { BeginsFitting L.behind T.output }
     ensures contract { MeetsContract (line_task L.behind T.output) budget
         (map string_bytes words.now)
@@ -279,9 +186,9 @@ pub fn run_times<F: Feed, S: Source, K: Sink, E: Sink>(
     err: &mut E,
     budget: u64,
 ) -> Status
-    requires command { AskFor Command.Times (map string_bytes words.now) }
     requires budget { 1 ≤ budget }
-    ensures contract { MeetsContract feed_task budget (map string_bytes words.now)
+    ensures contract { MeetsContract (service_task times_output) budget
+        (map string_bytes words.now)
         (feed_seen F.tables F.faults feed.old feed.new)
         (stream_seen S.left S.faults input.old input.new)
         (stream_seen K.written K.faults out.old out.new)
@@ -304,9 +211,9 @@ fn run_serve<R: Threads + Wait + Sync, F: Feed, S: Source, K: Sink, E: Sink, G: 
     gate: &G,
     budget: u64,
 ) -> Status
-    requires command { AskFor Command.Serve (map string_bytes words.now) }
     requires budget { 1 ≤ budget }
-    ensures contract { MeetsContract feed_task budget (map string_bytes words.now)
+    ensures contract { MeetsContract (service_task served_output) budget
+        (map string_bytes words.now)
         (feed_seen F.tables F.faults feed.old feed.new)
         (stream_seen S.left S.faults input.old input.new)
         (stream_seen K.written K.faults out.old out.new)
@@ -317,11 +224,9 @@ fn run_serve<R: Threads + Wait + Sync, F: Feed, S: Source, K: Sink, E: Sink, G: 
     tell(&run, err)
 }
 
-/// All that the program does for `check`. It reads the tables of the feed, and answers each line of
-/// the input at once, by the times after the messages of the lines before it: a query with what
-/// shows that its answer is right, and a claim by whether what comes with it shows that it is
-/// right. It stops where `budget` bytes of the input were taken and no end was read. It waits for
-/// nobody and returns.
+/// All that the program does for `check`. It answers each line of the input at once, by the times
+/// after the messages of the lines before it: a query with what shows that its answer is right, and
+/// a claim by whether what comes with it shows that it is right. It waits for nobody and returns.
 pub fn run_check<F: Feed, S: Source, K: Sink, E: Sink>(
     alloc: Global,
     words: &[String],
@@ -331,23 +236,23 @@ pub fn run_check<F: Feed, S: Source, K: Sink, E: Sink>(
     err: &mut E,
     budget: u64,
 ) -> Status
-    requires command { AskFor Command.Check (map string_bytes words.now) }
-    requires budget { 1 ≤ budget }
-    ensures contract { MeetsContract feed_task budget (map string_bytes words.now)
+    requires budget { (1 ≤ budget) × (budget ≤ 2 ^ 63) }
+    ensures contract { MeetsContract (line_task nothing_behind checked_output) budget
+        (map string_bytes words.now)
         (feed_seen F.tables F.faults feed.old feed.new)
         (stream_seen S.left S.faults input.old input.new)
         (stream_seen K.written K.faults out.old out.new)
         (stream_seen E.written E.faults err.old err.new)
         feed.old feed.new input.old input.new out.old out.new result }
 {
-    let run = check_words(alloc, words, feed, input, out, budget);
-    tell(&run, err)
+    run_lines::<CheckLines, LoadNothing, (), F, S, K, E>(
+        alloc, words, feed, input, out, err, budget,
+    )
 }
 
-/// All that the program does for `plans`. It reads the tables of the feed, and answers each line of
-/// the input at once, by the times after the messages of the lines before it: a query with all best
-/// plans by arrival and number of rides, up to as many rides as the words ask for. It stops where
-/// `budget` bytes of the input were taken and no end was read. It waits for nobody and returns.
+/// All that the program does for `plans`. It answers each line of the input at once, by the times
+/// after the messages of the lines before it: a query with all best plans by arrival and number of
+/// rides, up to as many rides as the words ask for. It waits for nobody and returns.
 pub fn run_plans<F: Feed, S: Source, K: Sink, E: Sink>(
     alloc: Global,
     words: &[String],
@@ -357,24 +262,24 @@ pub fn run_plans<F: Feed, S: Source, K: Sink, E: Sink>(
     err: &mut E,
     budget: u64,
 ) -> Status
-    requires command { AskFor Command.Plans (map string_bytes words.now) }
-    requires budget { 1 ≤ budget }
-    ensures contract { MeetsContract feed_task budget (map string_bytes words.now)
+    requires budget { (1 ≤ budget) × (budget ≤ 2 ^ 63) }
+    ensures contract { MeetsContract (line_task plans_behind planned_output) budget
+        (map string_bytes words.now)
         (feed_seen F.tables F.faults feed.old feed.new)
         (stream_seen S.left S.faults input.old input.new)
         (stream_seen K.written K.faults out.old out.new)
         (stream_seen E.written E.faults err.old err.new)
         feed.old feed.new input.old input.new out.old out.new result }
 {
-    let run = plans_words(alloc, words, feed, input, out, budget);
-    tell(&run, err)
+    run_lines::<PlanLines, LoadPlans, PlanSearch, F, S, K, E>(
+        alloc, words, feed, input, out, err, budget,
+    )
 }
 
-/// All that the program does for `watch`. It reads the tables of the feed, and answers each line of
-/// the input at once, by the times after the messages of the lines before it. The journey that it
-/// shows to a query is watched from then on, up to 10,000 of them, and behind the reply to an
-/// accepted message it tells of each watched journey whose standing changes. It stops where
-/// `budget` bytes of the input were taken and no end was read. It waits for nobody and returns.
+/// All that the program does for `watch`. It answers each line of the input at once, by the times
+/// after the messages of the lines before it. The journey that it shows to a query is watched from
+/// then on, up to 10,000 of them, and behind the reply to an accepted message it tells of each
+/// watched journey whose standing changes. It waits for nobody and returns.
 pub fn run_watch<F: Feed, S: Source, K: Sink, E: Sink>(
     alloc: Global,
     words: &[String],
@@ -384,22 +289,74 @@ pub fn run_watch<F: Feed, S: Source, K: Sink, E: Sink>(
     err: &mut E,
     budget: u64,
 ) -> Status
-    requires command { AskFor Command.Watch (map string_bytes words.now) }
-    requires budget { 1 ≤ budget }
-    ensures contract { MeetsContract feed_task budget (map string_bytes words.now)
+    requires budget { (1 ≤ budget) × (budget ≤ 2 ^ 63) }
+    ensures contract { MeetsContract (line_task watch_behind watched_output) budget
+        (map string_bytes words.now)
         (feed_seen F.tables F.faults feed.old feed.new)
         (stream_seen S.left S.faults input.old input.new)
         (stream_seen K.written K.faults out.old out.new)
         (stream_seen E.written E.faults err.old err.new)
         feed.old feed.new input.old input.new out.old out.new result }
 {
-    let run = watch_words(alloc, words, feed, input, out, budget);
-    tell(&run, err)
+    run_lines::<WatchLines, LoadWatch, Watch, F, S, K, E>(
+        alloc, words, feed, input, out, err, budget,
+    )
+}
+
+/// All that the program does for `journal`. It writes a header, and behind it the line of each
+/// message of the input that is accepted, at once. It waits for nobody and returns.
+pub fn run_journal<F: Feed, S: Source, K: Sink, E: Sink>(
+    alloc: Global,
+    words: &[String],
+    feed: &mut F,
+    input: &mut S,
+    out: &mut K,
+    err: &mut E,
+    budget: u64,
+) -> Status
+    requires budget { (1 ≤ budget) × (budget ≤ 2 ^ 63) }
+    ensures contract { MeetsContract (line_task header_behind journal_output) budget
+        (map string_bytes words.now)
+        (feed_seen F.tables F.faults feed.old feed.new)
+        (stream_seen S.left S.faults input.old input.new)
+        (stream_seen K.written K.faults out.old out.new)
+        (stream_seen E.written E.faults err.old err.new)
+        feed.old feed.new input.old input.new out.old out.new result }
+{
+    run_lines::<JournalLines, LoadHeader, HeaderText, F, S, K, E>(
+        alloc, words, feed, input, out, err, budget,
+    )
+}
+
+/// All that the program does for `restart`. It takes the messages of the journal in the feed's
+/// folder, and then does what it does for `times`, with numbers of messages that go on from those of
+/// the journal. It waits for nobody and returns.
+pub fn run_restart<F: Feed, S: Source, K: Sink, E: Sink>(
+    alloc: Global,
+    words: &[String],
+    feed: &mut F,
+    input: &mut S,
+    out: &mut K,
+    err: &mut E,
+    budget: u64,
+) -> Status
+    requires budget { (1 ≤ budget) × (budget ≤ 2 ^ 63) }
+    ensures contract { MeetsContract (line_task journal_behind replies_output) budget
+        (map string_bytes words.now)
+        (feed_seen F.tables F.faults feed.old feed.new)
+        (stream_seen S.left S.faults input.old input.new)
+        (stream_seen K.written K.faults out.old out.new)
+        (stream_seen E.written E.faults err.old err.new)
+        feed.old feed.new input.old input.new out.old out.new result }
+{
+    run_lines::<WriteReplies, LoadJournal, (), F, S, K, E>(
+        alloc, words, feed, input, out, err, budget,
+    )
 }
 
 /// The command that words ask for, if they ask for anything.
 fn command_for(words: &[String]) -> Command
-    ensures { AskFor result (map string_bytes words.now) }
+    ensures { result ≡ command_named (map string_bytes words.now) }
 {
     match words {
         [name, ..] => Command::named(name.as_str()).unwrap_or(Command::Serve),
@@ -407,10 +364,10 @@ fn command_for(words: &[String]) -> Command
     }
 }
 
-/// The program. For `times` it does what `run_times` does, for `check` what `run_check` does, for
-/// `plans` what `run_plans` does, and for `watch` what `run_watch` does. For `serve` it reads the
-/// tables of the feed and answers the input window after window, and queries beside the messages;
-/// the gate is called after each message and before each query. It stops where `budget` bytes of
+/// The program. For `times` it does what `run_times` does, and so for `check`, `plans`, `watch`,
+/// `journal` and `restart`. For `serve` it reads the tables of the feed and answers the input
+/// window after window, and queries beside the messages; the gate is called after each message and
+/// before each query. It stops where `budget` bytes of
 /// the input were taken and no end was read. For `gen` it does what it does for `serve` over a feed
 /// and an input that it makes from a number of trains, and writes one line with the sums over the
 /// replies; it asks nothing of `feed` and `input`.
@@ -432,11 +389,12 @@ pub fn traind_within<
     gate: &G,
     budget: u64,
 ) -> Status
-    requires budget { 1 ≤ budget }
+    requires budget { (1 ≤ budget) × (budget ≤ 2 ^ 63) }
 
     // every command but `gen`
     ensures contract { is_gen (map string_bytes words.now) ≡ false
-        → MeetsContract feed_task budget (map string_bytes words.now)
+        → MeetsContract (task_for (command_named (map string_bytes words.now))).task budget
+        (map string_bytes words.now)
         (feed_seen F.tables F.faults feed.old feed.new)
         (stream_seen S.left S.faults input.old input.new)
         (stream_seen K.written K.faults out.old out.new)
@@ -459,6 +417,8 @@ pub fn traind_within<
         Command::Check => run_check(alloc, words, feed, input, out, err, budget),
         Command::Plans => run_plans(alloc, words, feed, input, out, err, budget),
         Command::Watch => run_watch(alloc, words, feed, input, out, err, budget),
+        Command::Journal => run_journal(alloc, words, feed, input, out, err, budget),
+        Command::Restart => run_restart(alloc, words, feed, input, out, err, budget),
         Command::Serve => run_serve(rt, alloc, words, feed, input, out, err, gate, budget),
     }
 }
@@ -480,7 +440,8 @@ pub fn traind<R: Threads + Wait + Sync, F: Feed, S: Source, K: Sink, E: Sink, G:
 ) -> Status
     // every command but `gen`
     ensures contract { is_gen (map string_bytes words.now) ≡ false
-        → MeetsContract feed_task byte_budget (map string_bytes words.now)
+        → MeetsContract (task_for (command_named (map string_bytes words.now))).task byte_budget
+        (map string_bytes words.now)
         (feed_seen F.tables F.faults feed.old feed.new)
         (stream_seen S.left S.faults input.old input.new)
         (stream_seen K.written K.faults out.old out.new)

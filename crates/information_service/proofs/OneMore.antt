@@ -120,7 +120,7 @@ few-answer : (t : ServiceState) (w : Wire) (m : Message) (o : Option Refusal) �
 few-answer t w m None = omega arith
 few-answer t w m (Some r) = omega arith
 
-few-message : (t : ServiceState) (w : Wire) (read : Result Message Refusal) → (after_message t w read).count ≤ t.count + 1
+pub few-message : (t : ServiceState) (w : Wire) (read : Result Message Refusal) → (after_message t w read).count ≤ t.count + 1
 few-message t w (Ok m) = few-answer t w m (refusal t.network t.state m)
 few-message t w (Err r) = omega arith
 

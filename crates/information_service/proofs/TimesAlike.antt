@@ -11,7 +11,7 @@ answer-over : (nw : Network) (t : ServiceState) (w : Wire) (m : Message) (o : Op
 answer-over nw t w m None = refl
 answer-over nw t w m (Some r) = refl
 
-message-over : (nw : Network) (t : ServiceState) (w : Wire) (read : Result Message Refusal) → IsSame nw t.network → after_message (over nw t) w read ≡ over nw (after_message t w read)
+pub message-over : (nw : Network) (t : ServiceState) (w : Wire) (read : Result Message Refusal) → IsSame nw t.network → after_message (over nw t) w read ≡ over nw (after_message t w read)
 message-over nw t w (Ok m) same = answer-over nw t w m (refusal nw t.state m) ∙ ap (λ o. over nw (after_answer t w m o)) (sym (refusal-same nw t.network same t.state m))
 message-over nw t w (Err r) same = refl
 
@@ -25,7 +25,7 @@ answer-keeps : (t : ServiceState) (w : Wire) (m : Message) (o : Option Refusal) 
 answer-keeps t w m None = refl
 answer-keeps t w m (Some r) = refl
 
-message-keeps : (t : ServiceState) (w : Wire) (read : Result Message Refusal) → (after_message t w read).network ≡ t.network
+pub message-keeps : (t : ServiceState) (w : Wire) (read : Result Message Refusal) → (after_message t w read).network ≡ t.network
 message-keeps t w (Ok m) = answer-keeps t w m (refusal t.network t.state m)
 message-keeps t w (Err r) = refl
 

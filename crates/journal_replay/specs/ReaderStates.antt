@@ -1,6 +1,7 @@
 -- The reader of a journal, and what it answers.
 use Rattle.std.specs.Prelude.{◌≡◌, ◌<◌, ◌≤◌, ℕ, ◌+◌, ◌-◌, List, [], ◌++◌, Bool, is_empty, not, length, Result, Ok, Err, Some, None}
 use Rattle.std.specs.declared.option.Option.{Option}
+use mathlib.Core.List.{IsPrefix}
 use Rattle.delay_model.specs.declared.messages.Message.{Message}
 use Rattle.information_service.specs.ServiceState.{ServiceState}
 use Rattle.journal_replay.specs.Reading.{Progress, after_bytes, long_from, refused}
@@ -75,8 +76,20 @@ pub record StopsAt {T : Type 0} (Stands : T → ServiceState → List Message �
   pub lines_are : last.lines ≡ lines
   pub stands : Stands holder last.service last.messages
 
--- why these bytes are refused: wherever the reader and who takes its messages stood, they stand
--- behind the lines before now; or there was no memory
+-- so far a journal is read where there was no memory to go on: who takes its messages stands behind
+-- a beginning of these bytes
+pub record BreaksOff {T : Type 0} (Stands : T → ServiceState → List Message → Type 0) (holder : T)
+    (reader : ReaderState) (bytes : List ℕ) (holder_now : T) (lines : ℕ) : Type 0 where
+  pub front : List ℕ
+  pub begins : IsPrefix front bytes
+  pub lines_are : (p : Progress) → IsAt Stands holder reader p
+      → (after_bytes reader.header p front).lines ≡ lines
+  pub stands : (p : Progress) → IsAt Stands holder reader p
+      → Stands holder_now (after_bytes reader.header p front).service
+      (after_bytes reader.header p front).messages
+
+-- why these bytes are not read to their end: wherever the reader and who takes its messages stood,
+-- they stand behind the lines before the one that is refused now; or there was no memory
 abbrev pub StopsIn : {T : Type 0} → (T → ServiceState → List Message → Type 0) → T → ReaderState
     → List ℕ → T → ReaderState → JournalRefusal → Type 0
 StopsIn Stands holder reader bytes holder_now reader_now Header = (p : Progress)
@@ -85,4 +98,5 @@ StopsIn Stands holder reader bytes holder_now reader_now Header = (p : Progress)
 StopsIn Stands holder reader bytes holder_now reader_now (Line line) = (p : Progress)
     → IsAt Stands holder reader p
     → StopsAt Stands holder_now reader_now.lines (Line line) (after_bytes reader.header p bytes)
-StopsIn Stands holder reader bytes holder_now reader_now OutOfMemory = Unit {0}
+StopsIn Stands holder reader bytes holder_now reader_now OutOfMemory =
+    BreaksOff Stands holder reader bytes holder_now reader_now.lines

@@ -52,9 +52,9 @@ pub record Progress : Type 0 where
   pub service : ServiceState
   -- these messages, by number
   pub messages : List Message
-  -- how many whole lines were read, the header among them
+  -- how many lines were taken, the header among them
   pub lines : ℕ
-  -- the bytes behind the last of them
+  -- the bytes behind the last of them; none where the journal is refused
   pub held : List ℕ
   -- why the journal is refused, if it is. Then nothing is read any more
   pub refusal : Option JournalRefusal

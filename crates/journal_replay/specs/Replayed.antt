@@ -1,8 +1,9 @@
 -- What a whole journal is read as.
 use Rattle.std.specs.Prelude.{◌≡◌, ℕ, ◌-◌, List, is_empty, nat_eq, not, if◌then◌else◌, Result, Ok, Err, Some, None}
 use Rattle.std.specs.declared.option.Option.{Option}
+use mathlib.Core.List.{IsPrefix}
 use Rattle.information_service.specs.ServiceState.{ServiceState}
-use Rattle.journal_replay.specs.Reading.{Progress}
+use Rattle.journal_replay.specs.Reading.{Progress, after_bytes, nothing_read}
 use Rattle.journal_replay.specs.declared.refusal.JournalRefusal.{JournalRefusal}
 use Rattle.journal_replay.specs.declared.refusal.JournalRefusal.TheVariants.{Header, Line, OutOfMemory}
 use Rattle.journal_replay.specs.declared.replay.Replayed.{Replayed}
@@ -24,9 +25,21 @@ replayed_by p None = Ok (record { count = p.lines - 1; torn = not (is_empty p.he
 abbrev pub replayed : Progress → Result Replayed JournalRefusal
 replayed p = replayed_by p (refusal_at_end p)
 
--- the service stands behind what was read of it, and this is the answer; or there was no memory
-abbrev pub IsReplayed : Progress → ServiceState → Result Replayed JournalRefusal → Type 0
-IsReplayed p now (Ok r) = (replayed p ≡ Ok r) × (now ≡ p.service)
-IsReplayed p now (Err Header) = (replayed p ≡ Err Header) × (now ≡ p.service)
-IsReplayed p now (Err (Line line)) = (replayed p ≡ Err (Line line)) × (now ≡ p.service)
-IsReplayed p now (Err OutOfMemory) = Unit {0}
+-- so far the journal is read whose bytes these are
+abbrev pub replay_of : List ℕ → ServiceState → List ℕ → Progress
+replay_of header s bytes = after_bytes header (nothing_read s) bytes
+
+-- this is answered of the journal, and the service stands behind what was read of it; or there was
+-- no memory, and it stands behind a beginning of it
+abbrev pub IsReplayed : List ℕ → ServiceState → List ℕ → ServiceState
+    → Result Replayed JournalRefusal → Type 0
+IsReplayed header s bytes now (Ok r) =
+    (replayed (replay_of header s bytes) ≡ Ok r) × (now ≡ (replay_of header s bytes).service)
+IsReplayed header s bytes now (Err Header) =
+    (replayed (replay_of header s bytes) ≡ Err Header)
+    × (now ≡ (replay_of header s bytes).service)
+IsReplayed header s bytes now (Err (Line line)) =
+    (replayed (replay_of header s bytes) ≡ Err (Line line))
+    × (now ≡ (replay_of header s bytes).service)
+IsReplayed header s bytes now (Err OutOfMemory) =
+    (front : List ℕ) × IsPrefix front bytes × (now ≡ (replay_of header s front).service)

@@ -58,7 +58,7 @@ IsJudgedAs Stands p q new (Err Header) =
     (q ≡ refused Header p) × Stands new p.service p.messages
 IsJudgedAs Stands p q new (Err (Line line)) =
     (q ≡ refused (Line line) p) × Stands new p.service p.messages
-IsJudgedAs Stands p q new (Err OutOfMemory) = Unit {0}
+IsJudgedAs Stands p q new (Err OutOfMemory) = Stands new p.service p.messages
 
 -- the same of this line with its end, behind so many lines
 abbrev pub IsJudged : {T : Type 0} → (T → ServiceState → List Message → Type 0) → List ℕ → ℕ

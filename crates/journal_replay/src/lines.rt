@@ -65,6 +65,7 @@ fn take_line<T: TakeJournal<R>, R>(
     ensures taken { IfOk result (λ taken. (s : ServiceState) (before : List Message)
         → T.stands holder.old s before
         → IsLineTaken T.stands s before (message_of ended.now) holder.new taken) }
+    ensures unchanged { IfErr result (λ _. holder.new ≡ holder.old) }
 {
     match message_of(alloc, ended)? {
         Some(message) => holder.take(alloc, rt, message),

@@ -6,8 +6,9 @@ ghost use Rattle.information_service.specs.ServiceState.{ServiceState};
 ghost use Rattle.mt_base.specs.Civil.{IsCivil};
 ghost use Rattle.mt_io.specs.Steps.{HasNoLf};
 ghost use Rattle.journal_lines.specs.Lines.{text_of_head};
-ghost use Rattle.journal_replay.specs.ReaderStates.{answer, HasRead, IsHeld, IsNotHeld, StopsIn};
+ghost use Rattle.journal_replay.specs.ReaderStates.{answer, BreaksOff, HasRead, IsHeld, IsNotHeld, StopsIn};
 ghost use Rattle.journal_replay.specs.Taking.{IsJudged, IsReadyFor};
+ghost use Rattle.journal_replay.specs.declared.refusal.JournalRefusal.{JournalRefusal as AJournalRefusal};
 ghost use Rattle.journal_replay.specs.declared.refusal.JournalRefusal.TheVariants.{OutOfMemory};
 
 use crate::lines::judge;
@@ -72,14 +73,14 @@ impl JournalReader {
         })
     }
 
-    /// How many whole lines were read, the header among them.
+    /// How many lines were taken, the header among them.
     pub fn lines(&self) -> u64
         ensures { result ≡ self.now.lines }
     {
         self.lines
     }
 
-    /// Whether bytes stand behind the last whole line.
+    /// Whether bytes stand behind the last whole line. Where the journal is refused, none do.
     pub fn is_torn(&self) -> bool
         ensures { result ≡ not (is_empty self.now.held) }
     {
@@ -170,11 +171,12 @@ impl JournalReader {
     }
 
     /// Reads the next bytes of the journal, and gives the messages of its whole lines to `holder`,
-    /// who took those before. It answers how many messages were read so far, and fails with
-    /// `Header` where the first line is not the header, and with `Line` at the first line that is
-    /// too long or, behind the header, is not the line of a message that is accepted there; the
-    /// messages before that line are taken. `OutOfMemory` comes where there is no memory. After a
-    /// refusal it reads nothing more, and answers the same refusal.
+    /// who took those before. It answers how many messages were read so far. It fails with `Line`
+    /// at the first line that is too long, whether it is whole or not, or, behind the header, is
+    /// not the line of a message that is accepted there, and with `Header` where the first whole
+    /// line is not too long and is not the header; the messages before that line are taken. It
+    /// fails with `OutOfMemory` where there is no memory; then the messages of a beginning of the
+    /// bytes are taken. After it has failed it reads nothing more, and fails in the same way.
     pub fn feed<T: TakeJournal<R>, R>(
         &mut self,
         alloc: Global,
@@ -188,6 +190,10 @@ impl JournalReader {
         ensures read { result ≢ Err OutOfMemory → HasRead T.stands holder.old self.old piece.now
             holder.new self.new }
         ensures answer { result ≡ answer self.new }
+        ensures memory { result ≡ Err OutOfMemory → self.old.refusal ≡ None → BreaksOff T.stands
+            holder.old self.old piece.now holder.new self.new.lines }
+        ensures refused { (why : AJournalRefusal) → self.old.refusal ≡ Some why
+            → (result ≡ Err why) × (self.new ≡ self.old) × (holder.new ≡ holder.old) }
         ensures header { self.new.header ≡ self.old.header }
     {
         if let Some(refusal) = self.refusal {

@@ -3,7 +3,6 @@
 ghost use Rattle.std.specs.Prelude.{◌<◌, ◌+◌, ◌^◌, length};
 ghost use Rattle.mt_base.specs.Civil.{IsCivil};
 ghost use Rattle.journal_lines.specs.Lines.{text_of_head};
-ghost use Rattle.journal_replay.specs.Reading.{after_bytes, nothing_read};
 ghost use Rattle.journal_replay.specs.Replayed.{IsReplayed};
 
 use crate::reader::JournalReader;
@@ -15,18 +14,19 @@ use std::alloc::Global;
 /// What was read of a journal.
 #[derive(Clone, Copy, Debug, PartialEq, Eq)]
 pub struct Replayed {
-    /// How many messages it has.
+    /// How many messages the journal has.
     pub count: u64,
 
     /// Whether bytes stand behind its last whole line. They are passed over.
     pub torn: bool,
 }
 
-/// Reads a journal with this header, and gives its messages to a service. It fails with `Header`
-/// where the first whole line is not the header, or there is no whole line, with `Line` at the
-/// first line that is too long or, behind the header, is not the line of a message that is accepted
-/// there, and with `OutOfMemory` where there is no memory. The service takes the messages before a
-/// line that is refused.
+/// Reads a journal with this header, and gives its messages to a service. It fails with `Line` at
+/// the first line that is too long, whether it is whole or not, or, behind the header, is not the
+/// line of a message that is accepted there, and with `Header` where the first whole line is not
+/// too long and is not the header, or there is no whole line and no line is too long; the service
+/// takes the messages before that line. It fails with `OutOfMemory` where there is no memory; then
+/// the service takes the messages of a beginning of the bytes.
 pub fn replay(
     alloc: Global,
     head: &Head,
@@ -35,8 +35,7 @@ pub fn replay(
 ) -> Result<Replayed, JournalRefusal>
     requires head { IsCivil head.now.first }
     requires room { service.old.count + length bytes.now < 2 ^ 64 }
-    ensures { IsReplayed (after_bytes (text_of_head head.now) (nothing_read service.old)
-        bytes.now) service.new result }
+    ensures { IsReplayed (text_of_head head.now) service.old bytes.now service.new result }
 {
     let mut reader = JournalReader::build(alloc, head)?;
     let count = reader.feed::<InformationService, ()>(alloc, &(), service, bytes)?;

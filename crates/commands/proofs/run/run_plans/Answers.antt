@@ -1,5 +1,4 @@
-use Rattle.commands.proofs.Statuses.{contract-met}
 use Rattle.commands.proofs.run.run_plans.Goals as goal
 
-pub returns : goal.returns
-returns g c = record { contract = contract-met c.plans_words-run.result c.tell.result c.plans_words-run.ensures.run c.tell.ensures.status c.tell.ensures.told }
+pub run_lines-requires-clause-fits : goal.run_lines-requires-clause-fits
+run_lines-requires-clause-fits g c = λ asked table t s is. tt

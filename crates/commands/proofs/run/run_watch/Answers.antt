@@ -1,5 +1,5 @@
-use Rattle.commands.proofs.Statuses.{contract-met}
+use Rattle.commands.proofs.Fitting.{watch-fits}
 use Rattle.commands.proofs.run.run_watch.Goals as goal
 
-pub returns : goal.returns
-returns g c = record { contract = contract-met c.watch_words-run.result c.tell.result c.watch_words-run.ensures.run c.tell.ensures.status c.tell.ensures.told }
+pub run_lines-requires-clause-fits : goal.run_lines-requires-clause-fits
+run_lines-requires-clause-fits g c = watch-fits

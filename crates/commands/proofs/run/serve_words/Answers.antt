@@ -1,16 +1,15 @@
 use Rattle.std.proofs.Common.{refl}
-use Rattle.command_words.specs.declared.words.Command.TheVariants.{Serve}
 use Rattle.commands.proofs.Endings.{lines-end, not-error}
 use Rattle.commands.proofs.Exits.{load-exit, words-exit}
-use Rattle.commands.proofs.Tables.{by-command, was-loaded}
+use Rattle.commands.proofs.Tables.{by-service, by-served, served-alike, was-loaded}
 use Rattle.commands.proofs.run.serve_words.Goals as goal
 
 pub returns-in-Err : goal.returns-in-Err
-returns-in-Err g c = record { run = words-exit c.in-Err.fault _ c.from.ensures refl refl c.in-Err.ensures.usage }
+returns-in-Err g c = record { run = words-exit by-served c.in-Err.fault _ c.from.ensures refl refl c.in-Err.ensures.usage }
 
 pub returns-in-Err-load_asked : goal.returns-in-Err-load_asked
 returns-in-Err-load_asked g c = record {
-  run = load-exit c.in-Ok.ensures.ok c.in-Err-load_asked.error _ c.feed_stop.ensures c.in-Err-load_asked.ensures.exact c.in-Err-load_asked.ensures.failed c.in-Err-load_asked.ensures.answered;
+  run = load-exit by-served c.in-Ok.ensures.ok c.in-Err-load_asked.error _ c.feed_stop.ensures c.in-Err-load_asked.ensures.exact c.in-Err-load_asked.ensures.failed c.in-Err-load_asked.ensures.answered;
 }
 
 pub returns : goal.returns
@@ -18,6 +17,6 @@ returns g c =
     let was = was-loaded c.in-Ok.ensures.ok c.in-Ok-load_asked.ensures.exact c.in-Ok-load_asked.ensures.network in
     record {
       run =
-          lines-end (by-command Serve was (c.requires.command _ c.in-Ok.ensures.ok)) (c.in-Ok-load_asked.ensures.answered (not-error _ _)) c.run_of.result c.write_windows.result c.run_of.ensures
+          lines-end (by-service served-alike was) (c.in-Ok-load_asked.ensures.answered (not-error _ _)) c.run_of.result c.write_windows.result c.run_of.ensures
           c.write_windows.ensures.ok c.write_windows.ensures.ended c.write_windows.ensures.stopped c.write_windows.ensures.front c.write_windows.ensures.counts;
     }

@@ -1,16 +1,15 @@
 use Rattle.std.proofs.Common.{refl}
-use Rattle.command_words.specs.declared.words.Command.TheVariants.{Times}
 use Rattle.commands.proofs.Endings.{lines-end, not-error}
 use Rattle.commands.proofs.Exits.{load-exit, words-exit}
-use Rattle.commands.proofs.Tables.{by-command, was-loaded}
+use Rattle.commands.proofs.Tables.{by-service, by-times, times-alike, was-loaded}
 use Rattle.commands.proofs.run.times_words.Goals as goal
 
 pub returns-in-Err : goal.returns-in-Err
-returns-in-Err g c = record { run = words-exit c.in-Err.fault _ c.from.ensures refl refl c.in-Err.ensures.usage }
+returns-in-Err g c = record { run = words-exit by-times c.in-Err.fault _ c.from.ensures refl refl c.in-Err.ensures.usage }
 
 pub returns-in-Err-load_service : goal.returns-in-Err-load_service
 returns-in-Err-load_service g c = record {
-  run = load-exit c.in-Ok.ensures.ok c.in-Err-load_service.error _ c.feed_stop.ensures c.in-Err-load_service.ensures.exact c.in-Err-load_service.ensures.failed c.in-Err-load_service.ensures.answered;
+  run = load-exit by-times c.in-Ok.ensures.ok c.in-Err-load_service.error _ c.feed_stop.ensures c.in-Err-load_service.ensures.exact c.in-Err-load_service.ensures.failed c.in-Err-load_service.ensures.answered;
 }
 
 pub returns : goal.returns
@@ -18,6 +17,6 @@ returns g c =
     let was = was-loaded c.in-Ok.ensures.ok c.in-Ok-load_service.ensures.exact c.in-Ok-load_service.ensures.network in
     record {
       run =
-          lines-end (by-command Times was (c.requires.command _ c.in-Ok.ensures.ok)) (c.in-Ok-load_service.ensures.answered (not-error _ _)) c.run_of.result c.write_output.result c.run_of.ensures
+          lines-end (by-service times-alike was) (c.in-Ok-load_service.ensures.answered (not-error _ _)) c.run_of.result c.write_output.result c.run_of.ensures
           c.write_output.ensures.ok c.write_output.ensures.ended c.write_output.ensures.stopped c.write_output.ensures.front c.write_output.ensures.counts;
     }

@@ -1,0 +1,4 @@
+use Rattle.commands.proofs.run.run_journal.Goals as goal
+
+pub run_lines-requires-clause-fits : goal.run_lines-requires-clause-fits
+run_lines-requires-clause-fits g c = λ asked table t s is. tt
