@@ -1,5 +1,5 @@
 -- Of every beginning of a journal its whole lines are read, and nothing is refused.
-use Rattle.std.proofs.Common.{◌≡◌, ◌⊎◌, ℕ, zero, suc, ◌+◌, ◌-◌, ◌<◌, ◌≤◌, List, [], ◌∷◌, ◌++◌, All, take, length, map, nat_eq, Bool, true, false, is_some}
+use Rattle.std.proofs.Common.{◌≡◌, ◌⊎◌, ℕ, suc, ◌+◌, ◌-◌, ◌<◌, ◌≤◌, List, [], ◌∷◌, ◌++◌, All, take, length, map, nat_eq, false}
 use Rattle.std.proofs.Common.{Option, Some, None, IsSome, inl, inr, refl, sym, ap, ◌∙◌, subst, append_assoc, append-nil, arith}
 use Rattle.std.specs.List.{AllByRecursion, concat}
 use Rattle.std.proofs.lemmas.Bool.Decides.{nat_tests}
@@ -14,7 +14,7 @@ use Rattle.mt_io.proofs.LineFacts.{no_lf_cons, no_lf_front}
 use Rattle.journal_lines.specs.declared.heads.Head.{Head}
 use Rattle.journal_lines.specs.Lines.{text_of_head, text_of_message}
 use Rattle.journal_lines.proofs.ReadBack.{header-clear, lines-clear}
-use Rattle.journal_replay.specs.Journals.{after_wires, held_at_end, journal_of, messages_in, AreTaken, CanBeHead, CanBeWritten, IsReadSoFar}
+use Rattle.journal_replay.specs.Journals.{after_wires, journal_of, messages_in, AreTaken, CanBeHead, CanBeWritten, IsReadSoFar}
 use Rattle.journal_replay.specs.Reading.{Progress, accepted_in, after_bytes, after_wire, line_taken, long_from, nothing_read}
 use Rattle.journal_replay.proofs.ByteLemmas.{bytes-held, line-read}
 use Rattle.journal_replay.proofs.LineLemmas.{pieces-cut, pieces-one}
@@ -35,11 +35,11 @@ cases-beginning (b ∷ bytes) (c ∷ line) rest more is =
     let first : b ≡ c = cc in
     let later : bytes ++ rest ≡ line ++ 10 ∷ more = cc in
     elim (cases-beginning bytes line rest more later) [
-    | inl found ↦ inl (found.0, cc)
-    | inr found ↦
-        let parts : bytes ≡ line ++ 10 ∷ found.behind = found.parts in
-        inr (record { behind = found.behind; parts = cc; goes_on = found.goes_on })
-  ]
+      | inl found ↦ inl (found.0, cc)
+      | inr found ↦
+          let parts : bytes ≡ line ++ 10 ∷ found.behind = found.parts in
+          inr (record { behind = found.behind; parts = cc; goes_on = found.goes_on })
+    ]
 
 -- ---- lines of messages
 
@@ -100,29 +100,29 @@ messages-read header (w ∷ ws) p bytes rest none empty some can taken is =
     let short : length line < long_from = omega (arith, can.0.short, ap length ended.is, length-append line (10 ∷ [])) in
     let cut : bytes ++ rest ≡ line ++ 10 ∷ more = is ∙ ap (λ (l : List ℕ). l ++ more) ended.is ∙ append_assoc line (10 ∷ []) more in
     elim (cases-beginning bytes line rest more cut) [
-    | inl found ↦ begun header p (w ∷ ws) bytes found.0 line none empty clear short found.1
-    | inr found ↦
-        let m = some-there (accepted_in p.service w) taken.0 in
-        let q : Progress = record { service = after_wire p.service w; messages = p.messages ++ m.0 ∷ []; lines = p.lines + 1; held = []; refusal = None } in
-        let nothing : length p.held ≡ 0 = ap length empty in
-        let on : after_bytes header p bytes ≡ after_bytes header q found.behind =
-            ap (after_bytes header p) found.parts
-            ∙ line-read header p line found.behind none clear (omega arith)
-            ∙ ap (λ (l : List ℕ). after_bytes header (line_taken header ((l ++ line) ++ 10 ∷ []) p) found.behind) empty
-            ∙ ap (λ (l : List ℕ). after_bytes header (line_taken header l p) found.behind) (sym ended.is)
-            ∙ ap (λ (r : Progress). after_bytes header r found.behind) (line-taken header p w m.0 can.0 some m.1) in
-        let next = messages-read header ws q found.behind rest refl refl (omega arith) can.1 taken.1 found.goes_on in
-        subst (IsReadOn p (w ∷ ws) bytes) (sym on)
-        (record {
-          n = suc next.n;
-          few = omega (arith, next.few);
-          not_refused = next.not_refused;
-          count = omega (arith, next.count, ap length (ap pieces found.parts ∙ pieces-cut line found.behind clear));
-          lines = omega (arith, next.lines);
-          service = next.service;
-          messages = next.messages ∙ messages-behind p.messages p.service w m.0 (take next.n ws) m.1;
-        })
-  ]
+      | inl found ↦ begun header p (w ∷ ws) bytes found.0 line none empty clear short found.1
+      | inr found ↦
+          let m = some-there (accepted_in p.service w) taken.0 in
+          let q : Progress = record { service = after_wire p.service w; messages = p.messages ++ m.0 ∷ []; lines = p.lines + 1; held = []; refusal = None } in
+          let nothing : length p.held ≡ 0 = ap length empty in
+          let on : after_bytes header p bytes ≡ after_bytes header q found.behind =
+          ap (after_bytes header p) found.parts
+          ∙ line-read header p line found.behind none clear (omega arith)
+          ∙ ap (λ (l : List ℕ). after_bytes header (line_taken header ((l ++ line) ++ 10 ∷ []) p) found.behind) empty
+          ∙ ap (λ (l : List ℕ). after_bytes header (line_taken header l p) found.behind) (sym ended.is)
+          ∙ ap (λ (r : Progress). after_bytes header r found.behind) (line-taken header p w m.0 can.0 some m.1) in
+          let next = messages-read header ws q found.behind rest refl refl (omega arith) can.1 taken.1 found.goes_on in
+          subst (IsReadOn p (w ∷ ws) bytes) (sym on)
+          (record {
+            n = suc next.n;
+            few = omega (arith, next.few);
+            not_refused = next.not_refused;
+            count = omega (arith, next.count, ap length (ap pieces found.parts ∙ pieces-cut line found.behind clear));
+            lines = omega (arith, next.lines);
+            service = next.service;
+            messages = next.messages ∙ messages-behind p.messages p.service w m.0 (take next.n ws) m.1;
+          })
+    ]
 
 -- ---- the journal
 
@@ -154,19 +154,19 @@ journal-read head s ws bytes rest can all taken is =
     let short : length line < long_from = omega (arith, can.short, ap length ended.is, length-append line (10 ∷ [])) in
     let cut : bytes ++ rest ≡ line ++ 10 ∷ more = is ∙ ap (λ (l : List ℕ). l ++ more) ended.is ∙ append_assoc line (10 ∷ []) more in
     elim (cases-beginning bytes line rest more cut) [
-    | inl found ↦
-        let no_lf : HasNoLf bytes = no_lf_front bytes found.0 (subst HasNoLf found.1 clear) in
-        let few : length bytes < long_from = omega (arith, ap length found.1, length-append bytes found.0) in
-        subst (IsReadSoFar s ws bytes) (sym (bytes-held header p bytes refl no_lf (omega arith)))
-        (record { not_refused = refl; lines = ap length (pieces-one bytes no_lf); within = omega arith; service = refl; messages = refl })
-    | inr found ↦
-        let q : Progress = record { service = s; messages = []; lines = 1; held = []; refusal = None } in
-        let on : after_bytes header p bytes ≡ after_bytes header q found.behind =
-            ap (after_bytes header p) found.parts
-            ∙ line-read header p line found.behind refl clear (omega arith)
-            ∙ ap (λ (l : List ℕ). after_bytes header (line_taken header l p) found.behind) (sym ended.is)
-            ∙ ap (λ (r : Progress). after_bytes header r found.behind) (header-taken head s) in
-        let next = messages-read header ws q found.behind rest refl refl (omega arith) (recursion_from_All CanBeWritten ws all) taken found.goes_on in
-        subst (IsReadSoFar s ws bytes) (sym on)
-        (from-header s ws bytes found.behind (after_bytes header q found.behind) (ap length (ap pieces found.parts ∙ pieces-cut line found.behind clear)) next)
-  ]
+      | inl found ↦
+          let no_lf : HasNoLf bytes = no_lf_front bytes found.0 (subst HasNoLf found.1 clear) in
+          let few : length bytes < long_from = omega (arith, ap length found.1, length-append bytes found.0) in
+          subst (IsReadSoFar s ws bytes) (sym (bytes-held header p bytes refl no_lf (omega arith)))
+          (record { not_refused = refl; lines = ap length (pieces-one bytes no_lf); within = omega arith; service = refl; messages = refl })
+      | inr found ↦
+          let q : Progress = record { service = s; messages = []; lines = 1; held = []; refusal = None } in
+          let on : after_bytes header p bytes ≡ after_bytes header q found.behind =
+          ap (after_bytes header p) found.parts
+          ∙ line-read header p line found.behind refl clear (omega arith)
+          ∙ ap (λ (l : List ℕ). after_bytes header (line_taken header l p) found.behind) (sym ended.is)
+          ∙ ap (λ (r : Progress). after_bytes header r found.behind) (header-taken head s) in
+          let next = messages-read header ws q found.behind rest refl refl (omega arith) (recursion_from_All CanBeWritten ws all) taken found.goes_on in
+          subst (IsReadSoFar s ws bytes) (sym on)
+          (from-header s ws bytes found.behind (after_bytes header q found.behind) (ap length (ap pieces found.parts ∙ pieces-cut line found.behind clear)) next)
+    ]

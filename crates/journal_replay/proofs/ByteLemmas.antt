@@ -1,5 +1,5 @@
 -- How bytes are read: those that end no line are held, up to a bound, and an LF takes the line.
-use Rattle.std.proofs.Common.{◌≡◌, ◌≢◌, ◌⊎◌, ℕ, ◌+◌, ◌<◌, ◌≤◌, Bool, true, false, nat_eq, nat_le, List, [], ◌∷◌, ◌++◌, length}
+use Rattle.std.proofs.Common.{◌≡◌, ◌≢◌, ℕ, ◌+◌, ◌<◌, ◌≤◌, true, false, nat_eq, nat_le, List, [], ◌∷◌, ◌++◌, length}
 use Rattle.std.proofs.Common.{Option, Some, None, inl, inr, refl, sym, ap, ◌∙◌, append_assoc, append-nil, arith}
 use Rattle.std.specs.Str.{bytes_eq}
 use Rattle.std.proofs.lemmas.Bool.{cases_Bool, cases_eq, cases_lt}
@@ -10,7 +10,7 @@ use Rattle.delay_model.specs.declared.messages.Message.{Message}
 use Rattle.message_reader.specs.declared.wire.Wire.{Wire}
 use Rattle.mt_io.specs.Steps.{HasNoLf}
 use Rattle.journal_replay.specs.Journals.{held_at_end}
-use Rattle.journal_replay.specs.Reading.{Progress, accepted_in, after_byte, after_bytes, byte_held, byte_read, line_refused, line_taken, long_from}
+use Rattle.journal_replay.specs.Reading.{Progress, accepted_in, after_byte, after_bytes, byte_read, line_refused, line_taken, long_from}
 use Rattle.journal_replay.specs.Reading.{message_of, message_taken, taken_as}
 use Rattle.journal_replay.specs.declared.refusal.JournalRefusal.{JournalRefusal}
 

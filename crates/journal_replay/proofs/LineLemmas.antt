@@ -1,5 +1,5 @@
 -- A journal is read line by line: the pieces between its LFs are what its lines are.
-use Rattle.std.proofs.Common.{◌≡◌, ◌≢◌, ◌⊎◌, ℕ, zero, suc, ◌+◌, ◌<◌, ◌≤◌, Bool, true, false, nat_eq, nat_le, List, [], ◌∷◌, ◌++◌, length}
+use Rattle.std.proofs.Common.{◌≡◌, ◌≢◌, ◌⊎◌, ℕ, zero, suc, ◌<◌, ◌≤◌, true, false, nat_le, List, [], ◌∷◌, ◌++◌, length}
 use Rattle.std.proofs.Common.{Option, Some, None, inl, inr, refl, sym, ap, ◌∙◌, append-nil, arith}
 use Rattle.std.proofs.lemmas.Bool.{cases_eq, cases_lt}
 use Rattle.std.proofs.lemmas.Bool.Decides.{nat_tests}
@@ -102,29 +102,29 @@ lines-within zero header p bytes lt none empty = absurd (omega arith)
 lines-within (suc n) header p bytes lt none empty =
     let nothing : length p.held ≡ 0 = ap length empty in
     elim (cases-lf bytes) [
-    | inl found ↦
-        let front : List ℕ = found.front in
-        let back : List ℕ = found.back in
-        let q : Progress = line_taken header (front ++ 10 ∷ []) p in
-        let count : length (front ++ 10 ∷ back) ≡ length bytes = ap length (sym found.parts) in
-        ap (after_bytes header p) found.parts
-        ∙ elim (cases_lt (length front) long_from) [
-          | inl few ↦
-              line-read header p front back none found.no_lf (omega arith)
-              ∙ ap (λ (l : List ℕ). after_bytes header (line_taken header ((l ++ front) ++ 10 ∷ []) p) back) empty
-              ∙ goes-on header q (line_by_line header q (pieces back)) back q.refusal refl
-              (λ (same : q.refusal ≡ None). lines-within n header q back (omega (arith, length-append front (10 ∷ back))) same (line_taken-held header (front ++ 10 ∷ []) p))
-              ∙ sym (cut-taken header p front back found.no_lf few)
-          | inr many ↦ bytes-too-long header p front (10 ∷ back) none found.no_lf (omega arith) (omega arith) ∙ sym (cut-refused header p front back found.no_lf many)
-        ]
-        ∙ ap (λ (l : List ℕ). line_by_line header p (pieces l)) (sym found.parts)
-    | inr no_lf ↦ elim (cases_lt (length bytes) long_from) [
-      | inl few ↦
-          bytes-held header p bytes none no_lf (omega arith) ∙ ap (λ (l : List ℕ). held_at_end p (l ++ bytes)) empty ∙ sym (last-held header p bytes no_lf few)
-      | inr many ↦
-          ap (after_bytes header p) (sym (append-nil bytes)) ∙ bytes-too-long header p bytes [] none no_lf (omega arith) (omega arith) ∙ sym (last-refused header p bytes no_lf many)
+      | inl found ↦
+          let front : List ℕ = found.front in
+          let back : List ℕ = found.back in
+          let q : Progress = line_taken header (front ++ 10 ∷ []) p in
+          let count : length (front ++ 10 ∷ back) ≡ length bytes = ap length (sym found.parts) in
+          ap (after_bytes header p) found.parts
+          ∙ elim (cases_lt (length front) long_from) [
+            | inl few ↦
+                line-read header p front back none found.no_lf (omega arith)
+                ∙ ap (λ (l : List ℕ). after_bytes header (line_taken header ((l ++ front) ++ 10 ∷ []) p) back) empty
+                ∙ goes-on header q (line_by_line header q (pieces back)) back q.refusal refl
+                (λ (same : q.refusal ≡ None). lines-within n header q back (omega (arith, length-append front (10 ∷ back))) same (line_taken-held header (front ++ 10 ∷ []) p))
+                ∙ sym (cut-taken header p front back found.no_lf few)
+            | inr many ↦ bytes-too-long header p front (10 ∷ back) none found.no_lf (omega arith) (omega arith) ∙ sym (cut-refused header p front back found.no_lf many)
+          ]
+          ∙ ap (λ (l : List ℕ). line_by_line header p (pieces l)) (sym found.parts)
+      | inr no_lf ↦ elim (cases_lt (length bytes) long_from) [
+        | inl few ↦
+            bytes-held header p bytes none no_lf (omega arith) ∙ ap (λ (l : List ℕ). held_at_end p (l ++ bytes)) empty ∙ sym (last-held header p bytes no_lf few)
+        | inr many ↦
+            ap (after_bytes header p) (sym (append-nil bytes)) ∙ bytes-too-long header p bytes [] none no_lf (omega arith) (omega arith) ∙ sym (last-refused header p bytes no_lf many)
+      ]
     ]
-  ]
 
 pub lines-read : (header : List ℕ) (p : Progress) (bytes : List ℕ) → p.refusal ≡ None → p.held ≡ [] → after_bytes header p bytes ≡ line_by_line header p (pieces bytes)
 lines-read header p bytes none empty = lines-within (suc (length bytes)) header p bytes (omega arith) none empty

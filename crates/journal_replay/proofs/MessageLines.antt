@@ -1,6 +1,6 @@
 -- A line with its end is that of a message exactly where it is the message's text.
-use Rattle.std.proofs.Common.{◌≡◌, ℕ, ◌+◌, ◌-◌, List, [], ◌∷◌, ◌++◌, take, length, Bool, true, false, Option, Some, None, Result, Ok, Err}
-use Rattle.std.proofs.Common.{inl, inr, refl, sym, ap, ◌∙◌, arith}
+use Rattle.std.proofs.Common.{◌≡◌, ℕ, ◌-◌, List, [], ◌∷◌, ◌++◌, take, length, true, Some, None, Result, Ok, Err}
+use Rattle.std.proofs.Common.{inl, inr, refl, ap, ◌∙◌, arith}
 use Rattle.std.specs.Str.{bytes_eq}
 use Rattle.std.proofs.lemmas.Bool.{cases_Bool}
 use Rattle.std.proofs.lemmas.List.{length-append}
@@ -46,7 +46,7 @@ message-found w is labels texts =
     let ended = message-ends w in
     let text : List ℕ = text_of_message w in
     let said : line_of (without_end text) ≡ Ok (Says w) =
-        ap (λ (l : List ℕ). line_of (without_end l)) ended.is ∙ ap line_of (ended-without ended.line) ∙ lines-again w ended.line is labels texts ended.is in
+    ap (λ (l : List ℕ). line_of (without_end l)) ended.is ∙ ap line_of (ended-without ended.line) ∙ lines-again w ended.line is labels texts ended.is in
     ap (message_said text) said ∙ rw (bytes_eq-same text) refl
 
 -- and what is read as a message is its text
