@@ -1,3 +1,6 @@
+pub mod Beginnings
 pub mod ByteLemmas
 pub mod Counts
+pub mod LineLemmas
+pub mod MessageLines
 pub mod Networks
