@@ -114,7 +114,7 @@ values_ask command given =
 -- what these words ask of the command that clap reads as this app: clap reads them without a
 -- fault, each value is well spelt and in its range, and no service day is too short or too long in
 -- the zone
-abbrev pub command_asked : Command → App → List Text → Option Asked
+unfoldable pub command_asked : Command → App → List Text → Option Asked
 command_asked command app words = if is_empty (fault_of app words)
     then values_ask command (matches_of app words) else None
 
