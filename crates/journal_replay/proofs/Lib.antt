@@ -1,6 +1,8 @@
+pub mod Accepting
 pub mod Beginnings
 pub mod ByteLemmas
 pub mod Counts
 pub mod LineLemmas
 pub mod MessageLines
 pub mod Networks
+pub mod Pieces
