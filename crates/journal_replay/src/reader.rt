@@ -1,6 +1,6 @@
 //! The reader of a journal, which takes its bytes in pieces.
 
-ghost use Rattle.std.specs.Prelude.{◌≡◌, ◌≢◌, ℕ, ◌+◌, ◌-◌, ◌<◌, ◌≤◌, ◌^◌, ◌++◌, ◌∷◌, [], List, None, Some, Err, IfOk, IfErr, MatchOption, OnOk, drop, length, take, is_empty, not};
+ghost use Rattle.std.specs.Prelude.{◌≡◌, ◌≢◌, ℕ, ◌+◌, ◌-◌, ◌<◌, ◌≤◌, ◌^◌, ◌++◌, ◌∷◌, [], List, None, Some, Err, IfOk, IfErr, MatchOption, OnOk, drop, length, nat_eq, not, take};
 ghost use Rattle.delay_model.specs.declared.messages.Message.{Message};
 ghost use Rattle.information_service.specs.ServiceState.{ServiceState};
 ghost use Rattle.mt_base.specs.Civil.{IsCivil};
@@ -82,7 +82,7 @@ impl JournalReader {
 
     /// Whether bytes stand behind the last whole line. Where the journal is refused, none do.
     pub fn is_torn(&self) -> bool
-        ensures { result ≡ not (is_empty self.now.held) }
+        ensures { result ≡ not (nat_eq (length self.now.held) 0) }
     {
         !self.held.is_empty()
     }
