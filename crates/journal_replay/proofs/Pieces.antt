@@ -1,16 +1,22 @@
 -- A reader that reads the next bytes.
-use Rattle.std.proofs.Common.{◌≡◌, ◌∙◌, ℕ, ◌+◌, ◌<◌, ◌≤◌, ◌^◌, List, [], ◌∷◌, ◌++◌, length, Option, Some, None, Ok, Err, refl, sym, ap, subst, arith}
+use Rattle.std.proofs.Common.{◌≡◌, ◌∙◌, ℕ, ◌+◌, ◌<◌, ◌≤◌, List, [], ◌∷◌, ◌++◌, length, Option, Some, None, Result, Ok, Err, refl, sym, ap, subst, arith}
+use Rattle.std.specs.Result.{IfErr, IsErrAnd}
 use Rattle.delay_model.specs.declared.messages.Message.{Message}
 use Rattle.information_service.specs.ServiceState.{ServiceState}
 use Rattle.mt_io.specs.Steps.{HasNoLf}
 use Rattle.journal_replay.specs.Journals.{held_at_end}
 use Rattle.journal_replay.specs.Reading.{Progress, after_bytes, line_taken, long_from, refused}
-use Rattle.journal_replay.specs.ReaderStates.{BreaksOff, HasRead, IsAt, IsNotHeld, ReaderState, StopsAt, StopsIn, progress}
+use Rattle.journal_replay.specs.ReaderStates.{HasRead, IsAt, IsNotHeld, ReaderState, StopsAt, StopsIn, progress}
 use Rattle.journal_replay.specs.Taking.{IsJudged, IsReadyFor, before_line}
 use Rattle.journal_replay.specs.declared.refusal.JournalRefusal.{JournalRefusal}
 use Rattle.journal_replay.specs.declared.refusal.JournalRefusal.TheVariants.{Header, Line, OutOfMemory}
 use Rattle.journal_replay.proofs.ByteLemmas.{bytes-held, bytes-too-long, lf-read, line_taken-from, line_taken-held, read-append, refused-stays}
 use Rattle.journal_replay.proofs.Counts.{line-counts}
+
+-- what holds of why it stops holds where that is handed on
+pub handed : {X E : Type 0} (P : E → Type 0) (run : Result X E) (e : E) → IsErrAnd run (λ x. x ≡ e) → P e → IfErr run P
+handed P (Ok x) e is p = tt
+handed P (Err f) e is p = subst P (sym is) p
 
 -- progress is its fields
 fields-are : (x : Progress) (lines : ℕ) (held : List ℕ) (refusal : Option JournalRefusal) → x.lines ≡ lines → x.held ≡ held → x.refusal ≡ refusal
@@ -108,7 +114,7 @@ module _ {T : Type 0} (Stands : T → ServiceState → List Message → Type 0) 
   pub refuse-bytes : (first holder : T) (r0 r new : ReaderState) (front bytes more : List ℕ) (why : JournalRefusal) → HasRead Stands first r0 front holder r → r.refusal ≡ None → HasNoLf bytes
       → length r.held < long_from → IsNotHeld r bytes why → new.lines ≡ r.lines → StopsIn Stands first r0 (front ++ (bytes ++ more)) holder new why
   refuse-bytes first holder r0 r new front bytes more Header so none_yet no_lf short not is = absurd not
-  refuse-bytes first holder r0 r new front bytes more (Line line) so none_yet no_lf short not is p at =
+  refuse-bytes first holder r0 r new front bytes more (Line line) so none_yet no_lf short not is = λ p at.
       let q = after_bytes r0.header p front in
       let there = so p at in
       let held : q.held ≡ r.held = ap (λ (x : Progress). x.held) there.reads in
@@ -162,6 +168,6 @@ module _ {T : Type 0} (Stands : T → ServiceState → List Message → Type 0) 
 
   pub read-refused : (why : JournalRefusal) → ¬ (why ≡ OutOfMemory) → (first : T) (r0 : ReaderState) (bytes : List ℕ) (holder : T) (r new : ReaderState) → StopsIn Stands first r0 bytes holder r why
       → new.lines ≡ r.lines → new.held ≡ [] → new.refusal ≡ Some why → HasRead Stands first r0 bytes holder new
-  read-refused Header other first r0 bytes holder r new stops is none why_is p at = noted Header holder r.lines new _ (stops p at) is none why_is
-  read-refused (Line line) other first r0 bytes holder r new stops is none why_is p at = noted (Line line) holder r.lines new _ (stops p at) is none why_is
+  read-refused Header other first r0 bytes holder r new stops is none why_is = λ p at. noted Header holder r.lines new _ (stops p at) is none why_is
+  read-refused (Line line) other first r0 bytes holder r new stops is none why_is = λ p at. noted (Line line) holder r.lines new _ (stops p at) is none why_is
   read-refused OutOfMemory other first r0 bytes holder r new stops is none why_is = absurd (other refl)

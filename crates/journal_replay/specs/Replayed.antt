@@ -6,7 +6,7 @@ use Rattle.information_service.specs.ServiceState.{ServiceState}
 use Rattle.journal_replay.specs.Reading.{Progress, after_bytes, nothing_read}
 use Rattle.journal_replay.specs.declared.refusal.JournalRefusal.{JournalRefusal}
 use Rattle.journal_replay.specs.declared.refusal.JournalRefusal.TheVariants.{Header, Line, OutOfMemory}
-use Rattle.journal_replay.specs.declared.replay.Replayed.{Replayed}
+use Rattle.journal_replay.specs.declared.replaying.Replayed.{Replayed}
 
 -- why a journal is refused that is read so far and ends there, if it is: it also has to have a
 -- whole line
