@@ -15,7 +15,10 @@ use Rattle.commands.specs.OwnLoads.{head_of, journal_behind, keeping, restarted,
 
 -- ---- those that keep something by the words alone
 
-same-network : {C : Type 0} (t : ServiceState) (kept : C) (s : Start C) → Ok {E = List ℕ} (record { service = t; kept = kept }) ≡ Ok s → s.service.network ≡ t.network
+abbrev begun : {C : Type 0} → Start C → Result (Start C) (List ℕ)
+begun s = Ok s
+
+same-network : {C : Type 0} (t : ServiceState) (kept : C) (s : Start C) → begun (record { service = t; kept = kept }) ≡ Ok s → s.service.network ≡ t.network
 same-network t kept s is = cc
 
 pub keeping-alike : {C : Type 0} (kept : Asked → C) → IsBegunAlike (keeping kept)

@@ -1,5 +1,5 @@
 -- What a command begins with, and keeps beside it, fits what it writes.
-use Rattle.std.proofs.Common.{◌≡◌, ℕ, List, Option, Ok, arith, sym, subst}
+use Rattle.std.proofs.Common.{◌≡◌, ℕ, List, Option, Result, Ok, arith, sym, subst}
 use Rattle.command_words.specs.Words.{Asked}
 use Rattle.information_service.specs.ServiceState.{ServiceState}
 use Rattle.journey_watch.specs.Watching.{WatchState}
@@ -11,7 +11,10 @@ use Rattle.commands.specs.OwnLoads.{none_watched, watch_behind}
 fits-none : (t : ServiceState) {kept : WatchState} → kept ≡ none_watched → watched_output.fits t kept
 fits-none t {kept = kept} is = subst (watched_output.fits t) (sym is) (λ k w within. absurd (omega (arith, within)))
 
-same-kept : (t : ServiceState) (s : Start WatchState) → Ok {E = List ℕ} (record { service = t; kept = none_watched }) ≡ Ok s → s.kept ≡ none_watched
+abbrev begun : Start WatchState → Result (Start WatchState) (List ℕ)
+begun s = Ok s
+
+same-kept : (t : ServiceState) (s : Start WatchState) → begun (record { service = t; kept = none_watched }) ≡ Ok s → s.kept ≡ none_watched
 same-kept t s is = cc
 
 pub watch-fits : BeginsFitting watch_behind watched_output

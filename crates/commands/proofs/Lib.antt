@@ -7,6 +7,7 @@ pub mod GenEndings
 pub mod Made
 pub mod MadeLines
 pub mod Named
+pub mod Restarting
 pub mod SameTables
 pub mod Tables
 pub mod Statuses

@@ -1,6 +1,6 @@
 -- What the commands load behind the feed that answer line by line, and how `restart` takes the
 -- journal of the feed's folder.
-use Rattle.std.specs.Prelude.{ℕ, ◌≡◌, ◌++◌, List, codes, decimal, Result, Ok, Err, None, Some}
+use Rattle.std.specs.Prelude.{ℕ, ◌≡◌, ◌++◌, List, [], codes, decimal, Result, Ok, Err, None, Some}
 use Rattle.std.specs.declared.option.Option.{Option}
 use Rattle.command_words.specs.Words.{Asked}
 use Rattle.information_service.specs.ServiceState.{ServiceState}
@@ -61,7 +61,9 @@ journal_line OutOfMemory = []
 
 -- a journal that is refused for this is refused with its line, unless there is no memory
 abbrev pub HasJournalLine : JournalRefusal → LoadFault → Type 0
-HasJournalLine why (Refused line) = line.items ≡ journal_line why
+HasJournalLine Header (Refused line) = line.items ≡ journal_line Header
+HasJournalLine (Line number) (Refused line) = line.items ≡ journal_line (Line number)
+HasJournalLine OutOfMemory (Refused line) = ⊥
 HasJournalLine why faults.OutOfMemory = Unit {0}
 
 -- and a folder without a journal with its own
