@@ -1,4 +1,4 @@
-"""Mutations of the tables, words and lines of a case of tools/fuzz.
+"""Mutations of the tables, words, lines and journals of a case of tools/fuzz.
 
 Each takes the random numbers of the case first. Tables are bytes by name; a name that
 is not there is a table that is not there, and None is a folder in place of the table.
@@ -57,7 +57,8 @@ WORDS = (
     "--slack=-5", "--no", "0", "1", "2", "007", "16", "17", "31", "32", "50", "51", "3600", "3601", "86400",
     "000000001", "0000000001", "2000", "2001", "40000", "40001", "100000", "100001", "+1", "1,000", "1.0", " 1",
     "feed", "./feed", "feed/", "feed/stops.txt", "nofeed", "x" * 300, "feed/..", "/dev/null", "\u00e4", "\u0661",
-    "times", "serve", "check", "plans", "watch", "gen", "help", "TIMES", "20260106", "20260229", "18991231", "19000101",
+    "times", "serve", "check", "plans", "watch", "journal", "restart", "gen", "help", "TIMES", "20260106",
+    "20260229", "18991231", "19000101",
     "21001231", "--rides", "--rides", "--rides=1", "--rides=8", "--rides=9", "--rides=0", "--rides=", "8", "9",
     "21010101", "00000101", "2026-01-05", "202601055", "--zone", "--zone=", "--zone=UTC0",
     "--zone=CET-1CEST,M3.5.0,M10.5.0/3", "CET-1CEST,M3.5.0,M10.5.0/3", "UTC0", "CET",
@@ -91,6 +92,10 @@ MEMBERS = (
 ENDS = (
     b"", b"\n", b"\n", b"\n\n", b"\r\n", b" \t\r\n", b"\0\n", b"\n \n", b"}\n", b"{}\n", b"\n[]\n", b"\nnull\n",
     b"\n1\n", b'\n""\n',
+)  # fmt: skip
+NO_MESSAGES = (
+    b"", b" ", b"{}", b"null", b'{"type":"flush","v":2}',
+    b'{"client":"c1","date":"20260105","from":"A","time":"08:00:00","to":"D","type":"query","v":2}',
 )  # fmt: skip
 MESSAGES = "forecast", "report", "correct", "withdraw", "cancel", "reroute", "extra", "keep", "drop", "rule"
 TYPES = (*MESSAGES, "query", "claim", "flush", "Flush", "")
@@ -319,6 +324,28 @@ def words_mutated(random, words):
         place = random.randrange(len(rest) + 1)
         return rest[:place] + taken + rest[place:]
     return words[:place] + [word] + words[place + 1 :]
+
+
+def journal_mutated(random, data):
+    """A journal that is cut, most times, or with a line changed, put in, taken out, doubled or moved."""
+    lines = data.split(b"\n")[:-1]
+    way, is_behind = random.randrange(12), len(lines) > 1 and random.randrange(6) > 0
+    if way < 4 or not lines:
+        return data[: random.randint(len(lines[0]) + 1 if is_behind else 0, len(data))]
+    if way == 4:
+        return bytes_mutated(random, data)
+    first, second = (random.randrange(is_behind, len(lines)) for _ in range(2))
+    if way == 5:
+        del lines[first]
+    elif way == 6:
+        lines.insert(second, lines[first])
+    elif way == 7:
+        lines[first], lines[second] = lines[second], lines[first]
+    elif way == 8:
+        lines.insert(first, random.choice(NO_MESSAGES))
+    else:
+        lines[first] = line_mutated(random, lines[first].decode()).removesuffix(b"\n")
+    return b"".join(line + b"\n" for line in lines)
 
 
 def parts_of(value):

@@ -193,12 +193,12 @@ def check_times(message):
         raise Bad("time")
 
 
-def read_line(line, is_checked=False):
+def read_line(line, is_checked=False, long=LONG):
     """What the bytes of a line say: its type and the members that the type needs; or it raises Bad.
 
-    A line that is checked may be a claim.
+    A line that is checked may be a claim. One of so many bytes is long.
     """
-    if len(line) >= LONG:
+    if len(line) >= long:
         raise Bad("long")
     try:
         words = line.decode("utf-8")

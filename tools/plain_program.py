@@ -395,6 +395,11 @@ def quoted(field):
     return '"' + field.replace('"', '""') + '"' if re.search('[",\r\n]', field) else field
 
 
+def compact(value):
+    """The text of an object, with its members in the order of their names and without blanks."""
+    return json.dumps(value, separators=(",", ":"), sort_keys=True, ensure_ascii=False)
+
+
 def numbered(reply, line):
     """The text of a reply, with the number of its line."""
-    return json.dumps(reply | {"line": line}, separators=(",", ":"), sort_keys=True, ensure_ascii=False)
+    return compact(reply | {"line": line})

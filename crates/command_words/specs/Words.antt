@@ -80,7 +80,7 @@ abbrev pub asked_bases : Asked → List ℕ
 asked_bases a = base_seconds a.zone a.first a.days
 
 -- the command of this name, of those that read a feed
-abbrev pub command_of : Text → Option Command
+unfoldable pub command_of : Text → Option Command
 command_of name = if bytes_eq name (codes "times") then Some Times
     else (if bytes_eq name (codes "serve") then Some Serve
     else (if bytes_eq name (codes "check") then Some Check
@@ -114,7 +114,7 @@ values_ask command given =
 -- what these words ask of the command that clap reads as this app: clap reads them without a
 -- fault, each value is well spelt and in its range, and no service day is too short or too long in
 -- the zone
-abbrev pub command_asked : Command → App → List Text → Option Asked
+unfoldable pub command_asked : Command → App → List Text → Option Asked
 command_asked command app words = if is_empty (fault_of app words)
     then values_ask command (matches_of app words) else None
 

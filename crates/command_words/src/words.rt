@@ -1,13 +1,10 @@
 //! What the words after the program's name ask for.
 
-ghost use Rattle.std.specs.Prelude.{◌≡◌, ◌≤◌, ◌<◌, [], IfOk, IfSome, IsErrOf, Some, None, map, option_map, string_bytes};
+ghost use Rattle.std.specs.Prelude.{◌≡◌, ◌≤◌, [], IfOk, IfSome, IsErrOf, Some, None, map, option_map, string_bytes};
 ghost use Rattle.clap.specs.Words.{app_of, fault_of, found_of, matches_of, rows_of};
-ghost use Rattle.mt_base.specs.Civil.{IsCivil};
-ghost use Rattle.mt_base.specs.Options.{IsInRange};
 ghost use Rattle.command_words.specs.Commands.{app_for};
-ghost use Rattle.command_words.specs.Held.{asked_view};
-ghost use Rattle.service_zones.specs.Bases.{day_of_wrong_length};
-ghost use Rattle.command_words.specs.Words.{asked_of, command_of, rides_given, values_ask, zone_given};
+ghost use Rattle.command_words.specs.Held.{asked_view, IsInRanges};
+ghost use Rattle.command_words.specs.Words.{asked_of, command_asked, command_of, rides_given, values_ask, zone_given};
 ghost use Rattle.command_words.specs.declared.words.WordsFault.TheVariants.{OutOfMemory};
 
 use crate::arguments::given_arguments;
@@ -119,6 +116,7 @@ impl From<AllocError> for WordsFault {
 
 impl Command {
     /// The command of this name, of those that read a feed.
+    #[tactic(auto, unfolding(crate::specs::Words::command_of))]
     pub fn named(name: &str) -> Option<Command>
         ensures { result ≡ command_of name.now }
     {
@@ -170,13 +168,7 @@ fn command_matches<'a>(
 fn values_ask<'a>(command: Command, given: &ArgMatches<'a>) -> Option<Asked<'a>>
     ensures value { option_map asked_view result
         ≡ values_ask command (rows_of (found_of given.now)) }
-    ensures civil { IfSome result (λ a. IsCivil a.first) }
-    ensures year { IfSome result (λ a. a.first < 21010000) }
-    ensures days { IfSome result (λ a. (1 ≤ a.days) × (a.days ≤ 31)) }
-    ensures options { IfSome result (λ a. IsInRange a.opts) }
-    ensures workers { IfSome result (λ a. (1 ≤ a.workers) × (a.workers ≤ 16)) }
-    ensures rides { IfSome result (λ a. (1 ≤ a.rides) × (a.rides ≤ 8)) }
-    ensures lengths { IfSome result (λ a. day_of_wrong_length a.zone a.first a.days ≡ None) }
+    ensures ranges { IfSome result IsInRanges }
 {
     let asked = Asked {
         command,
@@ -195,31 +187,37 @@ fn values_ask<'a>(command: Command, given: &ArgMatches<'a>) -> Option<Asked<'a>>
     Some(asked)
 }
 
-/// What the words after the program's name ask for, of which the first is the command. `Usage` only
-/// where they ask for nothing that the program does, and then always, unless there is no memory;
-/// `OutOfMemory` where there is no memory.
-#[tactic(auto, unfolding(crate::specs::Words::asked_of))]
-pub fn read_words<'a>(alloc: Global, words: &'a [String]) -> Result<Asked<'a>, WordsFault>
-    // what is asked for, and when an error comes
-    ensures ok { IfOk result (λ a. asked_of (map string_bytes words.now) ≡ Some (asked_view a)) }
-    ensures usage { IsErrOf result WordsFault.Usage → asked_of (map string_bytes words.now) ≡ None }
-
-    // the range of each value that was read
-    ensures civil { IfOk result (λ a. IsCivil a.first) }
-    ensures year { IfOk result (λ a. a.first < 21010000) }
-    ensures days { IfOk result (λ a. (1 ≤ a.days) × (a.days ≤ 31)) }
-    ensures options { IfOk result (λ a. IsInRange a.opts) }
-    ensures workers { IfOk result (λ a. (1 ≤ a.workers) × (a.workers ≤ 16)) }
-    ensures rides { IfOk result (λ a. (1 ≤ a.rides) × (a.rides ≤ 8)) }
-
-    // no service day is too short or too long
-    ensures lengths { IfOk result (λ a. day_of_wrong_length a.zone a.first a.days ≡ None) }
+/// What words ask of this command, of which the first is its name.
+#[tactic(auto, unfolding(crate::specs::Words::command_asked))]
+fn command_asked<'a>(
+    alloc: Global,
+    command: Command,
+    name: &'a str,
+    words: &'a [String],
+) -> Result<Asked<'a>, WordsFault>
+    ensures ok { IfOk result (λ a. command_asked command (app_for command name.now)
+        (map string_bytes words.now) ≡ Some (asked_view a)) }
+    ensures usage { IsErrOf result WordsFault.Usage → command_asked command
+        (app_for command name.now) (map string_bytes words.now) ≡ None }
+    ensures ranges { IfOk result IsInRanges }
 {
-    let name = words.first().ok_or(WordsFault::Usage)?.as_str();
-    let command = Command::named(name).ok_or(WordsFault::Usage)?;
     let given = command_matches(alloc, command, name, words)?;
     match values_ask(command, &given) {
         Some(asked) => Ok(asked),
         None => Err(WordsFault::Usage),
     }
+}
+
+/// What the words after the program's name ask for, of which the first is the command. `Usage` only
+/// where they ask for nothing that the program does, and then always, unless there is no memory;
+/// `OutOfMemory` where there is no memory.
+#[tactic(auto, unfolding(crate::specs::Words::asked_of))]
+pub fn read_words<'a>(alloc: Global, words: &'a [String]) -> Result<Asked<'a>, WordsFault>
+    ensures ok { IfOk result (λ a. asked_of (map string_bytes words.now) ≡ Some (asked_view a)) }
+    ensures usage { IsErrOf result WordsFault.Usage → asked_of (map string_bytes words.now) ≡ None }
+    ensures ranges { IfOk result IsInRanges }
+{
+    let name = words.first().ok_or(WordsFault::Usage)?.as_str();
+    let command = Command::named(name).ok_or(WordsFault::Usage)?;
+    command_asked(alloc, command, name, words)
 }

@@ -1,3 +1,4 @@
+pub mod BegunAlike
 pub mod Endings
 pub mod Exits
 pub mod Fitting
@@ -5,6 +6,7 @@ mod Failing
 pub mod GenEndings
 pub mod Made
 pub mod MadeLines
+pub mod Named
 pub mod SameTables
 pub mod Tables
 pub mod Statuses

@@ -1,10 +1,6 @@
 -- What is taken of the feed's folder behind the feed, and what a command makes of it.
-use Rattle.std.specs.Prelude.{ℕ, ◌≡◌, ◌≤◌, ◌<◌, List, true, false, length, option_map, IfSome, Result, Ok, Err, None, Some}
+use Rattle.std.specs.Prelude.{ℕ, ◌≡◌, ◌≤◌, List, true, false, length, option_map, IfSome, Result, Ok, Err, Some}
 use Rattle.std.specs.declared.option.Option.{Option}
-use Rattle.command_words.specs.declared.words.Asked.{Asked}
-use Rattle.mt_base.specs.Civil.{IsCivil}
-use Rattle.mt_base.specs.Options.{IsInRange}
-use Rattle.service_zones.specs.Bases.{day_of_wrong_length}
 use Rattle.information_service.specs.ServiceState.{ServiceState}
 use Rattle.information_service.specs.declared.fault.LinesFault.{LinesFault}
 use Rattle.information_service.specs.declared.fault.LinesFault.TheVariants as faults
@@ -16,18 +12,6 @@ use Rattle.commands.specs.declared.loading.LoadFault.{LoadFault}
 use Rattle.commands.specs.declared.loading.LoadFault.TheVariants.{Refused, OutOfMemory}
 use Rattle.commands.specs.declared.status.Stop.{Stop}
 use Rattle.commands.specs.declared.status.Stop.TheVariants as stops
-
--- ---- what the words ask for
-
--- the values of words that were read are in their ranges, and no service day is too short or too
--- long
-pub record IsAskedFor (asked : Asked) : Type 0 where
-  pub civil : IsCivil asked.first
-  pub year : asked.first < 21010000
-  pub days : (1 ≤ asked.days) × (asked.days ≤ 31)
-  pub options : IsInRange asked.opts
-  pub rides : (1 ≤ asked.rides) × (asked.rides ≤ 8)
-  pub lengths : day_of_wrong_length asked.zone asked.first asked.days ≡ None
 
 -- ---- its table
 

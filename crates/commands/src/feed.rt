@@ -1,7 +1,7 @@
 //! The timetable that a feed holds.
 
 ghost use Rattle.std.specs.Prelude.{◌≡◌, ◌<◌, ◌≤◌, None, Ok, Some, IfOk, IsErrOf};
-ghost use Rattle.command_words.specs.Held.{asked_view};
+ghost use Rattle.command_words.specs.Held.{asked_view, IsInRanges};
 ghost use Rattle.feed_load.specs.Loaded.{loaded};
 ghost use Rattle.gtfs_tables.specs.Feeds.{Files, contents_of, tables_of};
 ghost use Rattle.gtfs_tables.specs.Refusals.{Gives};
@@ -14,7 +14,6 @@ ghost use Rattle.schedule_build.specs.Bases.{AreBases};
 ghost use Rattle.schedule_build.specs.InStep.{AreInStep};
 ghost use Rattle.service_zones.specs.Bases.{base_seconds, day_of_wrong_length};
 ghost use Rattle.commands.specs.Feeds.{network, tables_in, asked_in};
-ghost use Rattle.commands.specs.Loading.{IsAskedFor};
 
 use command_words::Asked;
 use feed_load::load_feed;
@@ -150,7 +149,7 @@ pub(crate) fn load_asked<F: Feed>(
     asked: &Asked<'_>,
     feed: &mut F,
 ) -> Result<LoadedTimetable, FeedError>
-    requires asked { IsAskedFor asked.now }
+    requires asked { IsInRanges asked.now }
 
     // the timetable that the feed holds, or why it is refused
     ensures exact { (told : Files) → F.tables feed.old ≡ Some told
@@ -187,7 +186,7 @@ pub(crate) fn load_service<F: Feed>(
     asked: &Asked<'_>,
     feed: &mut F,
 ) -> Result<InformationService, FeedError>
-    requires asked { IsAskedFor asked.now }
+    requires asked { IsInRanges asked.now }
 
     // the timetable that the feed holds, or why it is refused
     ensures exact { (told : Files) → F.tables feed.old ≡ Some told

@@ -2,11 +2,11 @@
 
 ghost use Rattle.std.specs.Prelude.{◌≡◌, ◌≤◌, List, ℕ, Some, IfErr, IfOk, IsErrOf, OnOk, option_map};
 ghost use Rattle.std.specs.declared.option.Option.{Option};
-ghost use Rattle.command_words.specs.Held.{asked_view};
+ghost use Rattle.command_words.specs.Held.{asked_view, IsInRanges};
 ghost use Rattle.gtfs_tables.specs.Feeds.{Files};
 ghost use Rattle.mt_io.specs.Causes.{counted};
 ghost use Rattle.commands.specs.LineTasks.{BeginsSome, begins_by, table_among};
-ghost use Rattle.commands.specs.Loading.{HasFewBytes, HasLongLine, HasOwnLine, IsAskedFor, IsFetched, IsLoaded, IsOfFeed};
+ghost use Rattle.commands.specs.Loading.{HasFewBytes, HasLongLine, HasOwnLine, IsFetched, IsLoaded, IsOfFeed};
 
 use crate::refusal::long_line;
 use command_words::Asked;
@@ -38,9 +38,9 @@ impl From<AllocError> for LoadFault {
 /// keeps beside the timetable and its names.
 pub trait LoadBehind<C> {
     ghost use Rattle.std.specs.Prelude.{◌≡◌, ◌≤◌, length, IfSome, OnOk, option_map};
-    ghost use Rattle.command_words.specs.Held.{asked_view};
+    ghost use Rattle.command_words.specs.Held.{asked_view, IsInRanges};
     ghost use Rattle.commands.specs.LineTasks.{Behind, IsBegunAlike};
-    ghost use Rattle.commands.specs.Loading.{IsAskedFor, IsLoaded};
+    ghost use Rattle.commands.specs.Loading.{IsLoaded};
 
     /// The table that it takes, and what it begins with, or the line by which it refuses.
     ghost behind: { Behind C };
@@ -57,7 +57,7 @@ pub trait LoadBehind<C> {
         table: Option<Vec<u8>>,
         service: &mut InformationService,
     ) -> Result<C, LoadFault>
-        requires asked { IsAskedFor asked.now }
+        requires asked { IsInRanges asked.now }
         requires few { IfSome table (λ bytes. length bytes.items ≤ 268435456) }
         requires new { service.old.count ≡ 0 }
         ensures loaded { IsLoaded (behind.begins (asked_view asked.now)
@@ -149,7 +149,7 @@ pub(crate) fn load_behind<L: LoadBehind<C>, C>(
     own: Fetched,
     service: &mut InformationService,
 ) -> Result<C, LoadFault>
-    requires asked { IsAskedFor asked.now }
+    requires asked { IsInRanges asked.now }
     requires few { HasFewBytes own }
     requires new { service.old.count ≡ 0 }
     requires named { HasLongLine L.behind.table own }

@@ -1,21 +1,22 @@
 -- The text of a value holds no byte below the blank, so no LF.
-use Rattle.std.proofs.Common.{◌≡◌, ◌⊎◌, ℕ, zero, suc, ◌<◌, ◌≤◌, ◌^◌, Bool, true, false, nat_le, ◌&&◌, List, [], ◌∷◌, ◌++◌, All, codes, decimal, inl, inr, refl, sym, ap, ◌∙◌, subst, arith}
+use Rattle.std.proofs.Common.{◌≡◌, ◌⊎◌, ℕ, zero, suc, ◌/◌, ◌%◌, ◌<◌, ◌≤◌, Bool, true, false, nat_eq, nat_le, List, [], ◌∷◌, ◌++◌, All, decimal, pos, negsuc}
+use Rattle.std.proofs.Common.{inl, inr, refl, sym, subst, arith}
 use Rattle.std.specs.List.{AllByRecursion, list_all}
-use Rattle.std.specs.Str.Parse.{AllDigits}
-use Rattle.std.specs.Char.{digit_value}
-use Rattle.std.proofs.lemmas.Bool.{and_from, cases_eq, cases_lt}
+use Rattle.std.specs.Fmt.{digits, digits_onto, digit_glyph}
+use Rattle.std.proofs.lemmas.Bool.{and_from, cases_Bool, cases_eq, cases_lt}
 use Rattle.std.proofs.lemmas.Bool.Decides.{nat_tests}
-use Rattle.std.proofs.lemmas.Fmt.{decimal_is_IsNumeral}
 use Rattle.std.proofs.lemmas.List.Elements.{All-from_recursion}
 use Rattle.std.proofs.lemmas.List.Folds.{list_all-append}
 use Rattle.json.specs.Print.{escape, escape_byte, quoted}
 use Rattle.json.proofs.Printed.Strings.{escape_byte_plain}
+use Rattle.serde_json.specs.Data.{Data, Items, Members, unsigned, negative, float, null, boolean, number, string, array, object, no_items, item, no_members, member}
+use Rattle.serde_json.specs.Written.{comma_if, compact_text, items_text, members_text}
 
 -- no byte of the text is below the blank
 abbrev pub IsClear : List ℕ → Type 0
 IsClear xs = list_all (nat_le 32) xs ≡ true
 
-pub clear-append : (xs ys : List ℕ) → IsClear xs → IsClear ys → IsClear (xs ++ ys)
+clear-append : (xs ys : List ℕ) → IsClear xs → IsClear ys → IsClear (xs ++ ys)
 clear-append xs ys p q = grind (arith, list_all-append (nat_le 32) xs ys)
 
 pub clear-all : (xs : List ℕ) → IsClear xs → All (λ b. 32 ≤ b) xs
@@ -90,14 +91,52 @@ escape-clear : (s : List ℕ) → IsClear (escape s)
 escape-clear [] = refl
 escape-clear (x ∷ s) = clear-append (escape_byte x) (escape s) (byte-clear x) (escape-clear s)
 
-pub quoted-clear : (s : List ℕ) → IsClear (quoted s)
+quoted-clear : (s : List ℕ) → IsClear (quoted s)
 quoted-clear s = clear-append (escape s) (34 ∷ []) (escape-clear s) refl
 
 -- ---- numbers
 
-digits-clear : (ds : List ℕ) → AllDigits 10 ds → IsClear ds
-digits-clear [] all = refl
-digits-clear (d ∷ ds) all = and_from _ _ (grind (arith, nat_tests, all.0)) (digits-clear ds all.1)
+glyph-clear : (d : ℕ) (acc : List ℕ) → IsClear acc → IsClear (digit_glyph false d ∷ acc)
+glyph-clear d acc h = and_from _ _ (grind (arith, nat_tests)) h
 
-pub decimal-clear : (n : ℕ) → n < 2 ^ 64 → IsClear (decimal n)
-decimal-clear n fits = digits-clear (decimal n) (decimal_is_IsNumeral n fits).0.1
+digits-clear : (k n : ℕ) (acc : List ℕ) → IsClear acc → IsClear (digits_onto k 10 false n acc)
+digits-clear zero n acc h = h
+digits-clear (suc k) n acc h = elim (cases_Bool (nat_eq (n / 10) 0)) [
+  | inl last ↦ rw last (glyph-clear (n % 10) acc h)
+  | inr more ↦ rw more (digits-clear k (n / 10) (digit_glyph false (n % 10) ∷ acc) (glyph-clear (n % 10) acc h))
+]
+
+decimal-clear : (n : ℕ) → IsClear (decimal n)
+unfolding digits
+decimal-clear n = digits-clear 64 n [] refl
+
+-- ---- values
+
+comma-clear : (later : Bool) → IsClear (comma_if later)
+comma-clear true = refl
+comma-clear false = refl
+
+mutual
+  pub text-clear : (d : Data) → IsClear (compact_text d)
+  text-clear null = refl
+  text-clear (boolean true) = refl
+  text-clear (boolean false) = refl
+  text-clear (number (unsigned n)) = decimal-clear n
+  text-clear (number (negative (pos n))) = decimal-clear n
+  text-clear (number (negative (negsuc n))) = decimal-clear (suc n)
+  text-clear (number (float x)) = refl
+  text-clear (string s) = quoted-clear s
+  text-clear (array ds) = items-clear false ds
+  text-clear (object ms) = members-clear false ms
+
+  items-clear : (later : Bool) (ds : Items) → IsClear (items_text later ds)
+  items-clear later no_items = refl
+  items-clear later (item d ds) =
+      clear-append (comma_if later) (compact_text d ++ items_text true ds) (comma-clear later) (clear-append (compact_text d) (items_text true ds) (text-clear d) (items-clear true ds))
+
+  members-clear : (later : Bool) (ms : Members) → IsClear (members_text later ms)
+  members-clear later no_members = refl
+  members-clear later (member k d ms) =
+      let behind = clear-append (compact_text d) (members_text true ms) (text-clear d) (members-clear true ms) in
+      clear-append (comma_if later) (quoted k ++ 58 ∷ (compact_text d ++ members_text true ms)) (comma-clear later)
+      (clear-append (quoted k) (58 ∷ (compact_text d ++ members_text true ms)) (quoted-clear k) behind)

@@ -1,5 +1,5 @@
 mod Calls
 mod Clear
 mod Digits
-mod ReadBack
+pub mod ReadBack
 mod Whole

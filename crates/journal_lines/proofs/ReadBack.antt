@@ -1,6 +1,6 @@
 -- The line of a message is read as that message.
 use Rattle.std.specs.Prelude.{⊤}
-use Rattle.std.proofs.Common.{◌≡◌, ℕ, ◌<◌, ◌≤◌, ◌^◌, ◌+◌, IsUtf8, List, [], ◌∷◌, ◌++◌, All, Bool, true, false, Option, Some, None, Ok, option_and_then, option_map, append-nil, codes, decimal, IfSome, inr, refl, subst, sym, ap, ◌∙◌, arith, lit<, rules}
+use Rattle.std.proofs.Common.{◌≡◌, ℕ, ◌<◌, ◌≤◌, ◌^◌, IsUtf8, List, [], ◌∷◌, ◌++◌, All, Bool, true, false, Option, Some, None, Ok, option_and_then, option_map, append-nil, codes, decimal, IfSome, inr, refl, subst, sym, ap, ◌∙◌, arith, lit<}
 use Rattle.std.specs.List.{AllByRecursion}
 use Rattle.std.specs.Str.{is_utf8}
 use Rattle.std.proofs.lemmas.Fmt.{IsAscii-decimal}
@@ -8,7 +8,6 @@ use Rattle.std.proofs.lemmas.List.{append_cancel_right}
 use Rattle.std.proofs.lemmas.List.Elements.{recursion_from_All}
 use Rattle.std.proofs.lemmas.Str.{IsUtf8-append, IsUtf8-from_ascii, is_utf8-from_IsUtf8, IsUtf8-from_is_utf8}
 use Rattle.json.specs.Json as json
-use Rattle.json.specs.Print.{print, quoted}
 use Rattle.json.specs.Tree.{depth, items_depth, json_tokens, HasNumbers, ItemsHaveNumbers, MembersHaveNumbers}
 use Rattle.json.proofs.Printed.Decimals.{IsNumber-decimal}
 use Rattle.json.proofs.Printed.Tokens.{tokens-print}
@@ -29,12 +28,13 @@ use Rattle.message_reader.specs.declared.wire.WireCall.{WireCall}
 use Rattle.message_reader.specs.declared.wire.WireRef.{WireRef}
 use Rattle.message_reader.specs.declared.wire.Wire.{Wire}
 use Rattle.message_reader.specs.declared.wire.Wire.TheVariants.{Event, Correct, Withdraw, Cancel, Reroute, Extra, Connect}
-use Rattle.message_reader.specs.Lines.{line_of, said_by_value}
-use Rattle.message_reader.specs.Spelled.{call_object, call_objects, connect_name, date_text, event_name, object_of, ref_object, time_or_null, time_text, value_name, CanBeSaidIn, HasLabels}
+use Rattle.message_reader.specs.Lines.{line_of}
+use Rattle.message_reader.specs.Spelled.{call_object, call_objects, connect_name, date_text, event_name, object_of, ref_object, time_text, value_name, CanBeSaidIn, HasLabels}
 use Rattle.message_reader.specs.Wires.{IsProper, IsWireCall}
 use Rattle.message_reader.proofs.SpelledLemmas.{messages_back}
-use Rattle.journal_lines.specs.Lines.{text_of_message, HasStopText, HasTexts}
-use Rattle.journal_lines.proofs.Clear.{IsClear, clear-all, clear-append, decimal-clear, quoted-clear}
+use Rattle.journal_lines.specs.declared.heads.Head.{Head}
+use Rattle.journal_lines.specs.Lines.{head_object, text_of_head, text_of_message, HasStopText, HasTexts}
+use Rattle.journal_lines.proofs.Clear.{IsClear, clear-all, text-clear}
 use Rattle.journal_lines.proofs.Digits.{civil-below, date-ascii, time-ascii}
 
 -- ---- values in general
@@ -107,34 +107,6 @@ mutual
       let behind = IsUtf8-append (compact_text d) (members_text true ms) (text-utf8 d h.1) (members-utf8 true ms h.2) in
       IsUtf8-append (comma_if later) _ (comma-utf8 later)
       (IsUtf8-append _ _ (IsUtf8-quoted k (IsUtf8-are_ascii k h.0)) (IsUtf8-append (58 ∷ []) _ (IsUtf8-are_ascii (58 ∷ []) refl) behind))
-
-comma-clear : (later : Bool) → IsClear (comma_if later)
-comma-clear true = refl
-comma-clear false = refl
-
-mutual
-  text-clear : (d : Data) → AreTexts d → IsClear (compact_text d)
-  text-clear null h = refl
-  text-clear (boolean true) h = refl
-  text-clear (boolean false) h = refl
-  text-clear (number (unsigned n)) h = decimal-clear n h
-  text-clear (number (negative z)) h = absurd h
-  text-clear (number (float x)) h = absurd h
-  text-clear (string s) h = quoted-clear s
-  text-clear (array ds) h = items-clear false ds h
-  text-clear (object ms) h = members-clear false ms h
-
-  items-clear : (later : Bool) (ds : Items) → ItemsAreTexts ds → IsClear (items_text later ds)
-  items-clear later no_items h = refl
-  items-clear later (item d ds) h =
-      clear-append (comma_if later) (compact_text d ++ items_text true ds) (comma-clear later) (clear-append (compact_text d) (items_text true ds) (text-clear d h.0) (items-clear true ds h.1))
-
-  members-clear : (later : Bool) (ms : Members) → MembersAreTexts ms → IsClear (members_text later ms)
-  members-clear later no_members h = refl
-  members-clear later (member k d ms) h =
-      let behind = clear-append (compact_text d) (members_text true ms) (text-clear d h.1) (members-clear true ms h.2) in
-      clear-append (comma_if later) (quoted k ++ 58 ∷ (compact_text d ++ members_text true ms)) (comma-clear later)
-      (clear-append (quoted k) (58 ∷ (compact_text d ++ members_text true ms)) (quoted-clear k) behind)
 
 -- a value with such texts, of which nothing is lost when it is outlined, is read from its text
 text-read : (d : Data) → AreTexts d → depth (outline d) ≤ max_depth → of_json (outline d) ≡ Some d → read (compact_text d) ≡ Some d
@@ -398,9 +370,17 @@ lines-again w line is labels texts ends =
     rw (utf8, ap read (sym same) ∙ text-read d back.texts back.shallow back.read) (messages_back 2 w (said-in-two w) is labels)
 
 -- it has no LF within
-pub lines-clear : (w : Wire) (line : List ℕ) → IsProper w → HasLabels w → HasTexts w → text_of_message w ≡ line ++ 10 ∷ [] → All (λ b. 32 ≤ b) line
+pub lines-clear : (w : Wire) (line : List ℕ) → text_of_message w ≡ line ++ 10 ∷ [] → All (λ b. 32 ≤ b) line
 unfolding text_of_message
-lines-clear w line is labels texts ends =
+lines-clear w line ends =
     let d = object_of 2 w in
     let same : compact_text d ≡ line = append_cancel_right (compact_text d) line (10 ∷ []) ends in
-    clear-all line (subst IsClear same (text-clear d (again w is labels texts).texts))
+    clear-all line (subst IsClear same (text-clear d))
+
+-- nor has a header
+pub header-clear : (head : Head) (line : List ℕ) → text_of_head head ≡ line ++ 10 ∷ [] → All (λ b. 32 ≤ b) line
+unfolding text_of_head
+header-clear head line ends =
+    let d = head_object head in
+    let same : compact_text d ≡ line = append_cancel_right (compact_text d) line (10 ∷ []) ends in
+    clear-all line (subst IsClear same (text-clear d))

@@ -6,6 +6,7 @@ ghost use Rattle.message_reader.specs.declared.wire.Wire.{Wire as AWire};
 ghost use Rattle.message_reader.specs.Lines.{line_of};
 ghost use Rattle.message_reader.specs.Spelled.{HasLabels};
 ghost use Rattle.message_reader.specs.Wires.{IsProper};
+ghost use Rattle.journal_lines.specs.declared.heads.Head.{Head as AHead};
 ghost use Rattle.journal_lines.specs.Lines.{text_of_head, text_of_message, HasTexts};
 ghost use Rattle.journal_lines.specs.Worked.{worked_head, worked_header_text, worked_message, worked_message_text};
 
@@ -21,6 +22,12 @@ pub fn message_lines_are_read_back()
 pub fn message_lines_have_no_other_line_end()
     ensures { (w : AWire) (line : List ℕ) → IsProper w → HasLabels w → HasTexts w
         → text_of_message w ≡ line ++ 10 ∷ [] → All (λ b. 32 ≤ b) line }
+{}
+
+/// The line of a header, whatever its zone is, ends at its first LF as well.
+pub fn header_lines_have_no_other_line_end()
+    ensures { (head : AHead) (line : List ℕ) → text_of_head head ≡ line ++ 10 ∷ []
+        → All (λ b. 32 ≤ b) line }
 {}
 
 /// The lines of a worked journal, byte by byte.

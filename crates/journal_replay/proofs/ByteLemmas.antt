@@ -1,5 +1,6 @@
 -- How bytes are read: those that end no line are held, up to a bound, and an LF takes the line.
-use Rattle.std.proofs.Common.{◌≡◌, ◌≢◌, ◌⊎◌, ℕ, ◌+◌, ◌<◌, ◌≤◌, Bool, true, false, nat_eq, nat_le, List, [], ◌∷◌, ◌++◌, length, Option, Some, None, inl, inr, refl, sym, ap, ◌∙◌, append_assoc, append-nil, arith}
+use Rattle.std.proofs.Common.{◌≡◌, ◌≢◌, ℕ, ◌+◌, ◌<◌, ◌≤◌, true, false, nat_eq, nat_le, List, [], ◌∷◌, ◌++◌, length}
+use Rattle.std.proofs.Common.{Option, Some, None, inl, inr, refl, sym, ap, ◌∙◌, append_assoc, append-nil, arith}
 use Rattle.std.specs.Str.{bytes_eq}
 use Rattle.std.proofs.lemmas.Bool.{cases_Bool, cases_eq, cases_lt}
 use Rattle.std.proofs.lemmas.Bool.Decides.{nat_tests}
@@ -9,12 +10,14 @@ use Rattle.delay_model.specs.declared.messages.Message.{Message}
 use Rattle.message_reader.specs.declared.wire.Wire.{Wire}
 use Rattle.mt_io.specs.Steps.{HasNoLf}
 use Rattle.journal_replay.specs.Journals.{held_at_end}
-use Rattle.journal_replay.specs.Reading.{Progress, accepted_in, after_byte, after_bytes, byte_held, byte_read, header_taken, line_refused, line_taken, long_from, message_of, message_taken, taken_as}
+use Rattle.journal_replay.specs.Reading.{Progress, accepted_in, after_byte, after_bytes, byte_read, line_refused, line_taken, long_from}
+use Rattle.journal_replay.specs.Reading.{message_of, message_taken, taken_as}
 use Rattle.journal_replay.specs.declared.refusal.JournalRefusal.{JournalRefusal}
 
 -- ---- bytes behind others
 
-pub read-append : (header : List ℕ) (p : Progress) (first second : List ℕ) → after_bytes header p (first ++ second) ≡ after_bytes header (after_bytes header p first) second
+pub read-append : (header : List ℕ) (p : Progress) (first second : List ℕ)
+    → after_bytes header p (first ++ second) ≡ after_bytes header (after_bytes header p first) second
 read-append header p first second = fold-append (after_byte header) p first second
 
 -- behind a refusal nothing is read
@@ -31,14 +34,16 @@ byte-read : (header : List ℕ) (p : Progress) (b : ℕ) → p.refusal ≡ None 
 byte-read header p b none = ap (byte_read header p b) none
 
 -- a byte that ends no line is held
-pub byte-held : (header : List ℕ) (p : Progress) (b : ℕ) → p.refusal ≡ None → b ≢ 10 → length p.held + 1 < long_from → after_byte header p b ≡ held_at_end p (p.held ++ b ∷ [])
+pub byte-held : (header : List ℕ) (p : Progress) (b : ℕ) → p.refusal ≡ None → b ≢ 10 → length p.held + 1 < long_from
+    → after_byte header p b ≡ held_at_end p (p.held ++ b ∷ [])
 byte-held header p b none ne few =
     let other : nat_eq b 10 ≡ false = grind (arith, nat_tests) in
     let short : nat_le long_from (length p.held + 1) ≡ false = grind (arith, nat_tests) in
     byte-read header p b none ∙ rw (other, short) refl
 
 -- or the line gets too long
-pub byte-too-long : (header : List ℕ) (p : Progress) (b : ℕ) → p.refusal ≡ None → b ≢ 10 → long_from ≤ length p.held + 1 → after_byte header p b ≡ line_refused p
+pub byte-too-long : (header : List ℕ) (p : Progress) (b : ℕ) → p.refusal ≡ None → b ≢ 10 → long_from ≤ length p.held + 1
+    → after_byte header p b ≡ line_refused p
 byte-too-long header p b none ne many =
     let other : nat_eq b 10 ≡ false = grind (arith, nat_tests) in
     let long : nat_le long_from (length p.held + 1) ≡ true = grind (arith, nat_tests) in
@@ -58,7 +63,8 @@ no_lf-parts b bytes none = elim (cases_eq b 10) [
 ]
 
 -- they are held, if the line stays short
-pub bytes-held : (header : List ℕ) (p : Progress) (bytes : List ℕ) → p.refusal ≡ None → HasNoLf bytes → length p.held + length bytes < long_from → after_bytes header p bytes ≡ held_at_end p (p.held ++ bytes)
+pub bytes-held : (header : List ℕ) (p : Progress) (bytes : List ℕ) → p.refusal ≡ None → HasNoLf bytes → length p.held + length bytes < long_from
+    → after_bytes header p bytes ≡ held_at_end p (p.held ++ bytes)
 bytes-held header p [] none no_lf few = ap (held_at_end p) (sym (append-nil p.held))
 bytes-held header p (b ∷ bytes) none no_lf few =
     let parts = no_lf-parts b bytes no_lf in
@@ -68,8 +74,8 @@ bytes-held header p (b ∷ bytes) none no_lf few =
     ∙ ap (held_at_end p) (append_assoc p.held (b ∷ []) bytes)
 
 -- or the line is refused, whatever is read behind them
-pub bytes-too-long : (header : List ℕ) (p : Progress) (bytes more : List ℕ) → p.refusal ≡ None → HasNoLf bytes → length p.held < long_from → long_from ≤ length p.held + length bytes
-    → after_bytes header p (bytes ++ more) ≡ line_refused p
+pub bytes-too-long : (header : List ℕ) (p : Progress) (bytes more : List ℕ) → p.refusal ≡ None → HasNoLf bytes → length p.held < long_from
+    → long_from ≤ length p.held + length bytes → after_bytes header p (bytes ++ more) ≡ line_refused p
 bytes-too-long header p [] more none no_lf short long = absurd (omega arith)
 bytes-too-long header p (b ∷ bytes) more none no_lf short long = elim (cases_lt (length p.held + 1) long_from) [
   | inl few ↦

@@ -9,7 +9,7 @@ use Rattle.information_service.proofs.Networks.{answer-same, same-back}
 use Rattle.information_service.proofs.TimesAlike.{message-keeps, message-over}
 use Rattle.message_reader.specs.declared.wire.Wire.{Wire}
 use Rattle.message_reader.specs.Resolved.{resolved}
-use Rattle.journal_replay.specs.Reading.{Progress, accepted_in, after_byte, after_bytes, after_wire, byte_held, byte_read, header_taken, line_taken, long_from, message_of, message_taken, taken_as}
+use Rattle.journal_replay.specs.Reading.{Progress, accepted_in, after_byte, after_bytes, byte_held, byte_read, header_taken, line_taken, long_from, message_of, message_taken, taken_as}
 use Rattle.journal_replay.specs.declared.refusal.JournalRefusal.{JournalRefusal}
 
 -- so far a journal is read over another network

@@ -1,5 +1,5 @@
 -- What the reader of a journal is seen as, and what it keeps.
-use Rattle.std.specs.Prelude.{◌<◌, length, vec_len}
+use Rattle.std.specs.Prelude.{◌<◌, length}
 use Rattle.journal_replay.specs.Reading.{long_from}
 use Rattle.journal_replay.specs.ReaderStates.{ReaderState}
 use Rattle.journal_replay.specs.declared.reader.JournalReader.TheInside.{Inside}

@@ -1,8 +1,7 @@
 -- Journals as texts: of accepted messages, and what is read of a beginning of one.
-use Rattle.std.specs.Prelude.{◌≡◌, ◌<◌, ◌≤◌, ℕ, ◌+◌, ◌-◌, List, [], ◌∷◌, ◌++◌, All, IfSome, IsSome, fold, length, map, nat_le, take, true, if◌then◌else◌, Some, None}
+use Rattle.std.specs.Prelude.{◌≡◌, ◌≤◌, ℕ, ◌+◌, ◌-◌, List, [], ◌∷◌, ◌++◌, IsSome, fold, length, map, nat_le, take, if◌then◌else◌, Some, None}
 use Rattle.std.specs.List.{concat}
 use Rattle.std.specs.declared.option.Option.{Option}
-use Rattle.std.specs.Str.{is_utf8}
 use Rattle.delay_model.specs.declared.messages.Message.{Message}
 use Rattle.information_service.specs.ServiceState.{ServiceState}
 use Rattle.journal_lines.specs.declared.heads.Head.{Head}
@@ -73,9 +72,8 @@ pub record CanBeWritten (w : Wire) : Type 0 where
   pub texts : HasTexts w
   pub short : length (text_of_message w) ≤ long_from
 
--- the zone's text is one in UTF-8, and the line of the header is not too long
+-- the line of the header is not too long
 pub record CanBeHead (head : Head) : Type 0 where
-  pub zone : IfSome head.zone (λ text. is_utf8 text ≡ true)
   pub short : length (text_of_head head) ≤ long_from
 
 -- so far such bytes are read: they are not refused, each whole line was taken, and the service

@@ -1,12 +1,12 @@
 -- What a whole journal is read as.
-use Rattle.std.specs.Prelude.{◌≡◌, ℕ, ◌-◌, List, is_empty, nat_eq, not, if◌then◌else◌, Result, Ok, Err, Some, None}
+use Rattle.std.specs.Prelude.{◌≡◌, ℕ, ◌-◌, List, length, nat_eq, not, if◌then◌else◌, Result, Ok, Err, Some, None}
 use Rattle.std.specs.declared.option.Option.{Option}
 use mathlib.Core.List.{IsPrefix}
 use Rattle.information_service.specs.ServiceState.{ServiceState}
 use Rattle.journal_replay.specs.Reading.{Progress, after_bytes, nothing_read}
 use Rattle.journal_replay.specs.declared.refusal.JournalRefusal.{JournalRefusal}
 use Rattle.journal_replay.specs.declared.refusal.JournalRefusal.TheVariants.{Header, Line, OutOfMemory}
-use Rattle.journal_replay.specs.declared.replay.Replayed.{Replayed}
+use Rattle.journal_replay.specs.declared.replaying.Replayed.{Replayed}
 
 -- why a journal is refused that is read so far and ends there, if it is: it also has to have a
 -- whole line
@@ -20,7 +20,7 @@ refusal_at_end p = refused_by p.lines p.refusal
 -- what is answered of it: how many messages it has, and whether bytes stand behind its last line
 abbrev pub replayed_by : Progress → Option JournalRefusal → Result Replayed JournalRefusal
 replayed_by p (Some why) = Err why
-replayed_by p None = Ok (record { count = p.lines - 1; torn = not (is_empty p.held) })
+replayed_by p None = Ok (record { count = p.lines - 1; torn = not (nat_eq (length p.held) 0) })
 
 abbrev pub replayed : Progress → Result Replayed JournalRefusal
 replayed p = replayed_by p (refusal_at_end p)

@@ -5,7 +5,7 @@ use Rattle.std.specs.declared.option.Option.{Option}
 use Rattle.delay_model.specs.declared.messages.Message.{Message}
 use Rattle.information_service.specs.ServiceState.{ServiceState}
 use Rattle.message_reader.specs.declared.wire.Wire.{Wire}
-use Rattle.journal_replay.specs.Reading.{Progress, accepted_in, after_wire, line_taken, message_of, refused}
+use Rattle.journal_replay.specs.Reading.{Progress, accepted_in, after_wire, line_taken, refused}
 use Rattle.journal_replay.specs.declared.refusal.JournalRefusal.{JournalRefusal}
 use Rattle.journal_replay.specs.declared.refusal.JournalRefusal.TheVariants.{Header, Line, OutOfMemory}
 

@@ -6,7 +6,7 @@ mod laws;
 mod lines;
 mod reader;
 mod refusal;
-mod replay;
+mod replaying;
 mod taking;
 
 pub use laws::{
@@ -15,5 +15,5 @@ pub use laws::{
 };
 pub use reader::JournalReader;
 pub use refusal::JournalRefusal;
-pub use replay::{Replayed, replay};
+pub use replaying::{Replayed, replay};
 pub use taking::TakeJournal;

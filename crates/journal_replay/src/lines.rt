@@ -1,12 +1,12 @@
 //! The lines of a journal, with their ends.
 
-ghost use Rattle.std.specs.Prelude.{◌≡◌, ℕ, ◌+◌, ◌<◌, ◌≤◌, ◌^◌, List, bytes_eq, length, IfErr, IfOk, IfSome, OnOk};
+ghost use Rattle.std.specs.Prelude.{◌≡◌, ℕ, ◌-◌, ◌<◌, ◌≤◌, ◌^◌, List, bytes_eq, length, IfErr, IfOk, IfSome, OnOk};
 ghost use Rattle.delay_model.specs.declared.messages.Message.{Message};
 ghost use Rattle.information_service.specs.ServiceState.{ServiceState};
 ghost use Rattle.journal_lines.specs.Lines.{text_of_message};
 ghost use Rattle.message_reader.specs.Wires.{IsProper, IsWire};
 ghost use Rattle.journal_replay.specs.Reading.{message_if, message_of};
-ghost use Rattle.journal_replay.specs.Taking.{IsJudged, IsLineTaken, IsReadyFor, StaysReady};
+ghost use Rattle.journal_replay.specs.Taking.{IsJudged, IsLineTaken, IsReadyFor};
 
 use crate::refusal::JournalRefusal;
 use crate::taking::TakeJournal;

@@ -1,11 +1,12 @@
 //! The reader of a journal, which takes its bytes in pieces.
 
-ghost use Rattle.std.specs.Prelude.{◌≡◌, ◌≢◌, ℕ, ◌+◌, ◌-◌, ◌<◌, ◌≤◌, ◌^◌, ◌++◌, ◌∷◌, [], List, None, Some, Err, IfOk, IfErr, MatchOption, OnOk, drop, length, take, is_empty, not};
+ghost use Rattle.std.specs.Prelude.{◌≡◌, ◌≢◌, ℕ, ◌+◌, ◌-◌, ◌<◌, ◌≤◌, ◌^◌, ◌++◌, ◌∷◌, [], List, None, Some, Err, IfOk, IfErr, MatchOption, OnOk, drop, length, nat_eq, not, take};
 ghost use Rattle.delay_model.specs.declared.messages.Message.{Message};
 ghost use Rattle.information_service.specs.ServiceState.{ServiceState};
 ghost use Rattle.mt_base.specs.Civil.{IsCivil};
 ghost use Rattle.mt_io.specs.Steps.{HasNoLf};
 ghost use Rattle.journal_lines.specs.Lines.{text_of_head};
+ghost use Rattle.journal_replay.specs.Reading.{long_from};
 ghost use Rattle.journal_replay.specs.ReaderStates.{answer, BreaksOff, HasRead, IsHeld, IsNotHeld, StopsIn};
 ghost use Rattle.journal_replay.specs.Taking.{IsJudged, IsReadyFor};
 ghost use Rattle.journal_replay.specs.declared.refusal.JournalRefusal.{JournalRefusal as AJournalRefusal};
@@ -50,7 +51,10 @@ fn first_lf(bytes: &[u8]) -> Option<usize>
         × HasNoLf (take i bytes.now)
         × (bytes.now ≡ take i bytes.now ++ 10 ∷ drop (i + 1) bytes.now)) }
 {
-    memchr(b'\n', bytes)
+    match memchr(b'\n', bytes) {
+        Some(i) => Some(i),
+        None => None,
+    }
 }
 
 impl JournalReader {
@@ -82,7 +86,7 @@ impl JournalReader {
 
     /// Whether bytes stand behind the last whole line. Where the journal is refused, none do.
     pub fn is_torn(&self) -> bool
-        ensures { result ≡ not (is_empty self.now.held) }
+        ensures { result ≡ not (nat_eq (length self.now.held) 0) }
     {
         !self.held.is_empty()
     }
@@ -91,6 +95,7 @@ impl JournalReader {
     /// `OutOfMemory` where there is no memory.
     fn hold(&mut self, bytes: &[u8]) -> Result<(), JournalRefusal>
         requires lines { self.old.lines < 2 ^ 64 - 1 }
+        ensures short { length self.old.held < long_from }
         ensures held { OnOk result (IsHeld self.old bytes.now self.new) }
         ensures not_held { IfErr result (IsNotHeld self.old bytes.now) }
         ensures header { self.new.header ≡ self.old.header }
@@ -128,7 +133,9 @@ impl JournalReader {
         ensures lines { IfErr result (λ _. self.new.lines ≡ self.old.lines) }
         ensures refusal { self.new.refusal ≡ self.old.refusal }
     {
-        self.held.push(b'\n')?;
+        let Ok(()) = self.held.push(b'\n') else {
+            return Err(JournalRefusal::OutOfMemory);
+        };
         let judged = judge::<T, R>(
             alloc,
             rt,
