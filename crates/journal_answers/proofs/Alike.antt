@@ -1,5 +1,5 @@
 -- What is written for a line is the same over networks that are alike.
-use Rattle.std.proofs.Common.{◌≡◌, ℕ, List, Result, Ok, Err, ap, refl}
+use Rattle.std.proofs.Common.{◌≡◌, Result, Ok, Err, ap, refl}
 use Rattle.delay_model.specs.declared.network.Network.{Network}
 use Rattle.information_service.specs.Networks.{IsSame, over}
 use Rattle.information_service.specs.ServiceState.{ServiceState}

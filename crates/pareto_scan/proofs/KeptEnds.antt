@@ -117,7 +117,7 @@ there-better (Some e) new t better there = by new (better t (e.time, refl, leb-t
     by None h = absurd (none-some h.0 h.1)
     by (Some f) h = let same : f.time ≡ h.0 = same_Some f.time h.0 h.1 in let le = h.2 in Rattle.std.proofs.lemmas.Bool.le-leb f.time t (omega arith)
 
-top-few : (levels : List Level) (t top : ℕ) → top_at levels t top ≤ top
+pub top-few : (levels : List Level) (t top : ℕ) → top_at levels t top ≤ top
 top-few levels t zero = omega arith
 top-few levels t (suc r) = elim (cases_Bool (is_there_by (level_at levels (suc r)).best t)) [
   | inl there ↦ rw there (let few = top-few levels t r in omega arith)

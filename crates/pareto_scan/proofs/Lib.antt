@@ -5,6 +5,7 @@ mod Stepped
 mod Kept
 mod KeptSteps
 mod KeptEnds
+mod PassedOver
 mod WaySteps
 mod WayHome
 mod BestPlans

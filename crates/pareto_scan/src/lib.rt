@@ -3,8 +3,10 @@
 #![tactic(auto)]
 
 mod begin;
+mod bound;
 mod fronts;
 mod level;
+mod passed;
 mod plans;
 mod riders;
 mod scan;
