@@ -15,6 +15,8 @@ ghost use Rattle.timetable.specs.TimetableState.{TimetableState};
 ghost use Rattle.journal_follower.specs.Boards.{BoardState, StandsAs};
 ghost use Rattle.journal_follower.specs.Following.{FollowerState, HasFollowed, IsTimetableOf, new_reader};
 
+use journal_replay::beginnings_of_journals_are_read;
+
 /// A follower that has read a beginning of the journal of messages that are accepted one after the
 /// other, however it was cut into pieces, refuses nothing of it, and has posted exactly the
 /// messages of its whole lines.
@@ -25,7 +27,9 @@ pub fn whole_journals_are_followed()
         → begun.reader ≡ new_reader (text_of_head head) → StandsAs o begun.board s []
         → HasRead (StandsAs o) begun.board begun.reader bytes now.board now.reader
         → HasFollowed o s ws bytes now }
-{}
+{
+    beginnings_of_journals_are_read();
+}
 
 /// Whatever a viewer of the board saw that is a beginning of what was posted, as `Within` of `meet`
 /// says, is the timetable after a beginning of the journal's messages.
