@@ -1,6 +1,6 @@
 -- What commands begin with is the same over networks that are alike, and has the network that was
 -- loaded.
-use Rattle.std.proofs.Common.{◌≡◌, ◌∙◌, ℕ, List, Option, Some, None, Result, Ok, Err, ap, refl, sym}
+use Rattle.std.proofs.Common.{◌≡◌, ◌∙◌, ℕ, List, Option, Some, None, Result, Ok, ap, refl}
 use Rattle.command_words.specs.Words.{Asked}
 use Rattle.delay_model.specs.declared.network.Network.{Network}
 use Rattle.information_service.specs.Networks.{IsSame, over}

@@ -1,6 +1,5 @@
 -- What a command begins with, and keeps beside it, fits what it writes.
-use Rattle.std.proofs.Common.{◌≡◌, ℕ, List, Option, Result, Ok, arith, sym, subst}
-use Rattle.command_words.specs.Words.{Asked}
+use Rattle.std.proofs.Common.{◌≡◌, ℕ, List, Result, Ok, arith, sym, subst}
 use Rattle.information_service.specs.ServiceState.{ServiceState}
 use Rattle.journey_watch.specs.Watching.{WatchState}
 use Rattle.watch_answers.specs.WatchedLines.{watched_output}

@@ -2,6 +2,7 @@
 use Rattle.std.proofs.Common.{◌≡◌, ◌∙◌, ℕ, List, Option, Some, None, Result, Err, ap, option_map, subst, sym}
 use Rattle.command_words.specs.Words.{Asked}
 use Rattle.information_service.specs.ServiceState.{ServiceState}
+use Rattle.journal_lines.specs.declared.heads.Head.{Head}
 use Rattle.journal_lines.specs.Lines.{text_of_head}
 use Rattle.journal_replay.specs.Reading.{Progress}
 use Rattle.journal_replay.specs.Replayed.{IsReplayed, refusal_at_end, replay_of, replayed_by}
@@ -34,8 +35,10 @@ load-refused asked bytes t now (refusals.Line number) faults.OutOfMemory is own 
 load-refused asked bytes t now refusals.OutOfMemory (faults.Refused line) is own = absurd own
 load-refused asked bytes t now refusals.OutOfMemory faults.OutOfMemory is own = tt
 
--- the same of a table as it is held
-pub table-refused : {V : Type 0} (items : V → List ℕ) (asked : Asked) (table : Option V) (bytes : V) (t now : ServiceState) (why : JournalRefusal) (f : LoadFault) → table ≡ Some bytes
-    → IsReplayed (text_of_head (head_of asked)) t (items bytes) now (Err why) → HasJournalLine why f → IsLoaded (restarted asked (option_map items table) t) now (Err f)
-table-refused items asked table bytes t now why f is read own =
-    subst (λ (o : _). IsLoaded (restarted asked (option_map items o) t) now (Err f)) (sym is) (load-refused asked (items bytes) t now why f read own)
+-- the same of a table, its bytes and a head as they are held
+pub table-refused : {V : Type 0} (items : V → List ℕ) (asked : Asked) (table : Option V) (bytes : V) (head : Head) (slice : List ℕ) (t now : ServiceState) (why : JournalRefusal) (f : LoadFault)
+    → table ≡ Some bytes → head ≡ head_of asked → slice ≡ items bytes → IsReplayed (text_of_head head) t slice now (Err why) → HasJournalLine why f
+    → IsLoaded (restarted asked (option_map items table) t) now (Err f)
+table-refused items asked table bytes head slice t now why f is same all read own =
+    subst (λ (o : _). IsLoaded (restarted asked (option_map items o) t) now (Err f)) (sym is) (load-refused asked (items bytes) t now why f
+    (subst (λ (h : Head). IsReplayed (text_of_head h) t (items bytes) now (Err why)) same (subst (λ (l : List ℕ). IsReplayed (text_of_head head) t l now (Err why)) all read)) own)

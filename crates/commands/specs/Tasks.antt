@@ -1,5 +1,5 @@
 -- What a command is to do: what it begins with, and what it writes.
-use Rattle.std.specs.Prelude.{ℕ, ◌≡◌, List, [], Result, Ok}
+use Rattle.std.specs.Prelude.{ℕ, List, [], Result, Ok}
 use Rattle.command_words.specs.Words.{Asked}
 use Rattle.delay_model.specs.declared.network.Network.{Network}
 use Rattle.delay_model.specs.declared.state.State.{State}

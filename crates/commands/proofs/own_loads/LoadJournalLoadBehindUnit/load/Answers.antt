@@ -1,4 +1,4 @@
-use Rattle.std.proofs.Common.{◌≡◌, ◌≤◌, ℕ, List, length, ap, arith}
+use Rattle.std.proofs.Common.{◌≤◌, ℕ, List, length, ap, arith}
 use Rattle.command_words.specs.Held.{asked_view}
 use Rattle.information_service.specs.ServiceState.{ServiceState}
 use Rattle.journal_lines.specs.Lines.{text_of_head}
@@ -21,5 +21,5 @@ returns-in-Ok-clause-count c =
 
 pub returns-clause-loaded : goal.returns-clause-loaded
 returns-clause-loaded c =
-    table-refused (λ bytes. bytes.items) (asked_view c.args.asked.now) c.args.table c.in-Some.bytes c.args.service.now c.replay.new.service c.in-Err.refusal c.journal_fault.result c.in-Some.is
-    (rw (c.in_ok-head.ensures, c.as_slice.ensures.value) at c.in-Err.ensures) c.journal_fault.ensures
+    table-refused (λ bytes. bytes.items) (asked_view c.args.asked.now) c.args.table c.in-Some.bytes c.in_ok-head.head c.as_slice.result.now c.args.service.now c.replay.new.service c.in-Err.refusal
+    c.journal_fault.result c.in-Some.is c.in_ok-head.ensures c.as_slice.ensures.value c.in-Err.ensures c.journal_fault.ensures
