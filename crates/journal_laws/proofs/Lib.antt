@@ -1,0 +1,5 @@
+pub mod Accepted
+pub mod Counted
+pub mod Parts
+pub mod WholeRead
+pub mod Written
