@@ -1,5 +1,5 @@
 -- What a message that is accepted changes, and that one that is refused changes nothing.
-use Rattle.std.proofs.Common.{◌≡◌, ℕ, ◌+◌, List, [], ◌∷◌, Option, Some, None, IsSome, Result, Ok, Err, refl, ◌∙◌, subst, length, is_none, if◌then◌else◌, arith}
+use Rattle.std.proofs.Common.{◌≡◌, ◌+◌, List, [], ◌∷◌, Option, Some, None, IsSome, Result, Ok, Err, refl, ◌∙◌, subst, length, is_none, if◌then◌else◌, arith}
 use Rattle.delay_model.specs.After.{accepted_message, after_messages, AreAccepted}
 use Rattle.delay_model.specs.Effect.{effect}
 use Rattle.delay_model.specs.Refusals.{refusal}
@@ -25,7 +25,8 @@ pub record IsTakenThere (s : ServiceState) (m : Message) (next : ServiceState) :
   pub state : next.state ≡ effect s.state m
   pub count : next.count ≡ s.count + 1
 
-by-answer : (s : ServiceState) (w : Wire) (m x : Message) (o : Option Refusal) → refusal s.network s.state m ≡ o → (if is_none o then Some m else None) ≡ Some x → IsTakenThere s x (after_answer s w m o)
+by-answer : (s : ServiceState) (w : Wire) (m x : Message) (o : Option Refusal) → refusal s.network s.state m ≡ o
+    → (if is_none o then Some m else None) ≡ Some x → IsTakenThere s x (after_answer s w m o)
 by-answer s w m x None answered is =
     let same : m ≡ x = cc in
     subst (λ (y : Message). IsTakenThere s y (after_answer s w m None)) same (record { accepted = answered; network = refl; state = refl; count = refl })

@@ -1,8 +1,9 @@
 -- What is read is the journal of messages that are accepted one after the other, and a part of a line.
-use Rattle.std.proofs.Common.{◌≡◌, ◌⊎◌, ℕ, ◌+◌, ◌<◌, ◌≤◌, Bool, true, false, List, [], ◌∷◌, ◌++◌, Option, Some, None, IsSome, inl, inr, refl, sym, ap, ◌∙◌, subst, nat_eq, nat_le, length, map, append_assoc, append-nil, arith}
+use Rattle.std.proofs.Common.{◌≡◌, ◌⊎◌, ℕ, ◌+◌, ◌≤◌, Bool, true, false, List, [], ◌∷◌, ◌++◌, Option, Some, None, IsSome, inl, inr, refl}
+use Rattle.std.proofs.Common.{sym, ap, ◌∙◌, subst, nat_eq, nat_le, length, map, append_assoc, append-nil, arith}
 use Rattle.std.specs.Str.{bytes_eq}
 use Rattle.std.specs.List.{concat}
-use Rattle.std.proofs.lemmas.Bool.{cases_Bool, cases_eq}
+use Rattle.std.proofs.lemmas.Bool.{cases_eq}
 use Rattle.std.proofs.lemmas.Bool.Decides.{nat_tests}
 use Rattle.std.proofs.lemmas.List.{length-append}
 use Rattle.std.proofs.lemmas.List.Sums.{fold-append}
@@ -15,7 +16,8 @@ use Rattle.mt_io.proofs.LineFacts.{no_lf_cons}
 use Rattle.journal_lines.specs.declared.heads.Head.{Head}
 use Rattle.journal_lines.specs.Lines.{text_of_head, text_of_message}
 use Rattle.journal_replay.specs.Journals.{after_wires, behind, held_at_end, journal_of, messages_in, AreTaken}
-use Rattle.journal_replay.specs.Reading.{Progress, accepted_in, after_byte, after_bytes, after_wire, byte_held, byte_read, header_taken, line_taken, long_from, message_of, message_taken, nothing_read, taken_as}
+use Rattle.journal_replay.specs.Reading.{Progress, accepted_in, after_byte, after_bytes, after_wire, byte_held, byte_read}
+use Rattle.journal_replay.specs.Reading.{header_taken, line_taken, long_from, message_of, message_taken, nothing_read, taken_as}
 use Rattle.journal_replay.specs.declared.refusal.JournalRefusal.{JournalRefusal}
 use Rattle.journal_replay.proofs.ByteLemmas.{no_lf-parts}
 use Rattle.journal_replay.proofs.MessageLines.{found-is}
@@ -90,7 +92,9 @@ module _ (head : Head) (s : ServiceState) where
       record {
         wires = is.wires ++ w ∷ [];
         taken = taken-more s is.wires w is.taken some;
-        bytes_are = ap (λ (l : List ℕ). l ++ 10 ∷ []) is.bytes_are ∙ append_assoc (journal_of head is.wires) p.held (10 ∷ []) ∙ ap (λ (l : List ℕ). journal_of head is.wires ++ l) (sym whole)
+        bytes_are = ap (λ (l : List ℕ). l ++ 10 ∷ []) is.bytes_are
+            ∙ append_assoc (journal_of head is.wires) p.held (10 ∷ [])
+            ∙ ap (λ (l : List ℕ). journal_of head is.wires ++ l) (sym whole)
             ∙ sym (journal-more head is.wires w) ∙ sym (append-nil (journal_of head (is.wires ++ w ∷ [])));
         no_lf = refl;
         lines = omega (arith, is.lines, length-append is.wires (w ∷ []));
@@ -137,8 +141,8 @@ module _ (head : Head) (s : ServiceState) where
     messages = is.messages;
   })
 
-  held-behind : (p : Progress) (bytes : List ℕ) (b : ℕ) → ¬ (b ≡ 10) → IsSoFar bytes p → (long : Bool) → nat_le long_from (length p.held + 1) ≡ long → (byte_held b p).refusal ≡ None
-      → IsSoFar (bytes ++ b ∷ []) (byte_held b p)
+  held-behind : (p : Progress) (bytes : List ℕ) (b : ℕ) → ¬ (b ≡ 10) → IsSoFar bytes p → (long : Bool)
+      → nat_le long_from (length p.held + 1) ≡ long → (byte_held b p).refusal ≡ None → IsSoFar (bytes ++ b ∷ []) (byte_held b p)
   held-behind p bytes b ne is true long none = let bad = rw long at none in cc
   held-behind p bytes b ne is false short none = rw short (more-held p bytes b ne is)
 

@@ -1,5 +1,6 @@
 -- The whole of a journal of messages that are accepted one after the other is read to its end.
-use Rattle.std.proofs.Common.{◌≡◌, ℕ, ◌+◌, ◌<◌, ◌≤◌, nat_eq, false, List, [], ◌∷◌, ◌++◌, All, Option, Some, None, refl, sym, ap, ◌∙◌, length, map, append_assoc, append-nil, arith}
+use Rattle.std.proofs.Common.{◌≡◌, ℕ, ◌+◌, ◌<◌, ◌≤◌, nat_eq, false, List, [], ◌∷◌, ◌++◌, All, Some, None, refl, sym, ap, ◌∙◌}
+use Rattle.std.proofs.Common.{length, map, append_assoc, append-nil, arith}
 use Rattle.std.specs.List.{AllByRecursion, concat}
 use Rattle.std.proofs.lemmas.Bool.Decides.{nat_tests}
 use Rattle.std.proofs.lemmas.List.{length-append}
@@ -25,8 +26,8 @@ clear-no_lf [] clear = refl
 clear-no_lf (b ∷ bytes) clear = no_lf_cons b bytes (λ is. let low : 32 ≤ b = clear.0 in omega arith) (clear-no_lf bytes clear.1)
 
 -- where a line begins, a whole line of bytes at or above the blank is taken
-own-line : (header : List ℕ) (p : Progress) (text line more : List ℕ) → p.refusal ≡ None → p.held ≡ [] → text ≡ line ++ 10 ∷ [] → AllByRecursion (λ b. 32 ≤ b) line → length text ≤ long_from
-    → after_bytes header p (text ++ more) ≡ after_bytes header (line_taken header text p) more
+own-line : (header : List ℕ) (p : Progress) (text line more : List ℕ) → p.refusal ≡ None → p.held ≡ [] → text ≡ line ++ 10 ∷ [] → AllByRecursion (λ b. 32 ≤ b) line
+    → length text ≤ long_from → after_bytes header p (text ++ more) ≡ after_bytes header (line_taken header text p) more
 own-line header p text line more none empty is clear few =
     let nothing : length p.held ≡ 0 = ap length empty in
     let short : length p.held + length line < long_from = omega (arith, ap length is, length-append line (10 ∷ [])) in

@@ -1,5 +1,5 @@
 -- What `journal` writes for the lines of an input is the journal of the messages that it accepts.
-use Rattle.std.proofs.Common.{◌≡◌, ℕ, ◌+◌, List, [], ◌∷◌, ◌++◌, All, Option, Some, None, IsSome, Result, Ok, Err, refl, sym, ap, ◌∙◌, subst, map, append_assoc, append-nil}
+use Rattle.std.proofs.Common.{◌≡◌, ℕ, ◌+◌, List, [], ◌∷◌, ◌++◌, All, Option, Some, None, Result, Ok, Err, refl, sym, ap, ◌∙◌, subst, map, append-nil}
 use Rattle.std.specs.List.{concat}
 use mathlib.Core.List.{IsPrefix}
 use Rattle.delay_model.specs.declared.messages.Message.{Message}
@@ -15,8 +15,7 @@ use Rattle.journal_lines.specs.declared.heads.Head.{Head}
 use Rattle.journal_lines.specs.Lines.{text_of_head, text_of_message}
 use Rattle.journal_answers.specs.JournaledLines.{accepted_text, journal_output, said_text}
 use Rattle.journal_replay.specs.Journals.{after_wires, journal_of, messages_in, AreTaken, CanBeHead, CanBeWritten, IsReadSoFar}
-use Rattle.journal_replay.specs.Reading.{Progress, accepted_in, after_bytes, after_wire, nothing_read}
-use Rattle.journal_replay.specs.Taking.{before_line}
+use Rattle.journal_replay.specs.Reading.{accepted_in, after_bytes, after_wire, nothing_read}
 use Rattle.journal_replay.proofs.Beginnings.{journal-read}
 use Rattle.journal_laws.specs.Journaled.{accepted_wires, after_lines, in_front, read_behind, said_in_front}
 use Rattle.journal_laws.proofs.Accepted.{refused-leaves}

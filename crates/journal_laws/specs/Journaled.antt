@@ -1,5 +1,5 @@
 -- Which messages `journal` writes for the lines of an input, and how far what it writes is read.
-use Rattle.std.specs.Prelude.{ℕ, ◌+◌, List, [], ◌∷◌, Result, Ok, Err, Some, None, fold, length}
+use Rattle.std.specs.Prelude.{◌+◌, List, [], ◌∷◌, Result, Ok, Err, Some, None, fold, length}
 use Rattle.std.specs.declared.option.Option.{Option}
 use Rattle.delay_model.specs.declared.messages.Message.{Message}
 use Rattle.information_service.specs.Lines.{said_by}

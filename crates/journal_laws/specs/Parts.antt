@@ -9,7 +9,8 @@ use Rattle.mt_io.specs.Steps.{HasNoLf}
 
 -- these bytes are the journal of messages that are accepted one after the other, and a part of a
 -- line behind it; and so far they are read
-pub record IsJournalRead (head : Head) (s : ServiceState) (bytes : List ℕ) (p : Progress) : Type 0 where
+pub record IsJournalRead (head : Head) (s : ServiceState) (bytes : List ℕ)
+    (p : Progress) : Type 0 where
   -- the messages, by names
   pub wires : List Wire
   -- each is accepted in the service after those before it

@@ -4,9 +4,10 @@ ghost use Rattle.std.specs.Prelude.{◌≡◌, ◌≤◌, ◌+◌, ◌-◌, ℕ,
 ghost use mathlib.Core.List.{IsPrefix};
 ghost use Rattle.delay_model.specs.After.{after_messages, AreAccepted};
 ghost use Rattle.information_service.specs.Answering.{IsBeginning, IsWhole};
-ghost use Rattle.information_service.specs.ServiceState.{ServiceState};
+ghost use Rattle.information_service.specs.Lines.{accepted_of};
+ghost use Rattle.information_service.specs.ServiceState.{service_after, ServiceState};
 ghost use Rattle.journal_answers.specs.JournaledLines.{journal_output};
-ghost use Rattle.journal_laws.specs.Journaled.{accepted_wires, read_behind};
+ghost use Rattle.journal_laws.specs.Journaled.{accepted_wires, after_lines, read_behind};
 ghost use Rattle.journal_laws.specs.Parts.{IsJournalRead};
 ghost use Rattle.journal_lines.specs.declared.heads.Head.{Head as AHead};
 ghost use Rattle.journal_lines.specs.Lines.{text_of_head};
@@ -36,8 +37,8 @@ pub fn what_is_read_is_a_journal()
         → IsJournalRead head s bytes (replay_of (text_of_head head) s bytes) }
 {}
 
-/// The messages of a journal, by number, are accepted one after the other in the timetable, and the
-/// service behind them stands in the state behind these messages.
+/// The messages of a journal, by number, are accepted one after the other in the timetable, and
+/// the service behind them stands in the state behind these messages.
 pub fn journal_messages_are_accepted_in_turn()
     ensures accepted { (s : ServiceState) (ws : List AWire) → AreTaken s ws
         → AreAccepted s.network s.state (messages_in s ws) }
@@ -49,8 +50,8 @@ pub fn journal_messages_are_accepted_in_turn()
 
 /// What `journal` writes for the lines of an input is the journal of the messages that it accepts,
 /// and is read again: behind it the service stands where the input left it, so a run that begins
-/// there goes on where the other one ended. Of every beginning of it, as one that a run leaves that
-/// is killed, the whole lines are read.
+/// there goes on where the other one ended. Of every beginning of it, as a run leaves one that is
+/// killed, the whole lines are read.
 pub fn what_journal_writes_is_read_again()
     ensures whole { (head : AHead) (s : ServiceState) (lines : List Line) (bytes : List ℕ)
         → IsWhole journal_output s (text_of_head head) lines bytes
@@ -72,4 +73,15 @@ pub fn what_journal_writes_is_read_again()
         → IsWhole journal_output s (text_of_head head) lines bytes → IsPrefix front bytes
         → IsReadSoFar s (accepted_wires s lines) front
         (replay_of (text_of_head head) s front) }
+{}
+
+/// The messages that `journal` writes for the lines of an input are, by number, the accepted
+/// messages of the input, as `times` takes them; and behind them a service that had counted none
+/// stands as that of `times`.
+pub fn journals_have_the_accepted_messages()
+    ensures messages { (s : ServiceState) (lines : List Line)
+        → messages_in s (accepted_wires s lines)
+        ≡ accepted_of s.network s.names s.state lines }
+    ensures service { (s : ServiceState) (lines : List Line) → s.count ≡ 0
+        → after_lines s lines ≡ service_after s.network s.names s.state lines }
 {}
