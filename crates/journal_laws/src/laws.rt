@@ -48,10 +48,11 @@ pub fn journal_messages_are_accepted_in_turn()
         → length (messages_in s ws) ≡ length ws }
 {}
 
-/// What `journal` writes for the lines of an input is the journal of the messages that it accepts,
-/// and is read again: behind it the service stands where the input left it, so a run that begins
-/// there goes on where the other one ended. Of every beginning of it, as a run leaves one that is
-/// killed, the whole lines are read.
+/// What `journal` writes for the lines of an input is the journal of the messages that it accepts.
+/// Where none of its lines is too long, and its messages are as every one that is read, it is read
+/// again: behind it the service stands where the input left it, so a run that begins there goes on
+/// where the other one ended. Of every beginning of it, as a run leaves one that is killed, the
+/// whole lines are read.
 pub fn what_journal_writes_is_read_again()
     ensures whole { (head : AHead) (s : ServiceState) (lines : List Line) (bytes : List ℕ)
         → IsWhole journal_output s (text_of_head head) lines bytes
