@@ -1,0 +1,90 @@
+-- What `journal` writes for the lines of an input is the journal of the messages that it accepts.
+use Rattle.std.proofs.Common.{◌≡◌, ℕ, ◌+◌, List, [], ◌∷◌, ◌++◌, All, Option, Some, None, Result, Ok, Err, refl, sym, ap, ◌∙◌, subst, map, append-nil}
+use Rattle.std.specs.List.{concat}
+use mathlib.Core.List.{IsPrefix}
+use Rattle.delay_model.specs.declared.messages.Message.{Message}
+use Rattle.information_service.specs.Answering.{AreAnsweredBy, IsBeginning, IsWhole}
+use Rattle.information_service.specs.Lines.{said_by}
+use Rattle.information_service.specs.ServiceState.{ServiceState, after_line, after_said}
+use Rattle.message_reader.specs.declared.bad_line.BadLine.{BadLine}
+use Rattle.message_reader.specs.declared.wire.Line.{Line as Spoken}
+use Rattle.message_reader.specs.declared.wire.Line.TheVariants.{Message as Says, Query as Asks, Flush}
+use Rattle.message_reader.specs.declared.wire.Wire.{Wire}
+use Rattle.mt_io.specs.Lines.{Line}
+use Rattle.journal_lines.specs.declared.heads.Head.{Head}
+use Rattle.journal_lines.specs.Lines.{text_of_head, text_of_message}
+use Rattle.journal_answers.specs.JournaledLines.{accepted_text, journal_output, said_text}
+use Rattle.journal_replay.specs.Journals.{after_wires, journal_of, messages_in, AreTaken, CanBeHead, CanBeWritten, IsReadSoFar}
+use Rattle.journal_replay.specs.Reading.{accepted_in, after_bytes, after_wire, nothing_read}
+use Rattle.journal_replay.proofs.Beginnings.{journal-read}
+use Rattle.journal_laws.specs.Journaled.{accepted_wires, after_lines, in_front, read_behind, said_in_front}
+use Rattle.journal_laws.proofs.Accepted.{refused-leaves}
+use Rattle.journal_laws.proofs.WholeRead.{whole-read}
+
+-- the lines of messages
+abbrev texts : List Wire → List ℕ
+texts ws = concat (map text_of_message ws)
+
+-- ---- a line of the input
+
+-- its message stands in front of the others, and leads where the line leads
+record LeadsOn (t next : ServiceState) (text : List ℕ) (ws all : List Wire) : Type 0 where
+  written : text ++ texts ws ≡ texts all
+  leaves : after_wires t all ≡ after_wires next ws
+  taken : AreTaken next ws → AreTaken t all
+
+message-leads : (t : ServiceState) (w : Wire) (ws : List Wire) (o : Option Message) → accepted_in t w ≡ o → LeadsOn t (after_wire t w) (accepted_text w o) ws (in_front w o ws)
+message-leads t w ws (Some m) is = record { written = refl; leaves = refl; taken = λ rest. (rw is refl, rest) }
+message-leads t w ws None is =
+    let same : after_wire t w ≡ t = refused-leaves t w is in
+    record { written = refl; leaves = ap (λ (s : ServiceState). after_wires s ws) (sym same); taken = λ rest. subst (λ (s : ServiceState). AreTaken s ws) same rest }
+
+said-leads : (t : ServiceState) (said : Result Spoken BadLine) (ws : List Wire) → LeadsOn t (after_said t said) (said_text t said) ws (said_in_front t said ws)
+said-leads t (Ok (Says w)) ws = message-leads t w ws (accepted_in t w) refl
+said-leads t (Ok (Asks q)) ws = record { written = refl; leaves = refl; taken = λ rest. rest }
+said-leads t (Ok Flush) ws = record { written = refl; leaves = refl; taken = λ rest. rest }
+said-leads t (Err bad) ws = record { written = refl; leaves = refl; taken = λ rest. rest }
+
+-- ---- the lines
+
+pub lines-taken : (t : ServiceState) (lines : List Line) → AreTaken t (accepted_wires t lines)
+lines-taken t [] = tt
+lines-taken t (x ∷ xs) = (said-leads t (said_by x) (accepted_wires (after_line t x) xs)).taken (lines-taken (after_line t x) xs)
+
+lines-lead : (t : ServiceState) (lines : List Line) → after_wires t (accepted_wires t lines) ≡ after_lines t lines
+lines-lead t [] = refl
+lines-lead t (x ∷ xs) = (said-leads t (said_by x) (accepted_wires (after_line t x) xs)).leaves ∙ lines-lead (after_line t x) xs
+
+answers-are : (t : ServiceState) (header : List ℕ) (n : ℕ) (lines : List Line) (bytes : List ℕ) (now : ServiceState) (header_now : List ℕ)
+    → AreAnsweredBy journal_output.answers t header n lines bytes now header_now → bytes ≡ texts (accepted_wires t lines)
+answers-are t header n [] bytes now header_now none = none.0
+answers-are t header n (x ∷ xs) bytes now header_now (text, rest, next, header_next, one, more, split) =
+    let tail = answers-are next header_next (n + 1) xs rest now header_now more in
+    split ∙ ap (λ (l : List ℕ). text ++ l) tail
+    ∙ ap (λ (l : List ℕ). l ++ texts (accepted_wires next xs)) one.text_is
+    ∙ ap (λ (s : ServiceState). said_text t (said_by x) ++ texts (accepted_wires s xs)) one.leaves
+    ∙ (said-leads t (said_by x) (accepted_wires (after_line t x) xs)).written
+
+-- ---- all that is written
+
+module _ (head : Head) (t : ServiceState) (lines : List Line) (bytes : List ℕ) where
+  pub beginning-journal : IsBeginning journal_output t (text_of_head head) lines bytes → bytes ≡ journal_of head (accepted_wires t lines)
+  beginning-journal b = b.all ∙ ap (λ (l : List ℕ). text_of_head head ++ l) (answers-are t (text_of_head head) 0 lines b.shown b.answers.now b.answers.kept_now b.answers.answers)
+
+  pub whole-journal : IsWhole journal_output t (text_of_head head) lines bytes → bytes ≡ journal_of head (accepted_wires t lines)
+  whole-journal w =
+      w.all ∙ ap (λ (l : List ℕ). text_of_head head ++ l) (append-nil w.shown ∙ answers-are t (text_of_head head) 0 lines w.shown w.answers.now w.answers.kept_now w.answers.answers)
+
+  -- and so it is read again
+  pub read-again : CanBeHead head → All CanBeWritten (accepted_wires t lines) → bytes ≡ journal_of head (accepted_wires t lines)
+      → after_bytes (text_of_head head) (nothing_read t) bytes ≡ read_behind t lines
+  read-again can all is =
+      let ws : List Wire = accepted_wires t lines in
+      ap (after_bytes (text_of_head head) (nothing_read t)) is
+      ∙ whole-read head t ws can all (lines-taken t lines)
+      ∙ ap (λ (s : ServiceState). record { service = s; messages = messages_in t ws; lines = (read_behind t lines).lines; held = []; refusal = None }) (lines-lead t lines)
+
+  -- and so is every beginning
+  pub torn-read : (front : List ℕ) → CanBeHead head → All CanBeWritten (accepted_wires t lines) → bytes ≡ journal_of head (accepted_wires t lines) → IsPrefix front bytes
+      → IsReadSoFar t (accepted_wires t lines) front (after_bytes (text_of_head head) (nothing_read t) front)
+  torn-read front can all is begins = journal-read head t (accepted_wires t lines) front begins.0 can all (lines-taken t lines) (begins.1 ∙ is)

@@ -1,0 +1,10 @@
+//! Laws of whole journals: what is read is the journal of messages and nothing else, and what
+//! `journal` writes is read again.
+#![tactic(auto)]
+
+mod laws;
+
+pub use laws::{
+    journal_messages_are_accepted_in_turn, journals_have_the_accepted_messages,
+    messages_are_counted, what_is_read_is_a_journal, what_journal_writes_is_read_again,
+};
