@@ -191,7 +191,7 @@ fn status_within<R: Threads + Wait + Sync, G: Gate + Sync>(
         &mut on.out,
         &mut on.err,
         gate,
-        budget.max(1),
+        budget.max(1).min(1 << 63),
     )
 }
 

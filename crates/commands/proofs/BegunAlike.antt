@@ -6,7 +6,7 @@ use Rattle.delay_model.specs.declared.network.Network.{Network}
 use Rattle.information_service.specs.Networks.{IsSame, over}
 use Rattle.information_service.specs.ServiceState.{ServiceState}
 use Rattle.journal_lines.specs.Lines.{text_of_head}
-use Rattle.journal_replay.specs.Reading.{Progress, after_bytes, nothing_read}
+use Rattle.journal_replay.specs.Reading.{JournalProgress, after_bytes, nothing_read}
 use Rattle.journal_replay.specs.Replayed.{refusal_at_end}
 use Rattle.journal_replay.specs.declared.refusal.JournalRefusal.{JournalRefusal}
 use Rattle.journal_replay.proofs.Networks.{bytes-keep, bytes-over, read_over}
@@ -29,11 +29,11 @@ keeping-alike kept = record {
 
 -- ---- `restart`
 
-by-over : (nw : Network) (p : Progress) (o : Option JournalRefusal) → restarted_by (read_over nw p) o ≡ begun_over nw (restarted_by p o)
+by-over : (nw : Network) (p : JournalProgress) (o : Option JournalRefusal) → restarted_by (read_over nw p) o ≡ begun_over nw (restarted_by p o)
 by-over nw p None = refl
 by-over nw p (Some why) = refl
 
-by-keeps : (p : Progress) (o : Option JournalRefusal) (s : Start (Unit {0})) → restarted_by p o ≡ Ok s → s.service.network ≡ p.service.network
+by-keeps : (p : JournalProgress) (o : Option JournalRefusal) (s : Start (Unit {0})) → restarted_by p o ≡ Ok s → s.service.network ≡ p.service.network
 by-keeps p None s is = same-network p.service tt s is
 by-keeps p (Some why) s is = absurd cc
 

@@ -4,7 +4,7 @@ use Rattle.command_words.specs.Words.{Asked}
 use Rattle.information_service.specs.ServiceState.{ServiceState}
 use Rattle.journal_lines.specs.declared.heads.Head.{Head}
 use Rattle.journal_lines.specs.Lines.{text_of_head}
-use Rattle.journal_replay.specs.Reading.{Progress}
+use Rattle.journal_replay.specs.Reading.{JournalProgress}
 use Rattle.journal_replay.specs.Replayed.{IsReplayed, refusal_at_end, replay_of, replayed_by}
 use Rattle.journal_replay.specs.declared.refusal.JournalRefusal.{JournalRefusal}
 use Rattle.journal_replay.specs.declared.refusal.JournalRefusal.TheVariants as refusals
@@ -15,7 +15,7 @@ use Rattle.commands.specs.declared.loading.LoadFault.{LoadFault}
 use Rattle.commands.specs.declared.loading.LoadFault.TheVariants as faults
 
 -- a journal that is answered with a refusal is refused for it
-refused-there : (p : Progress) (o : Option JournalRefusal) (why : JournalRefusal) → replayed_by p o ≡ Err why → o ≡ Some why
+refused-there : (p : JournalProgress) (o : Option JournalRefusal) (why : JournalRefusal) → replayed_by p o ≡ Err why → o ≡ Some why
 refused-there p None why is = absurd cc
 refused-there p (Some other) why is = cc
 
@@ -23,7 +23,7 @@ refused-there p (Some other) why is = cc
 abbrev refused : List ℕ → Result (Start (Unit {0})) (List ℕ)
 refused line = Err line
 
-by-line : (p : Progress) (why : JournalRefusal) (line : List ℕ) → replayed_by p (refusal_at_end p) ≡ Err why → line ≡ journal_line why → restarted_by p (refusal_at_end p) ≡ refused line
+by-line : (p : JournalProgress) (why : JournalRefusal) (line : List ℕ) → replayed_by p (refusal_at_end p) ≡ Err why → line ≡ journal_line why → restarted_by p (refusal_at_end p) ≡ refused line
 by-line p why line is own = ap (restarted_by p) (refused-there p (refusal_at_end p) why is) ∙ ap refused (sym own)
 
 load-refused : (asked : Asked) (bytes : List ℕ) (t now : ServiceState) (why : JournalRefusal) (f : LoadFault) → IsReplayed (text_of_head (head_of asked)) t bytes now (Err why)

@@ -6,7 +6,7 @@ use Rattle.command_words.specs.Words.{Asked}
 use Rattle.information_service.specs.ServiceState.{ServiceState}
 use Rattle.journal_lines.specs.declared.heads.Head.{Head}
 use Rattle.journal_lines.specs.Lines.{text_of_head}
-use Rattle.journal_replay.specs.Reading.{Progress, after_bytes, nothing_read}
+use Rattle.journal_replay.specs.Reading.{JournalProgress, after_bytes, nothing_read}
 use Rattle.journal_replay.specs.Replayed.{refusal_at_end}
 use Rattle.journal_replay.specs.declared.refusal.JournalRefusal.{JournalRefusal}
 use Rattle.journal_replay.specs.declared.refusal.JournalRefusal.TheVariants.{Header, Line, OutOfMemory}
@@ -72,11 +72,11 @@ IsMissingFault (Refused line) = line.items ≡ missing_line
 IsMissingFault faults.OutOfMemory = Unit {0}
 
 -- what it begins with, by how far the journal is read: the service behind its messages
-abbrev pub restarted_by : Progress → Option JournalRefusal → Result (Start (Unit {0})) (List ℕ)
+abbrev pub restarted_by : JournalProgress → Option JournalRefusal → Result (Start (Unit {0})) (List ℕ)
 restarted_by p None = Ok (record { service = p.service; kept = tt })
 restarted_by p (Some why) = Err (journal_line why)
 
-abbrev pub restarted_at : Progress → Result (Start (Unit {0})) (List ℕ)
+abbrev pub restarted_at : JournalProgress → Result (Start (Unit {0})) (List ℕ)
 restarted_at p = restarted_by p (refusal_at_end p)
 
 -- by the bytes of the journal, if there is one

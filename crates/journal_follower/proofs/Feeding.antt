@@ -2,7 +2,7 @@
 use Rattle.std.proofs.Common.{◌≡◌, ◌≢◌, ℕ, ◌<◌, ◌^◌, [], List, length, Option, Some, None, Result, Ok, Err, refl, sym, ◌∙◌, ap, arith, append-nil}
 use mathlib.Core.List.{IsPrefix}
 use Rattle.delay_model.specs.declared.messages.Message.{Message}
-use Rattle.journal_replay.specs.Reading.{Progress, after_bytes}
+use Rattle.journal_replay.specs.Reading.{JournalProgress, after_bytes}
 use Rattle.journal_replay.specs.ReaderStates.{BreaksOff, HasRead, IsAt, ReaderState, answer, progress}
 use Rattle.journal_replay.specs.Taking.{IsReadyFor}
 use Rattle.journal_replay.specs.declared.refusal.JournalRefusal.{JournalRefusal}
@@ -39,10 +39,10 @@ is-at f h = record { reads = refl; stands = (refl, h.service.1) }
 pub stands-behind : {o : Option TimetableState} {old new : FollowerState (List Message)} (bytes : List ℕ) → Stands o old
     → HasRead (StandsAs o) old.board old.reader bytes new.board new.reader → Stands o new
 stands-behind {old = old} {new = new} bytes h read =
-    let p : Progress = progress old.reader h.service.0 old.board.posted in
-    let q : Progress = after_bytes old.reader.header p bytes in
+    let p : JournalProgress = progress old.reader h.service.0 old.board.posted in
+    let q : JournalProgress = after_bytes old.reader.header p bytes in
     let at = read p (is-at old h) in
-    let lines : q.lines ≡ new.reader.lines = ap (λ (r : Progress). r.lines) at.reads in
+    let lines : q.lines ≡ new.reader.lines = ap (λ (r : JournalProgress). r.lines) at.reads in
     record {
       service = (q.service, at.stands.1);
       few = omega (arith, (later-bytes old.reader.header p bytes).few h.few, lines, ap length at.stands.0);
@@ -52,7 +52,7 @@ stands-behind {old = old} {new = new} bytes h read =
 later-by-read : {o : Option TimetableState} {old new : FollowerState (List Message)} (bytes : List ℕ) → Stands o old
     → HasRead (StandsAs o) old.board old.reader bytes new.board new.reader → IsPrefix old.board.posted new.board.posted
 later-by-read {old = old} bytes h read =
-    let p : Progress = progress old.reader h.service.0 old.board.posted in
+    let p : JournalProgress = progress old.reader h.service.0 old.board.posted in
     let later = (later-bytes old.reader.header p bytes).begins in
     (later.0, later.1 ∙ sym (read p (is-at old h)).stands.0)
 
@@ -60,7 +60,7 @@ later-by-read {old = old} bytes h read =
 later-by-break : {o : Option TimetableState} {old : FollowerState (List Message)} (board : BoardState (List Message)) (bytes : List ℕ) (lines : ℕ) → Stands o old
     → BreaksOff (StandsAs o) old.board old.reader bytes board lines → IsPrefix old.board.posted board.posted
 later-by-break {old = old} board bytes lines h breaks =
-    let p : Progress = progress old.reader h.service.0 old.board.posted in
+    let p : JournalProgress = progress old.reader h.service.0 old.board.posted in
     let later = (later-bytes old.reader.header p breaks.front).begins in
     (later.0, later.1 ∙ sym (breaks.stands p (is-at old h)).0)
 

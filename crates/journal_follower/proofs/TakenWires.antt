@@ -10,7 +10,7 @@ use Rattle.delay_report.specs.declared.replies.Reply.TheVariants.{Accepted}
 use Rattle.information_service.specs.Output.{reply_to_refused}
 use Rattle.information_service.specs.ServiceState.{ServiceState}
 use Rattle.information_service.specs.Taking.{CanTake}
-use Rattle.journal_replay.specs.Taking.{IsReadyFor, IsTaken}
+use Rattle.journal_replay.specs.Taking.{IsReadyFor, IsWireTaken}
 use Rattle.message_reader.specs.declared.wire.Wire.{Wire}
 use Rattle.message_reader.specs.declared.wire.Wire.TheVariants.{Extra}
 use Rattle.message_reader.specs.Resolved.{resolved}
@@ -52,7 +52,7 @@ not-accepted names line w r = refl
 -- what was posted for a message that is read as this one, with this answer
 takes-by : (o : Option TimetableState) (old new : BoardState (List Message)) (s : ServiceState) (before : List Message)
     (number : ℕ) (w : Wire) (m : Message) (a : Option Refusal) (reply : Reply) (taken : Bool) → old.posted ≡ before → resolved s.names w ≡ Ok m → refusal s.network s.state m ≡ a
-    → IsPostedFor o s number (shown.Message w) old.posted new.posted new.names (Some reply) → taken ≡ is_accepted reply → IsTaken (StandsAs o) s before w new taken
+    → IsPostedFor o s number (shown.Message w) old.posted new.posted new.names (Some reply) → taken ≡ is_accepted reply → IsWireTaken (StandsAs o) s before w new taken
 takes-by o old new s before number w m None reply taken is read accepts one says =
     let replied = rw (read, accepts) at one.replied in
     let yes_taken : taken ≡ true = cc in
@@ -65,7 +65,7 @@ takes-by o old new s before number w m (Some r) reply taken is read refuses one 
 
 takes-read : (o : Option TimetableState) (old new : BoardState (List Message)) (s : ServiceState) (before : List Message)
     (number : ℕ) (w : Wire) (read : Result Message Refusal) (reply : Reply) (taken : Bool) → old.posted ≡ before → resolved s.names w ≡ read
-    → IsPostedFor o s number (shown.Message w) old.posted new.posted new.names (Some reply) → taken ≡ is_accepted reply → IsTaken (StandsAs o) s before w new taken
+    → IsPostedFor o s number (shown.Message w) old.posted new.posted new.names (Some reply) → taken ≡ is_accepted reply → IsWireTaken (StandsAs o) s before w new taken
 takes-read o old new s before number w (Ok m) reply taken is read one says = takes-by o old new s before number w m (refusal s.network s.state m) reply taken is read refl one says
 takes-read o old new s before number w (Err r) reply taken is read one says =
     let replied = rw read at one.replied in
@@ -75,6 +75,6 @@ takes-read o old new s before number w (Err r) reply taken is read one says =
 -- what the publisher posts for a message is what a board with its names takes
 pub takes-posted : {o : Option TimetableState} {old new : BoardState (List Message)} {s : ServiceState} {before : List Message}
     {number : ℕ} {w : Wire} {reply : Reply} (taken : Bool) → StandsAs o old s before
-    → IsPostedFor o s number (shown.Message w) old.posted new.posted new.names (Some reply) → taken ≡ is_accepted reply → IsTaken (StandsAs o) s before w new taken
+    → IsPostedFor o s number (shown.Message w) old.posted new.posted new.names (Some reply) → taken ≡ is_accepted reply → IsWireTaken (StandsAs o) s before w new taken
 takes-posted {o = o} {old = old} {new = new} {s = s} {before = before} {number = number} {w = w} {reply = reply} taken h one says =
     takes-read o old new s before number w (resolved s.names w) reply taken h.0 refl one says

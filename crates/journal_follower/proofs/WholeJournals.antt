@@ -3,7 +3,7 @@ use Rattle.std.proofs.Common.{◌≡◌, ℕ, ◌+◌, ◌-◌, [], List, take, 
 use Rattle.delay_model.specs.declared.messages.Message.{Message}
 use Rattle.information_service.specs.ServiceState.{ServiceState}
 use Rattle.journal_replay.specs.Journals.{IsReadSoFar, after_wires, messages_in}
-use Rattle.journal_replay.specs.Reading.{Progress, after_bytes, nothing_read}
+use Rattle.journal_replay.specs.Reading.{JournalProgress, after_bytes, nothing_read}
 use Rattle.journal_replay.specs.ReaderStates.{HasRead, IsAt, ReaderState}
 use Rattle.message_reader.specs.declared.wire.Wire.{Wire}
 use Rattle.query_crew.specs.Posting.{StandsAt}
@@ -12,11 +12,11 @@ use Rattle.journal_follower.specs.Boards.{StandsAs}
 use Rattle.journal_follower.specs.Following.{FollowerState, HasFollowed, new_reader}
 
 -- where the reader stands at this place of the journal, and the board as a service there
-followed-at : (o : Option TimetableState) (s : ServiceState) (ws : List Wire) (bytes : List ℕ) (now : FollowerState (List Message)) (p : Progress) → IsReadSoFar s ws bytes p
+followed-at : (o : Option TimetableState) (s : ServiceState) (ws : List Wire) (bytes : List ℕ) (now : FollowerState (List Message)) (p : JournalProgress) → IsReadSoFar s ws bytes p
     → IsAt (StandsAs o) now.board now.reader p → HasFollowed o s ws bytes now
 followed-at o s ws bytes now p so_far at =
-    let lines : p.lines ≡ now.reader.lines = ap (λ (q : Progress). q.lines) at.reads in
-    let refusal : p.refusal ≡ now.reader.refusal = ap (λ (q : Progress). q.refusal) at.reads in
+    let lines : p.lines ≡ now.reader.lines = ap (λ (q : JournalProgress). q.lines) at.reads in
+    let refusal : p.refusal ≡ now.reader.refusal = ap (λ (q : JournalProgress). q.refusal) at.reads in
     record {
       not_refused = sym refusal ∙ so_far.not_refused;
       lines = so_far.lines ∙ ap (λ (n : ℕ). n + 1) lines;

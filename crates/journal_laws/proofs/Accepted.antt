@@ -11,7 +11,7 @@ use Rattle.information_service.specs.ServiceState.{ServiceState, after_answer, a
 use Rattle.message_reader.specs.Resolved.{resolved}
 use Rattle.message_reader.specs.declared.wire.Wire.{Wire}
 use Rattle.journal_replay.specs.Journals.{AreTaken, after_wires, messages_in}
-use Rattle.journal_replay.specs.Reading.{accepted_in, after_wire}
+use Rattle.journal_replay.specs.Reading.{accepted_wire, after_wire}
 
 -- a value that is there
 pub some-there : {T : Type 0} (o : Option T) → IsSome o → (x : T) × (o ≡ Some x)
@@ -36,7 +36,7 @@ by-message : (s : ServiceState) (w : Wire) (x : Message) (read : Result Message 
 by-message s w x (Ok m) is = by-answer s w m x (refusal s.network s.state m) refl is
 by-message s w x (Err r) is = cc
 
-pub accepted-leaves : (s : ServiceState) (w : Wire) (m : Message) → accepted_in s w ≡ Some m → IsTakenThere s m (after_wire s w)
+pub accepted-leaves : (s : ServiceState) (w : Wire) (m : Message) → accepted_wire s w ≡ Some m → IsTakenThere s m (after_wire s w)
 accepted-leaves s w m is = by-message s w m (resolved s.names w) is
 
 -- ---- a message that is refused
@@ -49,7 +49,7 @@ none-by-message : (s : ServiceState) (w : Wire) (read : Result Message Refusal) 
 none-by-message s w (Ok m) is = none-by-answer s w m (refusal s.network s.state m) is
 none-by-message s w (Err r) is = refl
 
-pub refused-leaves : (s : ServiceState) (w : Wire) → accepted_in s w ≡ None → after_wire s w ≡ s
+pub refused-leaves : (s : ServiceState) (w : Wire) → accepted_wire s w ≡ None → after_wire s w ≡ s
 refused-leaves s w is = none-by-message s w (resolved s.names w) is
 
 -- ---- messages one after the other
@@ -57,7 +57,7 @@ refused-leaves s w is = none-by-message s w (resolved s.names w) is
 pub are-accepted : (s : ServiceState) (ws : List Wire) → AreTaken s ws → AreAccepted s.network s.state (messages_in s ws)
 are-accepted s [] taken = tt
 are-accepted s (w ∷ ws) taken =
-    let m = some-there (accepted_in s w) taken.0 in
+    let m = some-there (accepted_wire s w) taken.0 in
     let there = accepted-leaves s w m.0 m.1 in
     let next = are-accepted (after_wire s w) ws taken.1 in
     let ms : List Message = messages_in (after_wire s w) ws in
@@ -67,12 +67,12 @@ are-accepted s (w ∷ ws) taken =
 pub states-agree : (s : ServiceState) (ws : List Wire) → AreTaken s ws → (after_wires s ws).state ≡ after_messages s.state (messages_in s ws)
 states-agree s [] taken = refl
 states-agree s (w ∷ ws) taken =
-    let m = some-there (accepted_in s w) taken.0 in
+    let m = some-there (accepted_wire s w) taken.0 in
     let there = accepted-leaves s w m.0 m.1 in
     states-agree (after_wire s w) ws taken.1 ∙ rw (m.1, there.state) refl
 
 pub all-there : (s : ServiceState) (ws : List Wire) → AreTaken s ws → length (messages_in s ws) ≡ length ws
 all-there s [] taken = refl
 all-there s (w ∷ ws) taken =
-    let m = some-there (accepted_in s w) taken.0 in
+    let m = some-there (accepted_wire s w) taken.0 in
     rw m.1 (omega (arith, all-there (after_wire s w) ws taken.1))

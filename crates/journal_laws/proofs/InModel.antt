@@ -19,7 +19,7 @@ use Rattle.message_reader.specs.declared.wire.Wire.{Wire}
 use Rattle.mt_io.specs.Lines.{Line}
 use Rattle.information_service.proofs.Words.{Names}
 use Rattle.journal_replay.specs.Journals.{messages_in}
-use Rattle.journal_replay.specs.Reading.{accepted_in, after_wire}
+use Rattle.journal_replay.specs.Reading.{accepted_wire, after_wire}
 use Rattle.journal_laws.specs.Journaled.{accepted_wires, after_lines, in_front, said_in_front}
 
 -- the accepted messages among these, in the timetable of a service
@@ -29,13 +29,13 @@ from t ws = accepted t.network by_names t.state t.names ws
 -- ---- one line
 
 -- by how its message is answered
-answer-from : (t : ServiceState) (w : Wire) (m : Message) (ws all : List Wire) (o : Option Refusal) → accepted_in t w ≡ (if is_none o then Some m else None)
+answer-from : (t : ServiceState) (w : Wire) (m : Message) (ws all : List Wire) (o : Option Refusal) → accepted_wire t w ≡ (if is_none o then Some m else None)
     → messages_in (after_answer t w m o) ws ≡ from (after_answer t w m o) all → after_wire t w ≡ after_answer t w m o
     → messages_in t (in_front w (if is_none o then Some m else None) ws) ≡ from t (w ∷ all)
 answer-from t w m ws all None is same leads = rw is (ap (λ (s : ServiceState). m ∷ messages_in s ws) leads ∙ ap (λ (l : List Message). m ∷ l) same)
 answer-from t w m ws all (Some r) is same leads = rw is same
 
-message-from : (t : ServiceState) (w : Wire) (ws all : List Wire) (read : Result Message Refusal) → accepted_in t w ≡ accepted_message t.network t.state read
+message-from : (t : ServiceState) (w : Wire) (ws all : List Wire) (read : Result Message Refusal) → accepted_wire t w ≡ accepted_message t.network t.state read
     → messages_in (after_message t w read) ws ≡ from (after_message t w read) all → after_wire t w ≡ after_message t w read
     → messages_in t (in_front w (accepted_message t.network t.state read) ws) ≡ from t (w ∷ all)
 message-from t w ws all (Ok m) is same leads = answer-from t w m ws all (refusal t.network t.state m) is same leads

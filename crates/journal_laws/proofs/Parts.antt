@@ -16,8 +16,8 @@ use Rattle.mt_io.proofs.LineFacts.{no_lf_cons}
 use Rattle.journal_lines.specs.declared.heads.Head.{Head}
 use Rattle.journal_lines.specs.Lines.{text_of_head, text_of_message}
 use Rattle.journal_replay.specs.Journals.{after_wires, behind, held_at_end, journal_of, messages_in, AreTaken}
-use Rattle.journal_replay.specs.Reading.{Progress, accepted_in, after_byte, after_bytes, after_wire, byte_held, byte_read}
-use Rattle.journal_replay.specs.Reading.{header_taken, line_taken, long_from, message_of, message_taken, nothing_read, taken_as}
+use Rattle.journal_replay.specs.Reading.{JournalProgress, accepted_wire, after_byte, after_bytes, after_wire, byte_held, byte_read}
+use Rattle.journal_replay.specs.Reading.{header_taken, line_taken, long_from, wire_of_line, message_taken, nothing_read, taken_as}
 use Rattle.journal_replay.specs.declared.refusal.JournalRefusal.{JournalRefusal}
 use Rattle.journal_replay.proofs.ByteLemmas.{no_lf-parts}
 use Rattle.journal_replay.proofs.MessageLines.{found-is}
@@ -32,7 +32,7 @@ texts-more (v ∷ ws) w = ap (λ (l : List ℕ). text_of_message v ++ l) (texts-
 journal-more : (head : Head) (ws : List Wire) (w : Wire) → journal_of head (ws ++ w ∷ []) ≡ journal_of head ws ++ text_of_message w
 journal-more head ws w = ap (λ (l : List ℕ). text_of_head head ++ l) (texts-more ws w) ∙ sym (append_assoc (text_of_head head) (concat (map text_of_message ws)) (text_of_message w))
 
-taken-more : (s : ServiceState) (ws : List Wire) (w : Wire) → AreTaken s ws → IsSome (accepted_in (after_wires s ws) w) → AreTaken s (ws ++ w ∷ [])
+taken-more : (s : ServiceState) (ws : List Wire) (w : Wire) → AreTaken s ws → IsSome (accepted_wire (after_wires s ws) w) → AreTaken s (ws ++ w ∷ [])
 taken-more s [] w taken is = (is, tt)
 taken-more s (v ∷ ws) w taken is = (taken.0, taken-more (after_wire s v) ws w taken.1 is)
 
@@ -40,10 +40,10 @@ behind-more : (o : Option Message) (ms more : List Message) → behind o (ms ++ 
 behind-more None ms more = refl
 behind-more (Some m) ms more = refl
 
-messages-more : (s : ServiceState) (ws : List Wire) (w : Wire) (m : Message) → accepted_in (after_wires s ws) w ≡ Some m → messages_in s (ws ++ w ∷ []) ≡ messages_in s ws ++ m ∷ []
+messages-more : (s : ServiceState) (ws : List Wire) (w : Wire) (m : Message) → accepted_wire (after_wires s ws) w ≡ Some m → messages_in s (ws ++ w ∷ []) ≡ messages_in s ws ++ m ∷ []
 messages-more s [] w m is = ap (λ (o : Option Message). behind o []) is
 messages-more s (v ∷ ws) w m is =
-    ap (behind (accepted_in s v)) (messages-more (after_wire s v) ws w m is) ∙ behind-more (accepted_in s v) (messages_in (after_wire s v) ws) (m ∷ [])
+    ap (behind (accepted_wire s v)) (messages-more (after_wire s v) ws w m is) ∙ behind-more (accepted_wire s v) (messages_in (after_wire s v) ws) (m ∷ [])
 
 no_lf-more : (bytes : List ℕ) (b : ℕ) → HasNoLf bytes → ¬ (b ≡ 10) → HasNoLf (bytes ++ b ∷ [])
 no_lf-more [] b none ne = no_lf_cons b [] ne refl
@@ -53,7 +53,7 @@ no_lf-more (c ∷ bytes) b none ne = let parts = no_lf-parts c bytes none in no_
 
 module _ (head : Head) (s : ServiceState) where
   -- the header is not yet whole
-  record IsBegun (bytes : List ℕ) (p : Progress) : Type 0 where
+  record IsBegun (bytes : List ℕ) (p : JournalProgress) : Type 0 where
     lines : p.lines ≡ 0
     bytes_are : bytes ≡ p.held
     no_lf : HasNoLf p.held
@@ -61,12 +61,12 @@ module _ (head : Head) (s : ServiceState) where
     messages : p.messages ≡ []
 
   -- it is not, or the journal is read
-  abbrev IsSoFar : List ℕ → Progress → Type 0
+  abbrev IsSoFar : List ℕ → JournalProgress → Type 0
   IsSoFar bytes p = IsBegun bytes p ⊎ IsJournalRead head s bytes p
 
   -- ---- a line
 
-  header-behind : (p : Progress) (bytes ended : List ℕ) → IsBegun bytes p → ended ≡ p.held ++ 10 ∷ [] → (same : Bool) → bytes_eq ended (text_of_head head) ≡ same
+  header-behind : (p : JournalProgress) (bytes ended : List ℕ) → IsBegun bytes p → ended ≡ p.held ++ 10 ∷ [] → (same : Bool) → bytes_eq ended (text_of_head head) ≡ same
       → (header_taken (text_of_head head) ended p).refusal ≡ None → IsJournalRead head s (bytes ++ 10 ∷ []) (header_taken (text_of_head head) ended p)
   header-behind p bytes ended is whole true same none =
       let it : ended ≡ text_of_head head = (bytes_eq-Decides ended (text_of_head head)).0 same in
@@ -83,12 +83,12 @@ module _ (head : Head) (s : ServiceState) where
       })
   header-behind p bytes ended is whole false other none = let bad = rw other at none in cc
 
-  taken-behind : (p : Progress) (bytes : List ℕ) (w : Wire) → IsJournalRead head s bytes p → text_of_message w ≡ p.held ++ 10 ∷ [] → (o : Option Message) → accepted_in p.service w ≡ o
+  taken-behind : (p : JournalProgress) (bytes : List ℕ) (w : Wire) → IsJournalRead head s bytes p → text_of_message w ≡ p.held ++ 10 ∷ [] → (o : Option Message) → accepted_wire p.service w ≡ o
       → (taken_as p w o).refusal ≡ None → IsJournalRead head s (bytes ++ 10 ∷ []) (taken_as p w o)
   taken-behind p bytes w is whole None refuses none = cc
   taken-behind p bytes w is whole (Some m) accepts none =
-      let there : accepted_in (after_wires s is.wires) w ≡ Some m = ap (λ (t : ServiceState). accepted_in t w) (sym is.service) ∙ accepts in
-      let some : IsSome (accepted_in (after_wires s is.wires) w) = rw there refl in
+      let there : accepted_wire (after_wires s is.wires) w ≡ Some m = ap (λ (t : ServiceState). accepted_wire t w) (sym is.service) ∙ accepts in
+      let some : IsSome (accepted_wire (after_wires s is.wires) w) = rw there refl in
       record {
         wires = is.wires ++ w ∷ [];
         taken = taken-more s is.wires w is.taken some;
@@ -102,13 +102,13 @@ module _ (head : Head) (s : ServiceState) where
         messages = ap (λ (l : List Message). l ++ m ∷ []) is.messages ∙ sym (messages-more s is.wires w m there);
       }
 
-  message-behind : (p : Progress) (bytes ended : List ℕ) → IsJournalRead head s bytes p → ended ≡ p.held ++ 10 ∷ [] → (o : Option Wire) → message_of ended ≡ o
+  message-behind : (p : JournalProgress) (bytes ended : List ℕ) → IsJournalRead head s bytes p → ended ≡ p.held ++ 10 ∷ [] → (o : Option Wire) → wire_of_line ended ≡ o
       → (message_taken p o).refusal ≡ None → IsJournalRead head s (bytes ++ 10 ∷ []) (message_taken p o)
   message-behind p bytes ended is whole None foreign none = cc
   message-behind p bytes ended is whole (Some w) own none =
-      taken-behind p bytes w is (sym (found-is ended w own) ∙ whole) (accepted_in p.service w) refl none
+      taken-behind p bytes w is (sym (found-is ended w own) ∙ whole) (accepted_wire p.service w) refl none
 
-  line-behind : (p : Progress) (bytes : List ℕ) → IsSoFar bytes p → (line_taken (text_of_head head) (p.held ++ 10 ∷ []) p).refusal ≡ None
+  line-behind : (p : JournalProgress) (bytes : List ℕ) → IsSoFar bytes p → (line_taken (text_of_head head) (p.held ++ 10 ∷ []) p).refusal ≡ None
       → IsJournalRead head s (bytes ++ 10 ∷ []) (line_taken (text_of_head head) (p.held ++ 10 ∷ []) p)
   line-behind p bytes (inl is) none =
       let zero_lines : p.lines ≡ 0 = is.lines in
@@ -119,11 +119,11 @@ module _ (head : Head) (s : ServiceState) where
       let some : p.lines ≡ length is.wires + 1 = is.lines in
       let later : nat_eq p.lines 0 ≡ false = grind (arith, nat_tests) in
       let none_there = rw later at none in
-      rw later (message-behind p bytes (p.held ++ 10 ∷ []) is refl (message_of (p.held ++ 10 ∷ [])) refl none_there)
+      rw later (message-behind p bytes (p.held ++ 10 ∷ []) is refl (wire_of_line (p.held ++ 10 ∷ [])) refl none_there)
 
   -- ---- a byte that ends no line
 
-  more-held : (p : Progress) (bytes : List ℕ) (b : ℕ) → ¬ (b ≡ 10) → IsSoFar bytes p → IsSoFar (bytes ++ b ∷ []) (held_at_end p (p.held ++ b ∷ []))
+  more-held : (p : JournalProgress) (bytes : List ℕ) (b : ℕ) → ¬ (b ≡ 10) → IsSoFar bytes p → IsSoFar (bytes ++ b ∷ []) (held_at_end p (p.held ++ b ∷ []))
   more-held p bytes b ne (inl is) = inl (record {
     lines = is.lines;
     bytes_are = ap (λ (l : List ℕ). l ++ b ∷ []) is.bytes_are;
@@ -141,14 +141,14 @@ module _ (head : Head) (s : ServiceState) where
     messages = is.messages;
   })
 
-  held-behind : (p : Progress) (bytes : List ℕ) (b : ℕ) → ¬ (b ≡ 10) → IsSoFar bytes p → (long : Bool)
+  held-behind : (p : JournalProgress) (bytes : List ℕ) (b : ℕ) → ¬ (b ≡ 10) → IsSoFar bytes p → (long : Bool)
       → nat_le long_from (length p.held + 1) ≡ long → (byte_held b p).refusal ≡ None → IsSoFar (bytes ++ b ∷ []) (byte_held b p)
   held-behind p bytes b ne is true long none = let bad = rw long at none in cc
   held-behind p bytes b ne is false short none = rw short (more-held p bytes b ne is)
 
   -- ---- bytes
 
-  byte-behind : (p : Progress) (bytes : List ℕ) (b : ℕ) → (p.refusal ≡ None → IsSoFar bytes p) → (o : Option JournalRefusal) → p.refusal ≡ o
+  byte-behind : (p : JournalProgress) (bytes : List ℕ) (b : ℕ) → (p.refusal ≡ None → IsSoFar bytes p) → (o : Option JournalRefusal) → p.refusal ≡ o
       → (byte_read (text_of_head head) p b o).refusal ≡ None → IsSoFar (bytes ++ b ∷ []) (byte_read (text_of_head head) p b o)
   byte-behind p bytes b so (Some why) refuses none = cc
   byte-behind p bytes b so None read none = elim (cases_eq b 10) [
@@ -162,14 +162,14 @@ module _ (head : Head) (s : ServiceState) where
         rw other (held-behind p bytes b ne (so read) (nat_le long_from (length p.held + 1)) refl none_there)
   ]
 
-  bytes-behind : (p : Progress) (front bytes : List ℕ) → (p.refusal ≡ None → IsSoFar front p) → (after_bytes (text_of_head head) p bytes).refusal ≡ None
+  bytes-behind : (p : JournalProgress) (front bytes : List ℕ) → (p.refusal ≡ None → IsSoFar front p) → (after_bytes (text_of_head head) p bytes).refusal ≡ None
       → IsSoFar (front ++ bytes) (after_bytes (text_of_head head) p bytes)
   bytes-behind p front [] so none = rw (append-nil front) (so none)
   bytes-behind p front (b ∷ bytes) so none =
       subst (λ (l : List ℕ). IsSoFar l (after_bytes (text_of_head head) (after_byte (text_of_head head) p b) bytes)) (append_assoc front (b ∷ []) bytes)
       (bytes-behind (after_byte (text_of_head head) p b) (front ++ b ∷ []) bytes (byte-behind p front b so p.refusal refl) none)
 
-  whole-line : (bytes : List ℕ) (p : Progress) → 1 ≤ p.lines → IsSoFar bytes p → IsJournalRead head s bytes p
+  whole-line : (bytes : List ℕ) (p : JournalProgress) → 1 ≤ p.lines → IsSoFar bytes p → IsJournalRead head s bytes p
   whole-line bytes p some (inl is) = absurd (omega (arith, is.lines))
   whole-line bytes p some (inr is) = is
 

@@ -14,7 +14,7 @@ use Rattle.journal_lines.specs.declared.heads.Head.{Head}
 use Rattle.journal_lines.specs.Lines.{text_of_head, text_of_message}
 use Rattle.journal_lines.proofs.ReadBack.{header-clear, lines-clear}
 use Rattle.journal_replay.specs.Journals.{after_wires, journal_of, messages_in, AreTaken, CanBeHead, CanBeWritten}
-use Rattle.journal_replay.specs.Reading.{Progress, accepted_in, after_bytes, after_wire, line_taken, long_from, nothing_read}
+use Rattle.journal_replay.specs.Reading.{JournalProgress, accepted_wire, after_bytes, after_wire, line_taken, long_from, nothing_read}
 use Rattle.journal_replay.specs.Taking.{before_line}
 use Rattle.journal_replay.proofs.ByteLemmas.{line-read}
 use Rattle.journal_replay.proofs.MessageLines.{bytes_eq-same, head-ends, message-ends, message-found}
@@ -26,7 +26,7 @@ clear-no_lf [] clear = refl
 clear-no_lf (b ∷ bytes) clear = no_lf_cons b bytes (λ is. let low : 32 ≤ b = clear.0 in omega arith) (clear-no_lf bytes clear.1)
 
 -- where a line begins, a whole line of bytes at or above the blank is taken
-own-line : (header : List ℕ) (p : Progress) (text line more : List ℕ) → p.refusal ≡ None → p.held ≡ [] → text ≡ line ++ 10 ∷ [] → AllByRecursion (λ b. 32 ≤ b) line
+own-line : (header : List ℕ) (p : JournalProgress) (text line more : List ℕ) → p.refusal ≡ None → p.held ≡ [] → text ≡ line ++ 10 ∷ [] → AllByRecursion (λ b. 32 ≤ b) line
     → length text ≤ long_from → after_bytes header p (text ++ more) ≡ after_bytes header (line_taken header text p) more
 own-line header p text line more none empty is clear few =
     let nothing : length p.held ≡ 0 = ap length empty in
@@ -37,7 +37,7 @@ own-line header p text line more none empty is clear few =
     ∙ ap (λ (l : List ℕ). after_bytes header (line_taken header l p) more) (sym is)
 
 -- what stands behind the line of an accepted message
-message-taken : (header : List ℕ) (n : ℕ) (s : ServiceState) (ms : List Message) (w : Wire) (m : Message) → CanBeWritten w → 0 < n → accepted_in s w ≡ Some m
+message-taken : (header : List ℕ) (n : ℕ) (s : ServiceState) (ms : List Message) (w : Wire) (m : Message) → CanBeWritten w → 0 < n → accepted_wire s w ≡ Some m
     → line_taken header (text_of_message w) (before_line n s ms) ≡ before_line (n + 1) (after_wire s w) (ms ++ m ∷ [])
 message-taken header n s ms w m can some is =
     let later : nat_eq n 0 ≡ false = grind (arith, nat_tests) in
@@ -45,7 +45,7 @@ message-taken header n s ms w m can some is =
     rw (later, found, is) refl
 
 -- the messages behind an accepted one
-messages-behind : (ms : List Message) (s : ServiceState) (w : Wire) (m : Message) (ws : List Wire) → accepted_in s w ≡ Some m
+messages-behind : (ms : List Message) (s : ServiceState) (w : Wire) (m : Message) (ws : List Wire) → accepted_wire s w ≡ Some m
     → (ms ++ m ∷ []) ++ messages_in (after_wire s w) ws ≡ ms ++ messages_in s (w ∷ ws)
 messages-behind ms s w m ws is = rw is (append_assoc ms (m ∷ []) (messages_in (after_wire s w) ws))
 
@@ -55,15 +55,15 @@ lines-read header [] n s ms some can taken =
     let same : n ≡ n + 0 = omega arith in
     ap (λ (k : ℕ). before_line k s ms) same ∙ ap (before_line (n + 0) s) (sym (append-nil ms))
 lines-read header (w ∷ ws) n s ms some can taken =
-    let p : Progress = before_line n s ms in
-    let m = some-there (accepted_in s w) taken.0 in
+    let p : JournalProgress = before_line n s ms in
+    let m = some-there (accepted_wire s w) taken.0 in
     let ended = message-ends w in
     let clear = recursion_from_All (λ (b : ℕ). 32 ≤ b) ended.line (lines-clear w ended.line ended.is) in
     let more : List ℕ = concat (map text_of_message ws) in
     let same : (n + 1) + length ws ≡ n + length (w ∷ ws) = omega arith in
     let end : ServiceState = after_wires (after_wire s w) ws in
     own-line header p (text_of_message w) ended.line more refl refl ended.is clear can.0.short
-    ∙ ap (λ (q : Progress). after_bytes header q more) (message-taken header n s ms w m.0 can.0 some m.1)
+    ∙ ap (λ (q : JournalProgress). after_bytes header q more) (message-taken header n s ms w m.0 can.0 some m.1)
     ∙ lines-read header ws (n + 1) (after_wire s w) (ms ++ m.0 ∷ []) (omega arith) can.1 taken.1
     ∙ ap (λ (k : ℕ). before_line k end ((ms ++ m.0 ∷ []) ++ messages_in (after_wire s w) ws)) same
     ∙ ap (before_line (n + length (w ∷ ws)) end) (messages-behind ms s w m.0 ws m.1)
@@ -81,6 +81,6 @@ whole-read head s ws can all taken =
     let clear = recursion_from_All (λ (b : ℕ). 32 ≤ b) ended.line (header-clear head ended.line ended.is) in
     let same : 1 + length ws ≡ length ws + 1 = omega arith in
     own-line header (nothing_read s) header ended.line more refl refl ended.is clear can.short
-    ∙ ap (λ (q : Progress). after_bytes header q more) (header-taken head s)
+    ∙ ap (λ (q : JournalProgress). after_bytes header q more) (header-taken head s)
     ∙ lines-read header ws 1 s [] (omega arith) (recursion_from_All CanBeWritten ws all) taken
     ∙ ap (λ (k : ℕ). before_line k (after_wires s ws) (messages_in s ws)) same

@@ -15,7 +15,7 @@ use Rattle.journal_lines.specs.declared.heads.Head.{Head}
 use Rattle.journal_lines.specs.Lines.{text_of_head, text_of_message}
 use Rattle.journal_answers.specs.JournaledLines.{accepted_text, journal_output, said_text}
 use Rattle.journal_replay.specs.Journals.{after_wires, journal_of, messages_in, AreTaken, CanBeHead, CanBeWritten, IsReadSoFar}
-use Rattle.journal_replay.specs.Reading.{accepted_in, after_bytes, after_wire, nothing_read}
+use Rattle.journal_replay.specs.Reading.{accepted_wire, after_bytes, after_wire, nothing_read}
 use Rattle.journal_replay.proofs.Beginnings.{journal-read}
 use Rattle.journal_laws.specs.Journaled.{accepted_wires, after_lines, in_front, read_behind, said_in_front}
 use Rattle.journal_laws.proofs.Accepted.{refused-leaves}
@@ -33,14 +33,14 @@ record LeadsOn (t next : ServiceState) (text : List ℕ) (ws all : List Wire) : 
   leaves : after_wires t all ≡ after_wires next ws
   taken : AreTaken next ws → AreTaken t all
 
-message-leads : (t : ServiceState) (w : Wire) (ws : List Wire) (o : Option Message) → accepted_in t w ≡ o → LeadsOn t (after_wire t w) (accepted_text w o) ws (in_front w o ws)
+message-leads : (t : ServiceState) (w : Wire) (ws : List Wire) (o : Option Message) → accepted_wire t w ≡ o → LeadsOn t (after_wire t w) (accepted_text w o) ws (in_front w o ws)
 message-leads t w ws (Some m) is = record { written = refl; leaves = refl; taken = λ rest. (rw is refl, rest) }
 message-leads t w ws None is =
     let same : after_wire t w ≡ t = refused-leaves t w is in
     record { written = refl; leaves = ap (λ (s : ServiceState). after_wires s ws) (sym same); taken = λ rest. subst (λ (s : ServiceState). AreTaken s ws) same rest }
 
 said-leads : (t : ServiceState) (said : Result Spoken BadLine) (ws : List Wire) → LeadsOn t (after_said t said) (said_text t said) ws (said_in_front t said ws)
-said-leads t (Ok (Says w)) ws = message-leads t w ws (accepted_in t w) refl
+said-leads t (Ok (Says w)) ws = message-leads t w ws (accepted_wire t w) refl
 said-leads t (Ok (Asks q)) ws = record { written = refl; leaves = refl; taken = λ rest. rest }
 said-leads t (Ok Flush) ws = record { written = refl; leaves = refl; taken = λ rest. rest }
 said-leads t (Err bad) ws = record { written = refl; leaves = refl; taken = λ rest. rest }

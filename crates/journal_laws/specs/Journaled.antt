@@ -5,7 +5,7 @@ use Rattle.delay_model.specs.declared.messages.Message.{Message}
 use Rattle.information_service.specs.Lines.{said_by}
 use Rattle.information_service.specs.ServiceState.{ServiceState, after_line}
 use Rattle.journal_replay.specs.Journals.{messages_in}
-use Rattle.journal_replay.specs.Reading.{Progress, accepted_in}
+use Rattle.journal_replay.specs.Reading.{JournalProgress, accepted_wire}
 use Rattle.message_reader.specs.declared.bad_line.BadLine.{BadLine}
 use Rattle.message_reader.specs.declared.wire.Line.{Line as Spoken}
 use Rattle.message_reader.specs.declared.wire.Line.TheVariants.{Message as Says, Query as Asks, Flush}
@@ -19,7 +19,7 @@ in_front w None ws = ws
 
 -- the message that is said, if one is and the service accepts it, in front of others
 abbrev pub said_in_front : ServiceState → Result Spoken BadLine → List Wire → List Wire
-said_in_front t (Ok (Says w)) ws = in_front w (accepted_in t w) ws
+said_in_front t (Ok (Says w)) ws = in_front w (accepted_wire t w) ws
 said_in_front t (Ok (Asks q)) ws = ws
 said_in_front t (Ok Flush) ws = ws
 said_in_front t (Err bad) ws = ws
@@ -36,7 +36,7 @@ after_lines t lines = fold after_line t lines
 
 -- how far the whole of what `journal` writes for the lines of an input is read: the service stands
 -- where the input left it, no bytes are held, and nothing is refused
-abbrev pub read_behind : ServiceState → List Line → Progress
+abbrev pub read_behind : ServiceState → List Line → JournalProgress
 read_behind t lines = record {
   service = after_lines t lines;
   messages = messages_in t (accepted_wires t lines);

@@ -3,14 +3,14 @@ use Rattle.std.specs.Prelude.{◌≡◌, ℕ, ◌+◌, List, ◌++◌, length}
 use Rattle.information_service.specs.ServiceState.{ServiceState}
 use Rattle.journal_lines.specs.declared.heads.Head.{Head}
 use Rattle.journal_replay.specs.Journals.{after_wires, journal_of, messages_in, AreTaken}
-use Rattle.journal_replay.specs.Reading.{Progress}
+use Rattle.journal_replay.specs.Reading.{JournalProgress}
 use Rattle.message_reader.specs.declared.wire.Wire.{Wire}
 use Rattle.mt_io.specs.Steps.{HasNoLf}
 
 -- these bytes are the journal of messages that are accepted one after the other, and a part of a
 -- line behind it; and so far they are read
 pub record IsJournalRead (head : Head) (s : ServiceState) (bytes : List ℕ)
-    (p : Progress) : Type 0 where
+    (p : JournalProgress) : Type 0 where
   -- the messages, by names
   pub wires : List Wire
   -- each is accepted in the service after those before it

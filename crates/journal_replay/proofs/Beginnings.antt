@@ -15,7 +15,7 @@ use Rattle.journal_lines.specs.declared.heads.Head.{Head}
 use Rattle.journal_lines.specs.Lines.{text_of_head, text_of_message}
 use Rattle.journal_lines.proofs.ReadBack.{header-clear, lines-clear}
 use Rattle.journal_replay.specs.Journals.{after_wires, journal_of, messages_in, AreTaken, CanBeHead, CanBeWritten, IsReadSoFar}
-use Rattle.journal_replay.specs.Reading.{Progress, accepted_in, after_bytes, after_wire, line_taken, long_from, nothing_read}
+use Rattle.journal_replay.specs.Reading.{JournalProgress, accepted_wire, after_bytes, after_wire, line_taken, long_from, nothing_read}
 use Rattle.journal_replay.proofs.ByteLemmas.{bytes-held, line-read}
 use Rattle.journal_replay.proofs.LineLemmas.{pieces-cut, pieces-one}
 use Rattle.journal_replay.proofs.MessageLines.{bytes_eq-same, head-ends, message-ends, message-found}
@@ -53,7 +53,7 @@ some-there (Some x) is = (x, refl)
 some-there None is = cc
 
 -- what stands behind the line of an accepted message
-line-taken : (header : List ℕ) (p : Progress) (w : Wire) (m : Message) → CanBeWritten w → 0 < p.lines → accepted_in p.service w ≡ Some m
+line-taken : (header : List ℕ) (p : JournalProgress) (w : Wire) (m : Message) → CanBeWritten w → 0 < p.lines → accepted_wire p.service w ≡ Some m
     → line_taken header (text_of_message w) p ≡ record { service = after_wire p.service w; messages = p.messages ++ m ∷ []; lines = p.lines + 1; held = []; refusal = None }
 line-taken header p w m can some is =
     let later : nat_eq p.lines 0 ≡ false = grind (arith, nat_tests) in
@@ -61,14 +61,14 @@ line-taken header p w m can some is =
     rw (later, found, is) refl
 
 -- the messages behind an accepted one
-messages-behind : (before : List Message) (s : ServiceState) (w : Wire) (m : Message) (ws : List Wire) → accepted_in s w ≡ Some m
+messages-behind : (before : List Message) (s : ServiceState) (w : Wire) (m : Message) (ws : List Wire) → accepted_wire s w ≡ Some m
     → (before ++ m ∷ []) ++ messages_in (after_wire s w) ws ≡ before ++ messages_in s (w ∷ ws)
 messages-behind before s w m ws is = rw is (append_assoc before (m ∷ []) (messages_in (after_wire s w) ws))
 
 -- ---- the messages
 
 -- so far such bytes are read behind a line
-record IsReadOn (p : Progress) (ws : List Wire) (bytes : List ℕ) (e : Progress) : Type 0 where
+record IsReadOn (p : JournalProgress) (ws : List Wire) (bytes : List ℕ) (e : JournalProgress) : Type 0 where
   n : ℕ
   few : n ≤ length ws
   not_refused : e.refusal ≡ None
@@ -78,7 +78,7 @@ record IsReadOn (p : Progress) (ws : List Wire) (bytes : List ℕ) (e : Progress
   messages : e.messages ≡ p.messages ++ messages_in p.service (take n ws)
 
 -- a beginning of a line
-begun : (header : List ℕ) (p : Progress) (ws : List Wire) (bytes tail line : List ℕ) → p.refusal ≡ None → p.held ≡ [] → HasNoLf line → length line < long_from
+begun : (header : List ℕ) (p : JournalProgress) (ws : List Wire) (bytes tail line : List ℕ) → p.refusal ≡ None → p.held ≡ [] → HasNoLf line → length line < long_from
     → line ≡ bytes ++ tail → IsReadOn p ws bytes (after_bytes header p bytes)
 begun header p ws bytes tail line none empty clear short is =
     let no_lf : HasNoLf bytes = no_lf_front bytes tail (subst HasNoLf is clear) in
@@ -87,7 +87,7 @@ begun header p ws bytes tail line none empty clear short is =
     subst (IsReadOn p ws bytes) (sym (bytes-held header p bytes none no_lf (omega arith)))
     (record { n = 0; few = omega arith; not_refused = none; count = ap length (pieces-one bytes no_lf); lines = omega arith; service = refl; messages = sym (append-nil p.messages) })
 
-messages-read : (header : List ℕ) (ws : List Wire) (p : Progress) (bytes rest : List ℕ) → p.refusal ≡ None → p.held ≡ [] → 0 < p.lines → AllByRecursion CanBeWritten ws
+messages-read : (header : List ℕ) (ws : List Wire) (p : JournalProgress) (bytes rest : List ℕ) → p.refusal ≡ None → p.held ≡ [] → 0 < p.lines → AllByRecursion CanBeWritten ws
     → AreTaken p.service ws → bytes ++ rest ≡ concat (map text_of_message ws) → IsReadOn p ws bytes (after_bytes header p bytes)
 messages-read header [] p [] rest none empty some can taken is =
     record { n = 0; few = omega arith; not_refused = none; count = refl; lines = omega arith; service = refl; messages = sym (append-nil p.messages) }
@@ -102,15 +102,15 @@ messages-read header (w ∷ ws) p bytes rest none empty some can taken is =
     elim (cases-beginning bytes line rest more cut) [
       | inl found ↦ begun header p (w ∷ ws) bytes found.0 line none empty clear short found.1
       | inr found ↦
-          let m = some-there (accepted_in p.service w) taken.0 in
-          let q : Progress = record { service = after_wire p.service w; messages = p.messages ++ m.0 ∷ []; lines = p.lines + 1; held = []; refusal = None } in
+          let m = some-there (accepted_wire p.service w) taken.0 in
+          let q : JournalProgress = record { service = after_wire p.service w; messages = p.messages ++ m.0 ∷ []; lines = p.lines + 1; held = []; refusal = None } in
           let nothing : length p.held ≡ 0 = ap length empty in
           let on : after_bytes header p bytes ≡ after_bytes header q found.behind =
           ap (after_bytes header p) found.parts
           ∙ line-read header p line found.behind none clear (omega arith)
           ∙ ap (λ (l : List ℕ). after_bytes header (line_taken header ((l ++ line) ++ 10 ∷ []) p) found.behind) empty
           ∙ ap (λ (l : List ℕ). after_bytes header (line_taken header l p) found.behind) (sym ended.is)
-          ∙ ap (λ (r : Progress). after_bytes header r found.behind) (line-taken header p w m.0 can.0 some m.1) in
+          ∙ ap (λ (r : JournalProgress). after_bytes header r found.behind) (line-taken header p w m.0 can.0 some m.1) in
           let next = messages-read header ws q found.behind rest refl refl (omega arith) can.1 taken.1 found.goes_on in
           subst (IsReadOn p (w ∷ ws) bytes) (sym on)
           (record {
@@ -130,7 +130,7 @@ header-taken : (head : Head) (s : ServiceState) → line_taken (text_of_head hea
 header-taken head s = rw (bytes_eq-same (text_of_head head)) refl
 
 -- from behind the header
-from-header : (s : ServiceState) (ws : List Wire) (bytes behind : List ℕ) (e : Progress) → length (pieces bytes) ≡ suc (length (pieces behind))
+from-header : (s : ServiceState) (ws : List Wire) (bytes behind : List ℕ) (e : JournalProgress) → length (pieces bytes) ≡ suc (length (pieces behind))
     → IsReadOn (record { service = s; messages = []; lines = 1; held = []; refusal = None }) ws behind e → IsReadSoFar s ws bytes e
 from-header s ws bytes behind e count on =
     let same : on.n ≡ e.lines - 1 = omega (arith, on.lines) in
@@ -146,7 +146,7 @@ pub journal-read : (head : Head) (s : ServiceState) (ws : List Wire) (bytes rest
     → IsReadSoFar s ws bytes (after_bytes (text_of_head head) (nothing_read s) bytes)
 journal-read head s ws bytes rest can all taken is =
     let header : List ℕ = text_of_head head in
-    let p : Progress = nothing_read s in
+    let p : JournalProgress = nothing_read s in
     let ended = head-ends head in
     let line : List ℕ = ended.line in
     let more : List ℕ = concat (map text_of_message ws) in
@@ -160,12 +160,12 @@ journal-read head s ws bytes rest can all taken is =
           subst (IsReadSoFar s ws bytes) (sym (bytes-held header p bytes refl no_lf (omega arith)))
           (record { not_refused = refl; lines = ap length (pieces-one bytes no_lf); within = omega arith; service = refl; messages = refl })
       | inr found ↦
-          let q : Progress = record { service = s; messages = []; lines = 1; held = []; refusal = None } in
+          let q : JournalProgress = record { service = s; messages = []; lines = 1; held = []; refusal = None } in
           let on : after_bytes header p bytes ≡ after_bytes header q found.behind =
           ap (after_bytes header p) found.parts
           ∙ line-read header p line found.behind refl clear (omega arith)
           ∙ ap (λ (l : List ℕ). after_bytes header (line_taken header l p) found.behind) (sym ended.is)
-          ∙ ap (λ (r : Progress). after_bytes header r found.behind) (header-taken head s) in
+          ∙ ap (λ (r : JournalProgress). after_bytes header r found.behind) (header-taken head s) in
           let next = messages-read header ws q found.behind rest refl refl (omega arith) (recursion_from_All CanBeWritten ws all) taken found.goes_on in
           subst (IsReadSoFar s ws bytes) (sym on)
           (from-header s ws bytes found.behind (after_bytes header q found.behind) (ap length (ap pieces found.parts ∙ pieces-cut line found.behind clear)) next)

@@ -8,7 +8,7 @@ use Rattle.mt_io.specs.Lines.{onto, pieces}
 use Rattle.mt_io.specs.Steps.{HasNoLf}
 use Rattle.mt_io.proofs.LineFacts.{no_lf_cons}
 use Rattle.journal_replay.specs.Journals.{goes_on, held_at_end, line_by_line}
-use Rattle.journal_replay.specs.Reading.{Progress, after_bytes, line_refused, line_taken, long_from}
+use Rattle.journal_replay.specs.Reading.{JournalProgress, after_bytes, line_refused, line_taken, long_from}
 use Rattle.journal_replay.specs.declared.refusal.JournalRefusal.{JournalRefusal}
 use Rattle.journal_replay.proofs.ByteLemmas.{bytes-held, bytes-too-long, line-read, line_taken-held, no_lf-parts, refused-stays}
 
@@ -62,41 +62,41 @@ first-piece bytes = elim (cases-lf bytes) [
 -- ---- line by line
 
 -- bytes without an LF
-last-held : (header : List ℕ) (p : Progress) (bytes : List ℕ) → HasNoLf bytes → length bytes < long_from → line_by_line header p (pieces bytes) ≡ held_at_end p bytes
+last-held : (header : List ℕ) (p : JournalProgress) (bytes : List ℕ) → HasNoLf bytes → length bytes < long_from → line_by_line header p (pieces bytes) ≡ held_at_end p bytes
 last-held header p bytes none few =
     let short : nat_le long_from (length bytes) ≡ false = grind (arith, nat_tests) in
     ap (line_by_line header p) (pieces-one bytes none) ∙ rw short refl
 
-last-refused : (header : List ℕ) (p : Progress) (bytes : List ℕ) → HasNoLf bytes → long_from ≤ length bytes → line_by_line header p (pieces bytes) ≡ line_refused p
+last-refused : (header : List ℕ) (p : JournalProgress) (bytes : List ℕ) → HasNoLf bytes → long_from ≤ length bytes → line_by_line header p (pieces bytes) ≡ line_refused p
 last-refused header p bytes none many =
     let long : nat_le long_from (length bytes) ≡ true = grind (arith, nat_tests) in
     ap (line_by_line header p) (pieces-one bytes none) ∙ rw long refl
 
 -- bytes with one
-cut-taken : (header : List ℕ) (p : Progress) (front back : List ℕ) → HasNoLf front → length front < long_from
+cut-taken : (header : List ℕ) (p : JournalProgress) (front back : List ℕ) → HasNoLf front → length front < long_from
     → line_by_line header p (pieces (front ++ 10 ∷ back))
     ≡ goes_on (line_taken header (front ++ 10 ∷ []) p) (line_taken header (front ++ 10 ∷ []) p).refusal (line_by_line header (line_taken header (front ++ 10 ∷ []) p) (pieces back))
 cut-taken header p front back none few =
-    let q : Progress = line_taken header (front ++ 10 ∷ []) p in
+    let q : JournalProgress = line_taken header (front ++ 10 ∷ []) p in
     let short : nat_le long_from (length front) ≡ false = grind (arith, nat_tests) in
     let next = first-piece back in
     ap (line_by_line header p) (pieces-cut front back none ∙ ap (λ (l : List (List ℕ)). front ∷ l) next.are)
     ∙ rw short refl
     ∙ ap (λ (l : List (List ℕ)). goes_on q q.refusal (line_by_line header q l)) (sym next.are)
 
-cut-refused : (header : List ℕ) (p : Progress) (front back : List ℕ) → HasNoLf front → long_from ≤ length front → line_by_line header p (pieces (front ++ 10 ∷ back)) ≡ line_refused p
+cut-refused : (header : List ℕ) (p : JournalProgress) (front back : List ℕ) → HasNoLf front → long_from ≤ length front → line_by_line header p (pieces (front ++ 10 ∷ back)) ≡ line_refused p
 cut-refused header p front back none many =
     let long : nat_le long_from (length front) ≡ true = grind (arith, nat_tests) in
     let next = first-piece back in
     ap (line_by_line header p) (pieces-cut front back none ∙ ap (λ (l : List (List ℕ)). front ∷ l) next.are) ∙ rw long refl
 
 -- behind a line that was taken, or was refused
-goes-on : (header : List ℕ) (q next : Progress) (back : List ℕ) (o : Option JournalRefusal) → q.refusal ≡ o → (o ≡ None → after_bytes header q back ≡ next)
+goes-on : (header : List ℕ) (q next : JournalProgress) (back : List ℕ) (o : Option JournalRefusal) → q.refusal ≡ o → (o ≡ None → after_bytes header q back ≡ next)
     → after_bytes header q back ≡ goes_on q o next
 goes-on header q next back (Some why) is later = refused-stays header q why back is
 goes-on header q next back None is later = later refl
 
-lines-within : (n : ℕ) (header : List ℕ) (p : Progress) (bytes : List ℕ) → length bytes < n → p.refusal ≡ None → p.held ≡ []
+lines-within : (n : ℕ) (header : List ℕ) (p : JournalProgress) (bytes : List ℕ) → length bytes < n → p.refusal ≡ None → p.held ≡ []
     → after_bytes header p bytes ≡ line_by_line header p (pieces bytes)
 lines-within zero header p bytes lt none empty = absurd (omega arith)
 lines-within (suc n) header p bytes lt none empty =
@@ -105,7 +105,7 @@ lines-within (suc n) header p bytes lt none empty =
       | inl found ↦
           let front : List ℕ = found.front in
           let back : List ℕ = found.back in
-          let q : Progress = line_taken header (front ++ 10 ∷ []) p in
+          let q : JournalProgress = line_taken header (front ++ 10 ∷ []) p in
           let count : length (front ++ 10 ∷ back) ≡ length bytes = ap length (sym found.parts) in
           ap (after_bytes header p) found.parts
           ∙ elim (cases_lt (length front) long_from) [
@@ -126,5 +126,5 @@ lines-within (suc n) header p bytes lt none empty =
       ]
     ]
 
-pub lines-read : (header : List ℕ) (p : Progress) (bytes : List ℕ) → p.refusal ≡ None → p.held ≡ [] → after_bytes header p bytes ≡ line_by_line header p (pieces bytes)
+pub lines-read : (header : List ℕ) (p : JournalProgress) (bytes : List ℕ) → p.refusal ≡ None → p.held ≡ [] → after_bytes header p bytes ≡ line_by_line header p (pieces bytes)
 lines-read header p bytes none empty = lines-within (suc (length bytes)) header p bytes (omega arith) none empty

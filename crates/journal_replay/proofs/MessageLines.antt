@@ -17,7 +17,7 @@ use Rattle.message_reader.specs.Wires.{IsProper}
 use Rattle.journal_lines.specs.declared.heads.Head.{Head}
 use Rattle.journal_lines.specs.Lines.{head_object, text_of_head, text_of_message, HasTexts}
 use Rattle.journal_lines.proofs.ReadBack.{lines-again}
-use Rattle.journal_replay.specs.Reading.{message_if, message_of, message_said, without_end}
+use Rattle.journal_replay.specs.Reading.{message_if, wire_of_line, message_said, without_end}
 
 -- a line with its end
 pub record IsEnded (text : List ℕ) : Type 0 where
@@ -41,7 +41,7 @@ pub bytes_eq-same : (xs : List ℕ) → bytes_eq xs xs ≡ true
 bytes_eq-same xs = (bytes_eq-Decides xs xs).1 refl
 
 -- the text of a message is read as this message
-pub message-found : (w : Wire) → IsProper w → HasLabels w → HasTexts w → message_of (text_of_message w) ≡ Some w
+pub message-found : (w : Wire) → IsProper w → HasLabels w → HasTexts w → wire_of_line (text_of_message w) ≡ Some w
 message-found w is labels texts =
     let ended = message-ends w in
     let text : List ℕ = text_of_message w in
@@ -65,5 +65,5 @@ said-is ended (Ok (Asks q)) w is = cc
 said-is ended (Ok Flush) w is = cc
 said-is ended (Err b) w is = cc
 
-pub found-is : (ended : List ℕ) (w : Wire) → message_of ended ≡ Some w → ended ≡ text_of_message w
+pub found-is : (ended : List ℕ) (w : Wire) → wire_of_line ended ≡ Some w → ended ≡ text_of_message w
 found-is ended w is = said-is ended (line_of (without_end ended)) w is

@@ -10,7 +10,7 @@ use Rattle.message_reader.specs.declared.wire.Wire.{Wire}
 use Rattle.message_reader.specs.Spelled.{HasLabels}
 use Rattle.message_reader.specs.Wires.{IsProper}
 use Rattle.mt_io.specs.Lines.{pieces}
-use Rattle.journal_replay.specs.Reading.{Progress, accepted_in, after_wire, line_refused, line_taken, long_from}
+use Rattle.journal_replay.specs.Reading.{JournalProgress, accepted_wire, after_wire, line_refused, line_taken, long_from}
 use Rattle.journal_replay.specs.declared.refusal.JournalRefusal.{JournalRefusal}
 
 -- ---- a journal, line by line
@@ -18,11 +18,11 @@ use Rattle.journal_replay.specs.declared.refusal.JournalRefusal.{JournalRefusal}
 -- what is read of the lines of a journal, which are the pieces between its LFs, from where a line
 -- begins: the last piece is the bytes behind the last LF, which are held. The first line that is
 -- too long, or that is not taken, is refused, and ends it
-abbrev pub goes_on : Progress → Option JournalRefusal → Progress → Progress
+abbrev pub goes_on : JournalProgress → Option JournalRefusal → JournalProgress → JournalProgress
 goes_on p (Some why) next = p
 goes_on p None next = next
 
-abbrev pub held_at_end : Progress → List ℕ → Progress
+abbrev pub held_at_end : JournalProgress → List ℕ → JournalProgress
 held_at_end p rest = record {
   service = p.service;
   messages = p.messages;
@@ -31,7 +31,7 @@ held_at_end p rest = record {
   refusal = p.refusal;
 }
 
-abbrev pub line_by_line : List ℕ → Progress → List (List ℕ) → Progress
+abbrev pub line_by_line : List ℕ → JournalProgress → List (List ℕ) → JournalProgress
 line_by_line header p [] = p
 line_by_line header p (rest ∷ []) =
     if nat_le long_from (length rest) then line_refused p else held_at_end p rest
@@ -53,7 +53,7 @@ after_wires s ws = fold after_wire s ws
 -- each message is accepted in the service after those before it
 abbrev pub AreTaken : ServiceState → List Wire → Type 0
 AreTaken s [] = Unit {0}
-AreTaken s (w ∷ ws) = IsSome (accepted_in s w) × AreTaken (after_wire s w) ws
+AreTaken s (w ∷ ws) = IsSome (accepted_wire s w) × AreTaken (after_wire s w) ws
 
 -- a message behind others, if there is one
 abbrev pub behind : Option Message → List Message → List Message
@@ -63,7 +63,7 @@ behind None ms = ms
 -- these messages by number
 abbrev pub messages_in : ServiceState → List Wire → List Message
 messages_in s [] = []
-messages_in s (w ∷ ws) = behind (accepted_in s w) (messages_in (after_wire s w) ws)
+messages_in s (w ∷ ws) = behind (accepted_wire s w) (messages_in (after_wire s w) ws)
 
 -- it is a message as messages are read, and its line is not too long
 pub record CanBeWritten (w : Wire) : Type 0 where
@@ -78,7 +78,7 @@ pub record CanBeHead (head : Head) : Type 0 where
 
 -- so far such bytes are read: they are not refused, each whole line was taken, and the service
 -- stands behind the first messages, as many as there are whole lines behind the header
-pub record IsReadSoFar (s : ServiceState) (ws : List Wire) (bytes : List ℕ) (p : Progress) : Type 0 where
+pub record IsReadSoFar (s : ServiceState) (ws : List Wire) (bytes : List ℕ) (p : JournalProgress) : Type 0 where
   pub not_refused : p.refusal ≡ None
   pub lines : length (pieces bytes) ≡ p.lines + 1
   pub within : p.lines ≤ length ws + 1

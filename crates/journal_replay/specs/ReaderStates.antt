@@ -4,7 +4,7 @@ use Rattle.std.specs.declared.option.Option.{Option}
 use mathlib.Core.List.{IsPrefix}
 use Rattle.delay_model.specs.declared.messages.Message.{Message}
 use Rattle.information_service.specs.ServiceState.{ServiceState}
-use Rattle.journal_replay.specs.Reading.{Progress, after_bytes, long_from, refused}
+use Rattle.journal_replay.specs.Reading.{JournalProgress, after_bytes, long_from, refused}
 use Rattle.journal_replay.specs.declared.refusal.JournalRefusal.{JournalRefusal}
 use Rattle.journal_replay.specs.declared.refusal.JournalRefusal.TheVariants.{Header, Line, OutOfMemory}
 
@@ -17,7 +17,7 @@ pub record ReaderState : Type 0 where
   pub refusal : Option JournalRefusal
 
 -- how far a journal is read by such a reader, whose messages made this service
-abbrev pub progress : ReaderState → ServiceState → List Message → Progress
+abbrev pub progress : ReaderState → ServiceState → List Message → JournalProgress
 progress r s messages = record {
   service = s;
   messages = messages;
@@ -56,47 +56,47 @@ IsNotHeld old bytes OutOfMemory = Unit {0}
 -- ---- bytes
 
 -- so far the reader has read, and who takes its messages stands there
-pub record IsAt {T : Type 0} (Stands : T → ServiceState → List Message → Type 0) (holder : T)
-    (reader : ReaderState) (p : Progress) : Type 0 where
+pub record IsAt {T : Type 0} (Stands : T → ServiceState → List Message → Type 0) (taker : T)
+    (reader : ReaderState) (p : JournalProgress) : Type 0 where
   pub reads : p ≡ progress reader p.service p.messages
-  pub stands : Stands holder p.service p.messages
+  pub stands : Stands taker p.service p.messages
 
 -- wherever the reader and who takes its messages stood, they stand behind these bytes now
 abbrev pub HasRead : {T : Type 0} → (T → ServiceState → List Message → Type 0) → T → ReaderState
     → List ℕ → T → ReaderState → Type 0
-HasRead Stands holder reader bytes holder_now reader_now = (p : Progress)
-    → IsAt Stands holder reader p
-    → IsAt Stands holder_now reader_now (after_bytes reader.header p bytes)
+HasRead Stands taker reader bytes taker_now reader_now = (p : JournalProgress)
+    → IsAt Stands taker reader p
+    → IsAt Stands taker_now reader_now (after_bytes reader.header p bytes)
 
 -- so far a journal is read that is then refused for this
-pub record StopsAt {T : Type 0} (Stands : T → ServiceState → List Message → Type 0) (holder : T)
-    (lines : ℕ) (why : JournalRefusal) (end : Progress) : Type 0 where
-  pub last : Progress
+pub record StopsAt {T : Type 0} (Stands : T → ServiceState → List Message → Type 0) (taker : T)
+    (lines : ℕ) (why : JournalRefusal) (end : JournalProgress) : Type 0 where
+  pub last : JournalProgress
   pub refused_there : end ≡ refused why last
   pub lines_are : last.lines ≡ lines
-  pub stands : Stands holder last.service last.messages
+  pub stands : Stands taker last.service last.messages
 
 -- so far a journal is read where there was no memory to go on: who takes its messages stands behind
 -- a beginning of these bytes
-pub record BreaksOff {T : Type 0} (Stands : T → ServiceState → List Message → Type 0) (holder : T)
-    (reader : ReaderState) (bytes : List ℕ) (holder_now : T) (lines : ℕ) : Type 0 where
+pub record BreaksOff {T : Type 0} (Stands : T → ServiceState → List Message → Type 0) (taker : T)
+    (reader : ReaderState) (bytes : List ℕ) (taker_now : T) (lines : ℕ) : Type 0 where
   pub front : List ℕ
   pub begins : IsPrefix front bytes
-  pub lines_are : (p : Progress) → IsAt Stands holder reader p
+  pub lines_are : (p : JournalProgress) → IsAt Stands taker reader p
       → (after_bytes reader.header p front).lines ≡ lines
-  pub stands : (p : Progress) → IsAt Stands holder reader p
-      → Stands holder_now (after_bytes reader.header p front).service
+  pub stands : (p : JournalProgress) → IsAt Stands taker reader p
+      → Stands taker_now (after_bytes reader.header p front).service
       (after_bytes reader.header p front).messages
 
 -- why these bytes are not read to their end: wherever the reader and who takes its messages stood,
 -- they stand behind the lines before the one that is refused now; or there was no memory
 abbrev pub StopsIn : {T : Type 0} → (T → ServiceState → List Message → Type 0) → T → ReaderState
     → List ℕ → T → ReaderState → JournalRefusal → Type 0
-StopsIn Stands holder reader bytes holder_now reader_now Header = (p : Progress)
-    → IsAt Stands holder reader p
-    → StopsAt Stands holder_now reader_now.lines Header (after_bytes reader.header p bytes)
-StopsIn Stands holder reader bytes holder_now reader_now (Line line) = (p : Progress)
-    → IsAt Stands holder reader p
-    → StopsAt Stands holder_now reader_now.lines (Line line) (after_bytes reader.header p bytes)
-StopsIn Stands holder reader bytes holder_now reader_now OutOfMemory =
-    BreaksOff Stands holder reader bytes holder_now reader_now.lines
+StopsIn Stands taker reader bytes taker_now reader_now Header = (p : JournalProgress)
+    → IsAt Stands taker reader p
+    → StopsAt Stands taker_now reader_now.lines Header (after_bytes reader.header p bytes)
+StopsIn Stands taker reader bytes taker_now reader_now (Line line) = (p : JournalProgress)
+    → IsAt Stands taker reader p
+    → StopsAt Stands taker_now reader_now.lines (Line line) (after_bytes reader.header p bytes)
+StopsIn Stands taker reader bytes taker_now reader_now OutOfMemory =
+    BreaksOff Stands taker reader bytes taker_now reader_now.lines

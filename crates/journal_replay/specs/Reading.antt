@@ -32,14 +32,14 @@ abbrev pub without_end : List ℕ → List ℕ
 without_end ended = take (length ended - 1) ended
 
 -- the message whose line this is, with its end, if it is the line of a message
-abbrev pub message_of : List ℕ → Option Wire
-message_of ended = message_said ended (line_of (without_end ended))
+abbrev pub wire_of_line : List ℕ → Option Wire
+wire_of_line ended = message_said ended (line_of (without_end ended))
 
 -- ---- a message
 
 -- the message by number, if it is accepted in this state of a service
-abbrev pub accepted_in : ServiceState → Wire → Option Message
-accepted_in s w = accepted_message s.network s.state (resolved s.names w)
+abbrev pub accepted_wire : ServiceState → Wire → Option Message
+accepted_wire s w = accepted_message s.network s.state (resolved s.names w)
 
 -- the service after it
 abbrev pub after_wire : ServiceState → Wire → ServiceState
@@ -47,7 +47,7 @@ after_wire s w = after_message s w (resolved s.names w)
 
 -- ---- how far a journal is read
 
-pub record Progress : Type 0 where
+pub record JournalProgress : Type 0 where
   -- the service after the messages that were read
   pub service : ServiceState
   -- these messages, by number
@@ -60,11 +60,11 @@ pub record Progress : Type 0 where
   pub refusal : Option JournalRefusal
 
 -- nothing was read, and this is the service
-abbrev pub nothing_read : ServiceState → Progress
+abbrev pub nothing_read : ServiceState → JournalProgress
 nothing_read s = record { service = s; messages = []; lines = 0; held = []; refusal = None }
 
 -- the journal is refused for this
-abbrev pub refused : JournalRefusal → Progress → Progress
+abbrev pub refused : JournalRefusal → JournalProgress → JournalProgress
 refused why p = record {
   service = p.service;
   messages = p.messages;
@@ -74,13 +74,13 @@ refused why p = record {
 }
 
 -- the line that is being read is refused
-abbrev pub line_refused : Progress → Progress
+abbrev pub line_refused : JournalProgress → JournalProgress
 line_refused p = refused (Line (p.lines + 1)) p
 
 -- ---- a line
 
 -- the first line is taken: it is the header, or the journal is refused
-abbrev pub header_taken : List ℕ → List ℕ → Progress → Progress
+abbrev pub header_taken : List ℕ → List ℕ → JournalProgress → JournalProgress
 header_taken header ended p = if bytes_eq ended header then record {
   service = p.service;
   messages = p.messages;
@@ -90,7 +90,7 @@ header_taken header ended p = if bytes_eq ended header then record {
 } else refused Header p
 
 -- a message is taken, if it is accepted as this one; else its line is refused
-abbrev pub taken_as : Progress → Wire → Option Message → Progress
+abbrev pub taken_as : JournalProgress → Wire → Option Message → JournalProgress
 taken_as p w None = line_refused p
 taken_as p w (Some m) = record {
   service = after_wire p.service w;
@@ -101,14 +101,14 @@ taken_as p w (Some m) = record {
 }
 
 -- the line of this message, if it is one, is taken
-abbrev pub message_taken : Progress → Option Wire → Progress
+abbrev pub message_taken : JournalProgress → Option Wire → JournalProgress
 message_taken p None = line_refused p
-message_taken p (Some w) = taken_as p w (accepted_in p.service w)
+message_taken p (Some w) = taken_as p w (accepted_wire p.service w)
 
 -- a line with its end is taken: the first as the header, and any other as that of a message
-abbrev pub line_taken : List ℕ → List ℕ → Progress → Progress
+abbrev pub line_taken : List ℕ → List ℕ → JournalProgress → JournalProgress
 line_taken header ended p = if nat_eq p.lines 0 then header_taken header ended p
-    else message_taken p (message_of ended)
+    else message_taken p (wire_of_line ended)
 
 -- ---- a byte
 
@@ -117,7 +117,7 @@ abbrev pub long_from : ℕ
 long_from = 1048576
 
 -- a byte that ends no line is held, unless the line gets too long
-abbrev pub byte_held : ℕ → Progress → Progress
+abbrev pub byte_held : ℕ → JournalProgress → JournalProgress
 byte_held b p = if nat_le long_from (length p.held + 1) then line_refused p else record {
   service = p.service;
   messages = p.messages;
@@ -127,14 +127,14 @@ byte_held b p = if nat_le long_from (length p.held + 1) then line_refused p else
 }
 
 -- a byte is read: where the journal is refused nothing happens; an LF ends a line
-abbrev pub byte_read : List ℕ → Progress → ℕ → Option JournalRefusal → Progress
+abbrev pub byte_read : List ℕ → JournalProgress → ℕ → Option JournalRefusal → JournalProgress
 byte_read header p b (Some why) = p
 byte_read header p b None = if nat_eq b 10 then line_taken header (p.held ++ 10 ∷ []) p
     else byte_held b p
 
-abbrev pub after_byte : List ℕ → Progress → ℕ → Progress
+abbrev pub after_byte : List ℕ → JournalProgress → ℕ → JournalProgress
 after_byte header p b = byte_read header p b p.refusal
 
 -- these bytes are read
-abbrev pub after_bytes : List ℕ → Progress → List ℕ → Progress
+abbrev pub after_bytes : List ℕ → JournalProgress → List ℕ → JournalProgress
 after_bytes header p bytes = fold (after_byte header) p bytes

@@ -9,11 +9,11 @@ ghost use Rattle.message_reader.specs.declared.wire.Wire.{Wire as AWire};
 ghost use Rattle.mt_io.specs.Lines.{pieces};
 ghost use Rattle.std.specs.Prelude.{All};
 ghost use Rattle.journal_replay.specs.Journals.{journal_of, line_by_line, AreTaken, CanBeHead, CanBeWritten, IsReadSoFar};
-ghost use Rattle.journal_replay.specs.Reading.{Progress, after_bytes, message_of, nothing_read};
+ghost use Rattle.journal_replay.specs.Reading.{JournalProgress, after_bytes, wire_of_line, nothing_read};
 
 /// However bytes are cut into pieces, the pieces lead where the bytes lead.
 pub fn pieces_are_read_as_one()
-    ensures { (header : List ℕ) (p : Progress) (first second : List ℕ)
+    ensures { (header : List ℕ) (p : JournalProgress) (first second : List ℕ)
         → after_bytes header (after_bytes header p first) second
         ≡ after_bytes header p (first ++ second) }
 {}
@@ -21,15 +21,15 @@ pub fn pieces_are_read_as_one()
 /// A journal is read line by line: its lines are the pieces between its LFs, and what stands behind
 /// the last LF is held.
 pub fn journals_are_read_line_by_line()
-    ensures { (header : List ℕ) (p : Progress) (bytes : List ℕ) → p.refusal ≡ None
+    ensures { (header : List ℕ) (p : JournalProgress) (bytes : List ℕ) → p.refusal ≡ None
         → p.held ≡ [] → after_bytes header p bytes ≡ line_by_line header p (pieces bytes) }
 {}
 
 /// A line behind the header is the line of a message exactly where it is the text of a message that
 /// can be written, and then of this one alone.
 pub fn lines_are_those_of_messages()
-    ensures written { (w : AWire) → CanBeWritten w → message_of (text_of_message w) ≡ Some w }
-    ensures read { (ended : List ℕ) (w : AWire) → message_of ended ≡ Some w
+    ensures written { (w : AWire) → CanBeWritten w → wire_of_line (text_of_message w) ≡ Some w }
+    ensures read { (ended : List ℕ) (w : AWire) → wire_of_line ended ≡ Some w
         → ended ≡ text_of_message w }
 {}
 

@@ -5,7 +5,7 @@ ghost use Rattle.delay_model.specs.declared.messages.Message.{Message};
 ghost use Rattle.information_service.specs.ServiceState.{ServiceState};
 ghost use Rattle.journal_lines.specs.Lines.{text_of_message};
 ghost use Rattle.message_reader.specs.Wires.{IsProper, IsWire};
-ghost use Rattle.journal_replay.specs.Reading.{message_if, message_of};
+ghost use Rattle.journal_replay.specs.Reading.{message_if, wire_of_line};
 ghost use Rattle.journal_replay.specs.Taking.{IsJudged, IsLineTaken, IsReadyFor};
 
 use crate::refusal::JournalRefusal;
@@ -38,10 +38,10 @@ fn message_if(alloc: Global, message: Wire, ended: &[u8]) -> Result<Option<Wire>
 }
 
 /// The message whose line this is, if it is the line of a message.
-fn message_of(alloc: Global, ended: &[u8]) -> Result<Option<Wire>, OutOfMemory>
+fn wire_of_line(alloc: Global, ended: &[u8]) -> Result<Option<Wire>, OutOfMemory>
     requires some { 1 ≤ length ended.now }
     requires few { length ended.now < 2 ^ 31 }
-    ensures message { IfOk result (λ found. found ≡ message_of ended.now) }
+    ensures message { IfOk result (λ found. found ≡ wire_of_line ended.now) }
     ensures wire { IfOk result (λ found. IfSome found IsWire) }
 {
     match read_line(alloc, &ended[..ended.len() - 1]) {
@@ -56,19 +56,19 @@ fn message_of(alloc: Global, ended: &[u8]) -> Result<Option<Wire>, OutOfMemory>
 fn take_line<T: TakeJournal<R>, R>(
     alloc: Global,
     rt: &R,
-    holder: &mut T,
+    taker: &mut T,
     ended: &[u8],
 ) -> Result<bool, OutOfMemory>
     requires some { 1 ≤ length ended.now }
     requires few { length ended.now < 2 ^ 31 }
-    requires ready { IsReadyFor T.stands holder.old 1 }
+    requires ready { IsReadyFor T.stands taker.old 1 }
     ensures taken { IfOk result (λ taken. (s : ServiceState) (before : List Message)
-        → T.stands holder.old s before
-        → IsLineTaken T.stands s before (message_of ended.now) holder.new taken) }
-    ensures unchanged { IfErr result (λ _. holder.new ≡ holder.old) }
+        → T.stands taker.old s before
+        → IsLineTaken T.stands s before (wire_of_line ended.now) taker.new taken) }
+    ensures unchanged { IfErr result (λ _. taker.new ≡ taker.old) }
 {
-    match message_of(alloc, ended)? {
-        Some(message) => holder.take(alloc, rt, message),
+    match wire_of_line(alloc, ended)? {
+        Some(message) => taker.take(alloc, rt, message),
         None => Ok(false),
     }
 }
@@ -78,7 +78,7 @@ fn take_line<T: TakeJournal<R>, R>(
 pub(crate) fn judge<T: TakeJournal<R>, R>(
     alloc: Global,
     rt: &R,
-    holder: &mut T,
+    taker: &mut T,
     header: &[u8],
     lines: u64,
     ended: &[u8],
@@ -86,9 +86,9 @@ pub(crate) fn judge<T: TakeJournal<R>, R>(
     requires lines { lines < 2 ^ 64 - 1 }
     requires some { 1 ≤ length ended.now }
     requires few { length ended.now < 2 ^ 31 }
-    requires ready { IsReadyFor T.stands holder.old 1 }
-    ensures judged { (s : ServiceState) (before : List Message) → T.stands holder.old s before
-        → IsJudged T.stands header.now lines s before ended.now holder.new result }
+    requires ready { IsReadyFor T.stands taker.old 1 }
+    ensures judged { (s : ServiceState) (before : List Message) → T.stands taker.old s before
+        → IsJudged T.stands header.now lines s before ended.now taker.new result }
 {
     if lines == 0 {
         if ended == header {
@@ -96,7 +96,7 @@ pub(crate) fn judge<T: TakeJournal<R>, R>(
         }
         return Err(JournalRefusal::Header);
     }
-    if take_line::<T, R>(alloc, rt, holder, ended)? {
+    if take_line::<T, R>(alloc, rt, taker, ended)? {
         return Ok(());
     }
     Err(JournalRefusal::Line { line: lines + 1 })

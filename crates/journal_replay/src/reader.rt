@@ -116,13 +116,13 @@ impl JournalReader {
         &mut self,
         alloc: Global,
         rt: &R,
-        holder: &mut T,
+        taker: &mut T,
     ) -> Result<(), JournalRefusal>
         requires lines { self.old.lines < 2 ^ 64 - 1 }
-        requires ready { IsReadyFor T.stands holder.old 1 }
-        ensures judged { (s : ServiceState) (before : List Message) → T.stands holder.old s before
+        requires ready { IsReadyFor T.stands taker.old 1 }
+        ensures judged { (s : ServiceState) (before : List Message) → T.stands taker.old s before
             → IsJudged T.stands self.old.header self.old.lines s before
-            (self.old.held ++ 10 ∷ []) holder.new result }
+            (self.old.held ++ 10 ∷ []) taker.new result }
         ensures ended { OnOk result (self.new ≡ record {
           header = self.old.header;
           lines = self.old.lines + 1;
@@ -139,7 +139,7 @@ impl JournalReader {
         let judged = judge::<T, R>(
             alloc,
             rt,
-            holder,
+            taker,
             self.header.as_slice(),
             self.lines,
             self.held.as_slice(),
@@ -155,15 +155,15 @@ impl JournalReader {
         &mut self,
         alloc: Global,
         rt: &R,
-        holder: &mut T,
+        taker: &mut T,
         piece: &[u8],
     ) -> Result<(), JournalRefusal>
         requires not_refused { self.old.refusal ≡ None }
         requires lines { self.old.lines < 2 ^ 63 }
-        requires ready { IsReadyFor T.stands holder.old (length piece.now) }
-        ensures read { OnOk result (HasRead T.stands holder.old self.old piece.now holder.new
+        requires ready { IsReadyFor T.stands taker.old (length piece.now) }
+        ensures read { OnOk result (HasRead T.stands taker.old self.old piece.now taker.new
             self.new) }
-        ensures stops { IfErr result (StopsIn T.stands holder.old self.old piece.now holder.new
+        ensures stops { IfErr result (StopsIn T.stands taker.old self.old piece.now taker.new
             self.new) }
         ensures not_refused { self.new.refusal ≡ None }
         ensures header { self.new.header ≡ self.old.header }
@@ -171,13 +171,13 @@ impl JournalReader {
         let mut rest = piece;
         while let Some(end) = first_lf(rest) {
             self.hold(&rest[..end])?;
-            self.end_line::<T, R>(alloc, rt, holder)?;
+            self.end_line::<T, R>(alloc, rt, taker)?;
             rest = &rest[end + 1..];
         }
         self.hold(rest)
     }
 
-    /// Reads the next bytes of the journal, and gives the messages of its whole lines to `holder`,
+    /// Reads the next bytes of the journal, and gives the messages of its whole lines to `taker`,
     /// who took those before. It answers how many messages were read so far. It fails with `Line`
     /// at the first line that is too long, whether it is whole or not, or, behind the header, is
     /// not the line of a message that is accepted there, and with `Header` where the first whole
@@ -188,25 +188,25 @@ impl JournalReader {
         &mut self,
         alloc: Global,
         rt: &R,
-        holder: &mut T,
+        taker: &mut T,
         piece: &[u8],
     ) -> Result<u64, JournalRefusal>
         requires lines { self.old.lines < 2 ^ 63 }
         requires ready { self.old.refusal ≡ None
-            → IsReadyFor T.stands holder.old (length piece.now) }
-        ensures read { result ≢ Err OutOfMemory → HasRead T.stands holder.old self.old piece.now
-            holder.new self.new }
+            → IsReadyFor T.stands taker.old (length piece.now) }
+        ensures read { result ≢ Err OutOfMemory → HasRead T.stands taker.old self.old piece.now
+            taker.new self.new }
         ensures answer { result ≡ answer self.new }
         ensures memory { result ≡ Err OutOfMemory → self.old.refusal ≡ None → BreaksOff T.stands
-            holder.old self.old piece.now holder.new self.new.lines }
+            taker.old self.old piece.now taker.new self.new.lines }
         ensures refused { (why : AJournalRefusal) → self.old.refusal ≡ Some why
-            → (result ≡ Err why) × (self.new ≡ self.old) × (holder.new ≡ holder.old) }
+            → (result ≡ Err why) × (self.new ≡ self.old) × (taker.new ≡ taker.old) }
         ensures header { self.new.header ≡ self.old.header }
     {
         if let Some(refusal) = self.refusal {
             return Err(refusal);
         }
-        match self.read_piece::<T, R>(alloc, rt, holder, piece) {
+        match self.read_piece::<T, R>(alloc, rt, taker, piece) {
             Ok(()) => Ok(self.lines.saturating_sub(1)),
             Err(refusal) => {
                 self.held.clear();

@@ -12,7 +12,7 @@ pub trait TakeJournal<R> {
     ghost use Rattle.delay_model.specs.declared.messages.Message.{Message};
     ghost use Rattle.information_service.specs.ServiceState.{ServiceState};
     ghost use Rattle.message_reader.specs.Wires.{IsWire};
-    ghost use Rattle.journal_replay.specs.Taking.{IsReadyFor, IsTaken};
+    ghost use Rattle.journal_replay.specs.Taking.{IsReadyFor, IsWireTaken};
 
     /// It stands as a service in this state, after these messages.
     ghost stands: { Self → ServiceState → List Message → Type 0 };
@@ -23,7 +23,7 @@ pub trait TakeJournal<R> {
         requires wire { IsWire wire }
         requires ready { IsReadyFor stands self.old 1 }
         ensures taken { IfOk result (λ taken. (s : ServiceState) (before : List Message)
-            → stands self.old s before → IsTaken stands s before wire self.new taken) }
+            → stands self.old s before → IsWireTaken stands s before wire self.new taken) }
         ensures unchanged { IfErr result (λ _. self.new ≡ self.old) };
 }
 

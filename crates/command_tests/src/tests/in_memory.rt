@@ -1,14 +1,14 @@
 //! A run over objects in memory that cannot fail.
 
-ghost use Rattle.std.specs.Prelude.{◌≡◌, ◌≤◌, ◌⊎◌, ◌+◌, [], List, ℕ, Some, true, false, length};
+ghost use Rattle.std.specs.Prelude.{◌≡◌, ◌≤◌, ◌⊎◌, ◌+◌, ◌^◌, [], List, ℕ, Some, true, false, length};
 ghost use Rattle.std.specs.Prelude.{map, string_bytes};
 ghost use Rattle.command_words.specs.GenWords.{gen_asked_of, is_gen};
 ghost use Rattle.command_words.specs.declared.gen_words.AskedGen.{AskedGen as Generated};
 ghost use Rattle.mt_io.specs.Tables.{table_in};
+ghost use Rattle.commands.specs.Commands.{command_named, task_for};
 ghost use Rattle.commands.specs.Failing.{IsFrontWritten};
 ghost use Rattle.commands.specs.Runs.{CanEnd};
 ghost use Rattle.commands.specs.Summaries.{IsOnlySummary};
-ghost use Rattle.commands.specs.Tasks.{feed_task};
 
 use commands::{Status, traind_within};
 use mt_io::{MemFeed, MemSink, MemSource, NoGate, SureFeed, SureSink, SureSource};
@@ -28,7 +28,7 @@ pub fn run_in_memory<R: Threads + Wait + Sync>(
     out: &mut MemSink,
     budget: u64,
 ) -> Status
-    requires budget { 1 ≤ budget }
+    requires budget { (1 ≤ budget) × (budget ≤ 2 ^ 63) }
     requires command { is_gen (map string_bytes words.now) ≡ false }
 
     // no call is to fail
@@ -37,9 +37,11 @@ pub fn run_in_memory<R: Threads + Wait + Sync>(
     requires out { out.old.failing ≡ [] }
 
     // what is asked can be answered, and there is room for it
-    requires can_end { CanEnd feed_task (map string_bytes words.now)
-        (Some (table_in feed.old.tables)) (Some input.old.left) budget }
-    requires room { (written : List ℕ) → IsFrontWritten feed_task budget
+    requires can_end { CanEnd (task_for (command_named (map string_bytes words.now))).task
+        (map string_bytes words.now) (Some (table_in feed.old.tables)) (Some input.old.left)
+        budget }
+    requires room { (written : List ℕ) → IsFrontWritten
+        (task_for (command_named (map string_bytes words.now))).task budget
         (map string_bytes words.now) (Some (table_in feed.old.tables)) (Some input.old.left)
         (Some out.old.held) (Some written) → length written ≤ out.old.room }
 

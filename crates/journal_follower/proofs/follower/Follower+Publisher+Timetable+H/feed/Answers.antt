@@ -10,7 +10,7 @@ feed-requires-clause-ready g c = λ none.
     can-read ready lines (omega arith) none
 
 fed : (g : Over) (c : goal.After-feed g) → IsFed g.H.Opening.opening (record { reader = c.self.inside.reader; board = c.self.inside.board })
-    (record { reader = c.feed.new.self; board = c.feed.new.holder }) c.args.piece.now c.feed.result
+    (record { reader = c.feed.new.self; board = c.feed.new.taker }) c.args.piece.now c.feed.result
 fed g c = record {
   ready = rw (← c.self.view_is) at c.requires.ready;
   read = c.feed.ensures.read;

@@ -7,11 +7,11 @@ abbrev pub invariant-loop-end : goal.invariant-loop-end
 invariant-loop-end g l = record {
   front : List ℕ;
   split : front ++ l.rest ≡ l.piece;
-  read : HasRead g.T.TakeJournal.stands l.initial.holder l.initial.self front l.holder l.self;
+  read : HasRead g.T.TakeJournal.stands l.initial.taker l.initial.self front l.taker l.self;
   header : l.self.header ≡ l.initial.self.header;
   not_refused : l.self.refusal ≡ None;
   few : l.self.lines + length l.rest ≤ l.initial.self.lines + length l.piece;
-  ready : IsReadyFor g.T.TakeJournal.stands l.holder (length l.rest);
+  ready : IsReadyFor g.T.TakeJournal.stands l.taker (length l.rest);
 }
 
 abbrev pub decreases-loop-end : goal.decreases-loop-end
