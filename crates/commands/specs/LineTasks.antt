@@ -1,6 +1,5 @@
--- What a command is to do that answers line by line and takes a table of its own or keeps
--- something: what it loads behind the feed, which is a table of the feed's folder that is its own,
--- and what it writes.
+-- What a command is to do that answers line by line: what it loads behind the feed, which may be a
+-- table of the feed's folder that is its own, and what it writes.
 use Rattle.std.specs.Prelude.{ℕ, ◌≡◌, ◌⊎◌, ◌++◌, List, [], Bool, false, nat_lt, if◌then◌else◌, codes, length, Result, Ok, Err, None, Some}
 use Rattle.std.specs.declared.option.Option.{Option}
 use Rattle.command_words.specs.Words.{Asked}

@@ -136,9 +136,8 @@ fn answer_words<T: AnswerLines<C>, L: LoadBehind<C>, C: Drop, F: Feed, S: Source
 }
 
 /// All that the program does for a command that answers line by line, by the words and options of
-/// `times`, and takes a table of its own or keeps something: it reads the tables of the feed and,
-/// as `L` says, a table of the feed's folder that is the command's own, and begins with what it
-/// makes of them, or refuses them. Then it answers each line of the input at once, as `T` says,
+/// `times`: it reads the tables of the feed and, where `L` says so, a table of the feed's folder
+/// that is the command's own, and begins with what it makes of them, or refuses them. Then it answers each line of the input at once, as `T` says,
 /// with what stands before the first line and behind the last. Whatever it begins with, the service
 /// and what is kept have to fit each other as `T` says. It stops where `budget` bytes of the input
 /// were taken and no end was read. It waits for nobody and returns.

@@ -25,8 +25,8 @@ pub fn journals_are_read_line_by_line()
         → p.held ≡ [] → after_bytes header p bytes ≡ line_by_line header p (pieces bytes) }
 {}
 
-/// A line behind the header is the line of a message exactly where it is the text of a message that
-/// can be written, and then of this one alone.
+/// The line of a message that can be written is read as that message; and whatever line is read as
+/// a message is that message's line, byte for byte.
 pub fn lines_are_those_of_messages()
     ensures written { (w : AWire) → CanBeWritten w → wire_of_line (text_of_message w) ≡ Some w }
     ensures read { (ended : List ℕ) (w : AWire) → wire_of_line ended ≡ Some w
