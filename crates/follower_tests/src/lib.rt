@@ -1,0 +1,9 @@
+//! Tests of what only a run can show of a follower: that it reads a journal however its bytes come,
+//! finds memory for that, and ends. They stand in a crate of their own, since a crate with tests is
+//! proved twice.
+#![tactic(auto)]
+
+#[cfg(test)]
+mod example;
+#[cfg(test)]
+mod pieces;
