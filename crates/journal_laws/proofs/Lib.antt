@@ -2,5 +2,8 @@ pub mod Accepted
 pub mod Counted
 pub mod InModel
 pub mod Parts
+pub mod ReadMessages
+pub mod ReadTexts
+pub mod Texts
 pub mod WholeRead
 pub mod Written

@@ -1,6 +1,7 @@
 -- What `journal` writes for the lines of an input is the journal of the messages that it accepts.
 use Rattle.std.proofs.Common.{◌≡◌, ℕ, ◌+◌, List, [], ◌∷◌, ◌++◌, All, Option, Some, None, Result, Ok, Err, refl, sym, ap, ◌∙◌, subst, map, append-nil}
 use Rattle.std.specs.List.{concat}
+use Rattle.std.proofs.lemmas.List.Elements.{All-cons, All-nil}
 use mathlib.Core.List.{IsPrefix}
 use Rattle.delay_model.specs.declared.messages.Message.{Message}
 use Rattle.information_service.specs.Answering.{AreAnsweredBy, IsBeginning, IsWhole}
@@ -10,15 +11,16 @@ use Rattle.message_reader.specs.declared.bad_line.BadLine.{BadLine}
 use Rattle.message_reader.specs.declared.wire.Line.{Line as Spoken}
 use Rattle.message_reader.specs.declared.wire.Line.TheVariants.{Message as Says, Query as Asks, Flush}
 use Rattle.message_reader.specs.declared.wire.Wire.{Wire}
-use Rattle.mt_io.specs.Lines.{Line}
+use Rattle.mt_io.specs.Lines.{Line, long, short}
 use Rattle.journal_lines.specs.declared.heads.Head.{Head}
 use Rattle.journal_lines.specs.Lines.{text_of_head, text_of_message}
 use Rattle.journal_answers.specs.JournaledLines.{accepted_text, journal_output, said_text}
 use Rattle.journal_replay.specs.Journals.{after_wires, journal_of, messages_in, AreTaken, CanBeHead, CanBeWritten, IsReadSoFar}
 use Rattle.journal_replay.specs.Reading.{accepted_wire, after_bytes, after_wire, nothing_read}
 use Rattle.journal_replay.proofs.Beginnings.{journal-read}
-use Rattle.journal_laws.specs.Journaled.{accepted_wires, after_lines, in_front, read_behind, said_in_front}
+use Rattle.journal_laws.specs.Journaled.{accepted_wires, after_lines, in_front, read_behind, said_in_front, HasShortLine}
 use Rattle.journal_laws.proofs.Accepted.{refused-leaves}
+use Rattle.journal_laws.proofs.ReadMessages.{IsRead, IsReadMessage, Said, line-said}
 use Rattle.journal_laws.proofs.WholeRead.{whole-read}
 
 -- the lines of messages
@@ -65,6 +67,32 @@ answers-are t header n (x ∷ xs) bytes now header_now (text, rest, next, header
     ∙ ap (λ (s : ServiceState). said_text t (said_by x) ++ texts (accepted_wires s xs)) one.leaves
     ∙ (said-leads t (said_by x) (accepted_wires (after_line t x) xs)).written
 
+-- ---- what was read of the lines
+
+in-front-read : (w : Wire) (o : Option Message) (ws : List Wire) → IsReadMessage w → All IsReadMessage ws → All IsReadMessage (in_front w o ws)
+in-front-read w (Some m) ws is all = All-cons IsReadMessage w ws is all
+in-front-read w None ws is all = all
+
+said-read : (t : ServiceState) (said : Result Spoken BadLine) (ws : List Wire) → Said IsRead said → All IsReadMessage ws → All IsReadMessage (said_in_front t said ws)
+said-read t (Ok (Says w)) ws is all = in-front-read w (accepted_wire t w) ws is all
+said-read t (Ok (Asks q)) ws is all = all
+said-read t (Ok Flush) ws is all = all
+said-read t (Err bad) ws is all = all
+
+input-said : (x : Line) → Said IsRead (said_by x)
+input-said long = tt
+input-said (short bytes) = line-said bytes
+
+lines-are-read : (t : ServiceState) (lines : List Line) → All IsReadMessage (accepted_wires t lines)
+lines-are-read t [] = All-nil IsReadMessage
+lines-are-read t (x ∷ xs) = said-read t (said_by x) (accepted_wires (after_line t x) xs) (input-said x) (lines-are-read (after_line t x) xs)
+
+-- so those whose lines are not too long can be written
+can-be-written : (t : ServiceState) (lines : List Line) → All HasShortLine (accepted_wires t lines) → All CanBeWritten (accepted_wires t lines)
+can-be-written t lines few k d within =
+    let is = lines-are-read t lines k d within in
+    record { proper = is.proper; labels = is.labels; texts = is.texts; short = few k d within }
+
 -- ---- all that is written
 
 module _ (head : Head) (t : ServiceState) (lines : List Line) (bytes : List ℕ) where
@@ -76,15 +104,16 @@ module _ (head : Head) (t : ServiceState) (lines : List Line) (bytes : List ℕ)
       w.all ∙ ap (λ (l : List ℕ). text_of_head head ++ l) (append-nil w.shown ∙ answers-are t (text_of_head head) 0 lines w.shown w.answers.now w.answers.kept_now w.answers.answers)
 
   -- and so it is read again
-  pub read-again : CanBeHead head → All CanBeWritten (accepted_wires t lines) → bytes ≡ journal_of head (accepted_wires t lines)
+  pub read-again : CanBeHead head → All HasShortLine (accepted_wires t lines) → bytes ≡ journal_of head (accepted_wires t lines)
       → after_bytes (text_of_head head) (nothing_read t) bytes ≡ read_behind t lines
-  read-again can all is =
+  read-again can few is =
+      let all = can-be-written t lines few in
       let ws : List Wire = accepted_wires t lines in
       ap (after_bytes (text_of_head head) (nothing_read t)) is
       ∙ whole-read head t ws can all (lines-taken t lines)
       ∙ ap (λ (s : ServiceState). record { service = s; messages = messages_in t ws; lines = (read_behind t lines).lines; held = []; refusal = None }) (lines-lead t lines)
 
   -- and so is every beginning
-  pub torn-read : (front : List ℕ) → CanBeHead head → All CanBeWritten (accepted_wires t lines) → bytes ≡ journal_of head (accepted_wires t lines) → IsPrefix front bytes
+  pub torn-read : (front : List ℕ) → CanBeHead head → All HasShortLine (accepted_wires t lines) → bytes ≡ journal_of head (accepted_wires t lines) → IsPrefix front bytes
       → IsReadSoFar t (accepted_wires t lines) front (after_bytes (text_of_head head) (nothing_read t) front)
-  torn-read front can all is begins = journal-read head t (accepted_wires t lines) front begins.0 can all (lines-taken t lines) (begins.1 ∙ is)
+  torn-read front can few is begins = journal-read head t (accepted_wires t lines) front begins.0 can (can-be-written t lines few) (lines-taken t lines) (begins.1 ∙ is)

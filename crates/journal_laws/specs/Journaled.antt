@@ -1,11 +1,12 @@
 -- Which messages `journal` writes for the lines of an input, and how far what it writes is read.
-use Rattle.std.specs.Prelude.{◌+◌, List, [], ◌∷◌, Result, Ok, Err, Some, None, fold, length}
+use Rattle.std.specs.Prelude.{◌≤◌, ◌+◌, List, [], ◌∷◌, Result, Ok, Err, Some, None, fold, length}
 use Rattle.std.specs.declared.option.Option.{Option}
 use Rattle.delay_model.specs.declared.messages.Message.{Message}
 use Rattle.information_service.specs.Lines.{said_by}
 use Rattle.information_service.specs.ServiceState.{ServiceState, after_line}
+use Rattle.journal_lines.specs.Lines.{text_of_message}
 use Rattle.journal_replay.specs.Journals.{messages_in}
-use Rattle.journal_replay.specs.Reading.{JournalProgress, accepted_wire}
+use Rattle.journal_replay.specs.Reading.{JournalProgress, accepted_wire, long_from}
 use Rattle.message_reader.specs.declared.bad_line.BadLine.{BadLine}
 use Rattle.message_reader.specs.declared.wire.Line.{Line as Spoken}
 use Rattle.message_reader.specs.declared.wire.Line.TheVariants.{Message as Says, Query as Asks, Flush}
@@ -29,6 +30,10 @@ said_in_front t (Err bad) ws = ws
 abbrev pub accepted_wires : ServiceState → List Line → List Wire
 accepted_wires t [] = []
 accepted_wires t (x ∷ xs) = said_in_front t (said_by x) (accepted_wires (after_line t x) xs)
+
+-- the line of the message is not too long
+abbrev pub HasShortLine : Wire → Type 0
+HasShortLine w = length (text_of_message w) ≤ long_from
 
 -- the service behind the lines of an input
 abbrev pub after_lines : ServiceState → List Line → ServiceState
