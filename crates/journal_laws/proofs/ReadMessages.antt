@@ -1,5 +1,6 @@
 -- What is true of every message that a line says: it can be written.
-use Rattle.std.proofs.Common.{◌≡◌, ℕ, suc, ◌+◌, ◌*◌, ◌^◌, ◌<◌, ◌≤◌, ◌==◌, ◌&&◌, nat_lt, nat_le, Bool, true, false, IfSome, if◌then◌else◌, List, [], ◌∷◌, length, All}
+use Rattle.std.proofs.Common.{◌≡◌, ℕ, suc, ◌+◌, ◌*◌, ◌^◌, ◌<◌, ◌≤◌, ◌==◌, ◌&&◌, nat_lt, nat_le, Bool, true, false, IfSome, if◌then◌else◌}
+use Rattle.std.proofs.Common.{List, [], ◌∷◌, length, All}
 use Rattle.std.proofs.Common.{Option, Some, None, option_and_then, option_map, Result, Ok, Err, IsUtf8, refl, subst, arith}
 use Rattle.std.proofs.lemmas.Bool.{cond_both, leb-true, ltb-true}
 use Rattle.std.proofs.lemmas.Bool.Decides.{nat_tests}
@@ -73,7 +74,8 @@ clock-is hours (x ∷ a ∷ b ∷ y ∷ []) = tt
 clock-is hours (x ∷ a ∷ b ∷ y ∷ c ∷ []) = tt
 clock-is hours (x ∷ a ∷ b ∷ y ∷ c ∷ d ∷ []) =
     let Q : ℕ → Type 0 = Below (3600 * hours + 3600) in
-    cond_both ((x == 58) && (y == 58)) _ None (If Q) (λ e. chained (Below 60) Q _ (λ m few. chained (Below 60) Q _ (λ s less. omega arith) (option_and_then (below 60) (two c d)) (sixty (two c d)))
+    cond_both ((x == 58) && (y == 58)) _ None (If Q) (λ e.
+    chained (Below 60) Q _ (λ m few. chained (Below 60) Q _ (λ s less. omega arith) (option_and_then (below 60) (two c d)) (sixty (two c d)))
     (option_and_then (below 60) (two a b)) (sixty (two a b))) (λ e. tt)
 clock-is hours (x ∷ a ∷ b ∷ y ∷ c ∷ d ∷ e ∷ rest) = tt
 
@@ -116,16 +118,19 @@ needed P cause None h = tt
 needed P cause (Some a) h = h
 
 -- a needed text of an object, and behind it what is read next
-with-text : {B : Type 0} (Q : B → Type 0) (f : List ℕ → Result B BadLine) (k : List ℕ) (d : Data) → TextData d → ((s : List ℕ) → IsUtf8 s → Said Q (f s)) → Said Q (need Shape (text_at k d) >>= f)
+with-text : {B : Type 0} (Q : B → Type 0) (f : List ℕ → Result B BadLine) (k : List ℕ) (d : Data) → TextData d
+    → ((s : List ℕ) → IsUtf8 s → Said Q (f s)) → Said Q (need Shape (text_at k d) >>= f)
 with-text Q f k d h next = behind IsUtf8 Q f (need Shape (text_at k d)) (needed IsUtf8 Shape (text_at k d) (text-in k d h)) next
 
 with-label : {B : Type 0} (Q : B → Type 0) (f : ℕ → Result B BadLine) (k : List ℕ) (d : Data) → ((n : ℕ) → n < 2 ^ 32 → Said Q (f n)) → Said Q (need Shape (label_at k d) >>= f)
 with-label Q f k d next = behind (Below (2 ^ 32)) Q f (need Shape (label_at k d)) (needed (Below (2 ^ 32)) Shape (label_at k d) (label-is k d)) next
 
-with-items : {B : Type 0} (Q : B → Type 0) (f : Items → Result B BadLine) (k : List ℕ) (d : Data) → TextData d → ((ds : Items) → TextItems ds → Said Q (f ds)) → Said Q (need Shape (items_at k d) >>= f)
+with-items : {B : Type 0} (Q : B → Type 0) (f : Items → Result B BadLine) (k : List ℕ) (d : Data) → TextData d
+    → ((ds : Items) → TextItems ds → Said Q (f ds)) → Said Q (need Shape (items_at k d) >>= f)
 with-items Q f k d h next = behind TextItems Q f (need Shape (items_at k d)) (needed TextItems Shape (items_at k d) (items-in k d h)) next
 
-with-object : {B : Type 0} (Q : B → Type 0) (f : Data → Result B BadLine) (k : List ℕ) (d : Data) → TextData d → ((e : Data) → TextData e → Said Q (f e)) → Said Q (need Shape (get k d) >>= f)
+with-object : {B : Type 0} (Q : B → Type 0) (f : Data → Result B BadLine) (k : List ℕ) (d : Data) → TextData d
+    → ((e : Data) → TextData e → Said Q (f e)) → Said Q (need Shape (get k d) >>= f)
 with-object Q f k d h next = behind TextData Q f (need Shape (get k d)) (needed TextData Shape (get k d) (get-text k d h)) next
 
 with-date : {B : Type 0} (Q : B → Type 0) (f : ℕ → Result B BadLine) (text : List ℕ) → ((n : ℕ) → IsCivil n → Said Q (f n)) → Said Q (need Time (date_of text) >>= f)
@@ -169,11 +174,14 @@ event-said kind d h =
     behind IsNamed IsReadMessage _ (named_event d) (named-said d h) (λ named n. with-text IsReadMessage _ (codes "time") d h (λ time t.
     with-date IsReadMessage _ named.date (λ day civil. with-time IsReadMessage _ time (λ secs le. record { proper = (civil, le); labels = n.call; texts = n.trip }))))
 
-if-any-said : (time : Option (List ℕ)) → If (λ (o : Option ℕ). IfSome o (λ s. s ≤ 359999)) (seconds_if_any time)
+abbrev IsTimeIfAny : Option ℕ → Type 0
+IsTimeIfAny o = IfSome o (λ s. s ≤ 359999)
+
+if-any-said : (time : Option (List ℕ)) → If IsTimeIfAny (seconds_if_any time)
 if-any-said None = tt
 if-any-said (Some t) = made (seconds_of t) (seconds-are t)
   where
-    made : (o : Option ℕ) → If IsTime o → If (λ (p : Option ℕ). IfSome p (λ s. s ≤ 359999)) (option_map (λ secs. Some secs) o)
+    made : (o : Option ℕ) → If IsTime o → If IsTimeIfAny (option_map (λ secs. Some secs) o)
     made None h = tt
     made (Some s) h = h
 
@@ -182,7 +190,7 @@ unfolding correct_of
 correct-said d h =
     behind IsNamed IsReadMessage _ (named_event d) (named-said d h) (λ named n. with-any IsReadMessage _ (need Shape (text_or_null_at (codes "time") d)) (λ time.
     with-date IsReadMessage _ named.date (λ day civil.
-    behind (λ (o : Option ℕ). IfSome o (λ s. s ≤ 359999)) IsReadMessage _ (need Time (seconds_if_any time)) (needed (λ (o : Option ℕ). IfSome o (λ s. s ≤ 359999)) Time (seconds_if_any time) (if-any-said time))
+    behind IsTimeIfAny IsReadMessage _ (need Time (seconds_if_any time)) (needed IsTimeIfAny Time (seconds_if_any time) (if-any-said time))
     (λ secs le. record { proper = (civil, le); labels = n.call; texts = n.trip }))))
 
 withdraw-said : (d : Data) → TextData d → Said IsReadMessage (withdraw_of d)
@@ -210,7 +218,8 @@ record IsRefTexts (r : RefTexts) : Type 0 where
 ref-texts-said : (d : Data) → TextData d → Said IsRefTexts (ref_texts d)
 unfolding ref_texts
 ref-texts-said d h =
-    with-text IsRefTexts _ (codes "trip") d h (λ trip t. with-text IsRefTexts _ (codes "date") d h (λ date u. with-label IsRefTexts _ (codes "call") d (λ call lt. record { trip = text trip t; call = lt })))
+    with-text IsRefTexts _ (codes "trip") d h (λ trip t. with-text IsRefTexts _ (codes "date") d h (λ date u.
+    with-label IsRefTexts _ (codes "call") d (λ call lt. record { trip = text trip t; call = lt })))
 
 ref-said : (r : RefTexts) → IsRefTexts r → Said IsRef (ref_of r)
 unfolding ref_of
@@ -220,7 +229,8 @@ connect-said : (kind : AConnect) (d : Data) → TextData d → Said IsReadMessag
 unfolding connect_of
 connect-said kind d h =
     with-object IsReadMessage _ (codes "feeder") d h (λ feeder f. with-object IsReadMessage _ (codes "train") d h (λ train t.
-    behind IsRefTexts IsReadMessage _ (ref_texts feeder) (ref-texts-said feeder f) (λ feeder_texts ft. behind IsRefTexts IsReadMessage _ (ref_texts train) (ref-texts-said train t) (λ train_texts tt'.
+    behind IsRefTexts IsReadMessage _ (ref_texts feeder) (ref-texts-said feeder f) (λ feeder_texts ft.
+    behind IsRefTexts IsReadMessage _ (ref_texts train) (ref-texts-said train t) (λ train_texts tt'.
     behind IsRef IsReadMessage _ (ref_of feeder_texts) (ref-said feeder_texts ft) (λ a fr. behind IsRef IsReadMessage _ (ref_of train_texts) (ref-said train_texts tt')
     (λ b tr. record { proper = (fr.date, tr.date); labels = (fr.call, tr.call); texts = (fr.trip, tr.trip) }))))))
 
@@ -236,12 +246,14 @@ record IsCall (c : WireCall) : Type 0 where
 call-texts-said : (d : Data) → TextData d → Said IsCallTexts (call_texts d)
 unfolding call_texts
 call-texts-said d h =
-    with-text IsCallTexts _ (codes "stop") d h (λ stop s. with-text IsCallTexts _ (codes "arr") d h (λ arr a. with-text IsCallTexts _ (codes "dep") d h (λ dep b. record { stop = text stop s })))
+    with-text IsCallTexts _ (codes "stop") d h (λ stop s. with-text IsCallTexts _ (codes "arr") d h (λ arr a.
+    with-text IsCallTexts _ (codes "dep") d h (λ dep b. record { stop = text stop s })))
 
 call-said : (d : Data) → TextData d → Said IsCall (call_of d)
 unfolding call_of
 call-said d h =
-    behind IsCallTexts IsCall _ (call_texts d) (call-texts-said d h) (λ texts t. with-time IsCall _ texts.arr (λ arr le. with-time IsCall _ texts.dep (λ dep less. record { stop = t.stop; times = (le, less) })))
+    behind IsCallTexts IsCall _ (call_texts d) (call-texts-said d h) (λ texts t. with-time IsCall _ texts.arr (λ arr le.
+    with-time IsCall _ texts.dep (λ dep less. record { stop = t.stop; times = (le, less) })))
 
 record AreCalls (n : ℕ) (cs : List WireCall) : Type 0 where
   stops : All HasStopText cs
@@ -314,7 +326,8 @@ unfolding head_of
 head-said d h =
     with-any (λ kind. Said IsRead (message_of kind d)) _ (need Shape (number_at (codes "v") d)) (λ v.
     with-any (λ kind. Said IsRead (message_of kind d)) _ (need Shape (text_at (codes "type") d)) (λ name.
-    behind (λ kind. Said IsRead (message_of kind d)) (λ kind. Said IsRead (message_of kind d)) _ (need Shape (kind_of name)) (needed (λ kind. Said IsRead (message_of kind d)) Shape (kind_of name) (kind-said name d h))
+    behind (λ kind. Said IsRead (message_of kind d)) (λ kind. Said IsRead (message_of kind d)) _ (need Shape (kind_of name))
+    (needed (λ kind. Said IsRead (message_of kind d)) Shape (kind_of name) (kind-said name d h))
     (λ kind is. with-any (λ kind. Said IsRead (message_of kind d)) _ (unless (has_version kind v) Shape) (λ _. is))))
 
 value-said : (d : Data) → TextData d → Said IsRead (said_by_value d)
@@ -327,7 +340,8 @@ utf8-said bytes = cond_both (is_utf8 bytes) (Ok bytes) (Err Utf8) (Said IsText) 
 pub line-said : (bytes : List ℕ) → Said IsRead (line_of bytes)
 unfolding line_of
 line-said bytes =
-    behind IsText IsRead _ (utf8_of bytes) (utf8-said bytes) (λ text is. behind TextData IsRead said_by_value (json_of text) (needed TextData Json (read text) (texts-read text is)) (λ d h. value-said d h))
+    behind IsText IsRead _ (utf8_of bytes) (utf8-said bytes) (λ text is.
+    behind TextData IsRead said_by_value (json_of text) (needed TextData Json (read text) (texts-read text is)) (λ d h. value-said d h))
 
 pub read-message : (bytes : List ℕ) (w : Wire) → line_of bytes ≡ Ok (Message w) → IsReadMessage w
 read-message bytes w is = subst (Said IsRead) is (line-said bytes)

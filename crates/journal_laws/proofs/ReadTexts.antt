@@ -1,5 +1,6 @@
 -- Each string in the value that a text in UTF-8 is, is in UTF-8.
-use Rattle.std.proofs.Common.{◌≡◌, ℕ, zero, suc, ◌-◌, ◌==◌, ◌&&◌, nat_eq, cond, Bool, true, false, List, [], ◌∷◌, ◌++◌, length, take, drop, Option, Some, None, option_map, IsUtf8, refl, sym, subst, append_assoc, arith}
+use Rattle.std.proofs.Common.{◌≡◌, ℕ, zero, suc, ◌-◌, ◌==◌, ◌&&◌, nat_eq, cond, Bool, true, false, List, [], ◌∷◌, ◌++◌, length, take, drop}
+use Rattle.std.proofs.Common.{Option, Some, None, option_map, IsUtf8, refl, sym, subst, append_assoc, arith}
 use Rattle.std.proofs.lemmas.Bool.{cond_both}
 use Rattle.std.proofs.lemmas.Bool.Decides.{nat_tests}
 use Rattle.std.proofs.lemmas.Str.{IsUtf8-from_is_utf8}
@@ -61,10 +62,12 @@ one-of false false false w x y z first second third fourth = fourth
 word-text : (t : List ℕ) → IsTextToken (word t)
 unfolding word
 word-text t =
-    one-of (head t == 116) (head t == 102) (head t == 110) (literal true_text (Token.boolean true) t) (literal false_text (Token.boolean false) t) (literal null_text Token.null t) (number_before t (after_number t))
+    one-of (head t == 116) (head t == 102) (head t == 110) (literal true_text (Token.boolean true) t) (literal false_text (Token.boolean false) t)
+    (literal null_text Token.null t) (number_before t (after_number t))
     (literal-text true_text t (Token.boolean true) tt) (literal-text false_text t (Token.boolean false) tt) (literal-text null_text t Token.null tt) (number-text t (after_number t))
 
-operator-is : (a b c d e : Bool) → IsTextLexeme (cond a (token Token.begin_object) (cond b (token Token.end_object) (cond c (token Token.begin_array) (cond d (token Token.end_array) (cond e comma colon)))))
+operator-is : (a b c d e : Bool)
+    → IsTextLexeme (cond a (token Token.begin_object) (cond b (token Token.end_object) (cond c (token Token.begin_array) (cond d (token Token.end_array) (cond e comma colon)))))
 operator-is true b c d e = tt
 operator-is false true c d e = tt
 operator-is false false true d e = tt
@@ -79,7 +82,8 @@ quoted : (o : Option (List ℕ)) → If IsUtf8 o → IsTextToken (string_token o
 quoted None h = tt
 quoted (Some s) h = h
 
-byte-texts : (m : Mode) (c : Class) (x : ℕ) (xs : List ℕ) (k : Mode → List Lexeme) → (c ≡ quote → If IsUtf8 (content plain xs)) → ((next : Mode) → TextLexemes (k next)) → TextLexemes (lex_byte m c x xs k)
+byte-texts : (m : Mode) (c : Class) (x : ℕ) (xs : List ℕ) (k : Mode → List Lexeme)
+    → (c ≡ quote → If IsUtf8 (content plain xs)) → ((next : Mode) → TextLexemes (k next)) → TextLexemes (lex_byte m c x xs k)
 byte-texts between quote x xs k held rest = (quoted (content plain xs) (held refl), rest in_string)
 byte-texts between backslash x xs k held rest = (tt, rest in_word)
 byte-texts between operator x xs k held rest = (operator-text x, rest between)
@@ -200,7 +204,8 @@ abbrev Keeps : {A : Type 0} → (A → Type 0) → Parse A → Type 0
 Keeps P parse = (ts : List Token) → TextTokens ts → TextRead P (parse ts)
 
 module _ (p : Parse json.Json) (keeps : Keeps TextJson p) where
-  items-step : (more : Parse json.Items) → Keeps TextJsons more → (ts : List Token) → TextTokens ts → (o : Option (List Token)) → If TextTokens o → TextRead TextJsons (items_step p more ts o)
+  items-step : (more : Parse json.Items) → Keeps TextJsons more
+      → (ts : List Token) → TextTokens ts → (o : Option (List Token)) → If TextTokens o → TextRead TextJsons (items_step p more ts o)
   items-step more again ts h (Some rest) e = (tt, e)
   items-step more again ts h None e =
       chained (λ q. TextJson q.0 × TextTokens q.1) (λ q. TextJsons q.0 × TextTokens q.1) _

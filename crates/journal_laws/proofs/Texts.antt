@@ -71,7 +71,9 @@ unit-is a b c d =
     record { first = (hex a r.0).1; second = (hex b r.1).1; third = (hex c q.1).1; fourth = (hex d p.1).1; below = omega (arith, hex a r.0, hex b r.1, hex c q.1, hex d p.1) }) (λ none. tt)
 
 after-unit : (a b c d u : ℕ) (xs : List ℕ) → IsUnit a b c d u → IsUtf8 (a ∷ b ∷ c ∷ d ∷ xs) → IsUtf8 xs
-after-unit a b c d u xs is text = after-ascii [] xs d (after-ascii [] (d ∷ xs) c (after-ascii [] (c ∷ d ∷ xs) b (after-ascii [] (b ∷ c ∷ d ∷ xs) a text is.first) is.second) is.third) is.fourth
+after-unit a b c d u xs is text =
+    let two = after-ascii [] (c ∷ d ∷ xs) b (after-ascii [] (b ∷ c ∷ d ∷ xs) a text is.first) is.second in
+    after-ascii [] xs d (after-ascii [] (d ∷ xs) c two is.third) is.fourth
 
 unit-scalar : (u : ℕ) → u < 65536 → is_high_surrogate u ≡ false → is_low_surrogate u ≡ false → IsScalar u
 unit-scalar u below high low = grind (arith, nat_tests)
@@ -102,13 +104,17 @@ content-text plain front [] text = tt
 content-text plain front (x ∷ xs) text =
     let P : Option (List ℕ) → Type 0 = If (λ s. IsUtf8 (front ++ s)) in
     cond_both (x == 34) _ _ P (λ q. subst IsUtf8 (sym (append-nil front)) (before-ascii front xs x text (omega (arith, eqb-true x 34 q)))) (λ q.
-    cond_both (x == 92) _ _ P (λ b. content-text after_backslash front xs (before-ascii front xs x text (omega (arith, eqb-true x 92 b)), after-ascii front xs x text (omega (arith, eqb-true x 92 b)))) (λ b.
-    cond_both (nat_lt x 32) _ _ P (λ l. tt) (λ l. prefixed front (x ∷ []) (content plain xs) (content-text plain (front ++ x ∷ []) xs (subst IsUtf8 (sym (append_assoc front (x ∷ []) xs)) text)))))
+    cond_both (x == 92) _ _ P (λ b.
+    let low : x < 128 = omega (arith, eqb-true x 92 b) in
+    content-text after_backslash front xs (before-ascii front xs x text low, after-ascii front xs x text low)) (λ b.
+    cond_both (nat_lt x 32) _ _ P (λ l. tt) (λ l.
+    prefixed front (x ∷ []) (content plain xs) (content-text plain (front ++ x ∷ []) xs (subst IsUtf8 (sym (append_assoc front (x ∷ []) xs)) text)))))
 content-text after_backslash front [] text = tt
 content-text after_backslash front (x ∷ xs) text =
     let Q : List ℕ → Type 0 = λ s. IsUtf8 (front ++ s) in
     cond_both (x == 117) _ _ (If Q) (λ u. content-text after_u front xs (text.0, after-ascii [] xs x text.1 (omega (arith, eqb-true x 117 u)))) (λ u.
-    chained (λ c. (x < 128) × (c < 128)) Q _ (λ c low. joined front (c ∷ []) (content plain xs) text.0 (ascii c low.1) (content-text plain [] xs (after-ascii [] xs x text.1 low.0))) (short_escape x) (short-ascii x))
+    chained (λ c. (x < 128) × (c < 128)) Q _ (λ c low.
+    joined front (c ∷ []) (content plain xs) text.0 (ascii c low.1) (content-text plain [] xs (after-ascii [] xs x text.1 low.0))) (short_escape x) (short-ascii x))
 content-text after_u front [] text = tt
 content-text after_u front (a ∷ []) text = tt
 content-text after_u front (a ∷ b ∷ []) text = tt
@@ -130,10 +136,12 @@ content-text (after_high h) front (s ∷ u ∷ a ∷ b ∷ c ∷ d ∷ xs) text 
     let Q : List ℕ → Type 0 = λ s. IsUtf8 (front ++ s) in
     cond_both ((s == 92) && (u == 117)) _ _ (If Q) (λ e.
     let p = and_parts (s == 92) (u == 117) e in
-    let behind = after-ascii [] (a ∷ b ∷ c ∷ d ∷ xs) u (after-ascii [] (u ∷ a ∷ b ∷ c ∷ d ∷ xs) s text.1 (omega (arith, eqb-true s 92 p.0))) (omega (arith, eqb-true u 117 p.1)) in
+    let behind_s = after-ascii [] (u ∷ a ∷ b ∷ c ∷ d ∷ xs) s text.1 (omega (arith, eqb-true s 92 p.0)) in
+    let behind = after-ascii [] (a ∷ b ∷ c ∷ d ∷ xs) u behind_s (omega (arith, eqb-true u 117 p.1)) in
     chained (IsUnit a b c d) Q _ (λ l is.
     cond_both (is_low_surrogate l) _ _ (If Q)
-    (λ y. joined front (encode_utf8 (surrogate_pair h l)) (content plain xs) text.0 (IsUtf8-encode (surrogate_pair h l) (pair-scalar h l text.2 y)) (content-text plain [] xs (after-unit a b c d l xs is behind)))
+    (λ y. joined front (encode_utf8 (surrogate_pair h l)) (content plain xs) text.0 (IsUtf8-encode (surrogate_pair h l) (pair-scalar h l text.2 y))
+    (content-text plain [] xs (after-unit a b c d l xs is behind)))
     (λ y. tt)) (code_unit a b c d) (unit-is a b c d)) (λ e. tt)
 
 -- what a string in a text holds is a text
