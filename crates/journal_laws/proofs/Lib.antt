@@ -4,6 +4,8 @@ pub mod InModel
 pub mod Parts
 pub mod ReadMessages
 pub mod ReadTexts
+pub mod Spans
 pub mod Texts
+pub mod Weights
 pub mod WholeRead
 pub mod Written

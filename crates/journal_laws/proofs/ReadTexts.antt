@@ -42,41 +42,69 @@ abbrev TextLexemes : List Lexeme → Type 0
 TextLexemes [] = ⊤
 TextLexemes (l ∷ ls) = IsTextLexeme l × TextLexemes ls
 
-literal-text : (name t : List ℕ) (b : Token) → IsTextToken b → IsTextToken (literal name b t)
-literal-text name t b is = cond_both (starts_with nat_eq t name && ends_word (drop (length name) t)) b Token.bad IsTextToken (λ e. is) (λ e. tt)
+-- a word is neither a string nor a key
+abbrev pub IsWordToken : Token → Type 0
+IsWordToken (Token.key s) = ⊥
+IsWordToken (Token.string s) = ⊥
+IsWordToken _ = ⊤
 
-ended-text : (b : Bool) (s : List ℕ) → IsTextToken (cond b (Token.number s) Token.bad)
-ended-text true s = tt
-ended-text false s = tt
+abbrev pub IsWordLexeme : Lexeme → Type 0
+IsWordLexeme (token t) = IsWordToken t
+IsWordLexeme comma = ⊤
+IsWordLexeme colon = ⊤
 
-number-text : (t : List ℕ) (o : Option (List ℕ)) → IsTextToken (number_before t o)
-number-text t None = tt
-number-text t (Some rest) = ended-text (ends_word rest) (take (length t - length rest) t)
+literal-is : (name t : List ℕ) (b : Token) → IsWordToken b → IsWordToken (literal name b t)
+literal-is name t b is = cond_both (starts_with nat_eq t name && ends_word (drop (length name) t)) b Token.bad IsWordToken (λ e. is) (λ e. tt)
 
-one-of : (a b c : Bool) (w x y z : Token) → IsTextToken w → IsTextToken x → IsTextToken y → IsTextToken z → IsTextToken (cond a w (cond b x (cond c y z)))
+ended-is : (b : Bool) (s : List ℕ) → IsWordToken (cond b (Token.number s) Token.bad)
+ended-is true s = tt
+ended-is false s = tt
+
+number-is : (t : List ℕ) (o : Option (List ℕ)) → IsWordToken (number_before t o)
+number-is t None = tt
+number-is t (Some rest) = ended-is (ends_word rest) (take (length t - length rest) t)
+
+one-of : (a b c : Bool) (w x y z : Token) → IsWordToken w → IsWordToken x → IsWordToken y → IsWordToken z → IsWordToken (cond a w (cond b x (cond c y z)))
 one-of true b c w x y z first second third fourth = first
 one-of false true c w x y z first second third fourth = second
 one-of false false true w x y z first second third fourth = third
 one-of false false false w x y z first second third fourth = fourth
 
-word-text : (t : List ℕ) → IsTextToken (word t)
+pub word-is : (t : List ℕ) → IsWordToken (word t)
 unfolding word
-word-text t =
+word-is t =
     one-of (head t == 116) (head t == 102) (head t == 110) (literal true_text (Token.boolean true) t) (literal false_text (Token.boolean false) t)
     (literal null_text Token.null t) (number_before t (after_number t))
-    (literal-text true_text t (Token.boolean true) tt) (literal-text false_text t (Token.boolean false) tt) (literal-text null_text t Token.null tt) (number-text t (after_number t))
+    (literal-is true_text t (Token.boolean true) tt) (literal-is false_text t (Token.boolean false) tt) (literal-is null_text t Token.null tt) (number-is t (after_number t))
 
-operator-is : (a b c d e : Bool)
-    → IsTextLexeme (cond a (token Token.begin_object) (cond b (token Token.end_object) (cond c (token Token.begin_array) (cond d (token Token.end_array) (cond e comma colon)))))
-operator-is true b c d e = tt
-operator-is false true c d e = tt
-operator-is false false true d e = tt
-operator-is false false false true e = tt
-operator-is false false false false true = tt
-operator-is false false false false false = tt
+operators : (a b c d e : Bool)
+    → IsWordLexeme (cond a (token Token.begin_object) (cond b (token Token.end_object) (cond c (token Token.begin_array) (cond d (token Token.end_array) (cond e comma colon)))))
+operators true b c d e = tt
+operators false true c d e = tt
+operators false false true d e = tt
+operators false false false true e = tt
+operators false false false false true = tt
+operators false false false false false = tt
 
-operator-text : (x : ℕ) → IsTextLexeme (operator_lexeme x)
-operator-text x = operator-is (x == 123) (x == 125) (x == 91) (x == 93) (x == 44)
+pub operator-is : (x : ℕ) → IsWordLexeme (operator_lexeme x)
+operator-is x = operators (x == 123) (x == 125) (x == 91) (x == 93) (x == 44)
+
+word-text : (t : Token) → IsWordToken t → IsTextToken t
+word-text Token.begin_object is = tt
+word-text Token.end_object is = tt
+word-text Token.begin_array is = tt
+word-text Token.end_array is = tt
+word-text (Token.key s) is = tt
+word-text (Token.string s) is = absurd is
+word-text (Token.number s) is = tt
+word-text (Token.boolean b) is = tt
+word-text Token.null is = tt
+word-text Token.bad is = tt
+
+operator-text : (l : Lexeme) → IsWordLexeme l → IsTextLexeme l
+operator-text (token t) is = word-text t is
+operator-text comma is = tt
+operator-text colon is = tt
 
 quoted : (o : Option (List ℕ)) → If IsUtf8 o → IsTextToken (string_token o)
 quoted None h = tt
@@ -86,12 +114,12 @@ byte-texts : (m : Mode) (c : Class) (x : ℕ) (xs : List ℕ) (k : Mode → List
     → (c ≡ quote → If IsUtf8 (content plain xs)) → ((next : Mode) → TextLexemes (k next)) → TextLexemes (lex_byte m c x xs k)
 byte-texts between quote x xs k held rest = (quoted (content plain xs) (held refl), rest in_string)
 byte-texts between backslash x xs k held rest = (tt, rest in_word)
-byte-texts between operator x xs k held rest = (operator-text x, rest between)
+byte-texts between operator x xs k held rest = (operator-text (operator_lexeme x) (operator-is x), rest between)
 byte-texts between space x xs k held rest = rest between
-byte-texts between other x xs k held rest = (word-text (x ∷ xs), rest in_word)
+byte-texts between other x xs k held rest = (word-text (word (x ∷ xs)) (word-is (x ∷ xs)), rest in_word)
 byte-texts in_word quote x xs k held rest = rest in_word
 byte-texts in_word backslash x xs k held rest = rest in_word
-byte-texts in_word operator x xs k held rest = (operator-text x, rest between)
+byte-texts in_word operator x xs k held rest = (operator-text (operator_lexeme x) (operator-is x), rest between)
 byte-texts in_word space x xs k held rest = rest between
 byte-texts in_word other x xs k held rest = rest in_word
 byte-texts in_string quote x xs k held rest = rest between
