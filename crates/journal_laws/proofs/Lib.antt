@@ -4,6 +4,7 @@ pub mod InModel
 pub mod Parts
 pub mod ReadMessages
 pub mod ReadTexts
+pub mod Sizes
 pub mod Spans
 pub mod Texts
 pub mod Weights

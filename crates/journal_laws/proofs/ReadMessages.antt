@@ -1,7 +1,7 @@
 -- What is true of every message that a line says: it can be written.
 use Rattle.std.proofs.Common.{◌≡◌, ℕ, suc, ◌+◌, ◌*◌, ◌^◌, ◌<◌, ◌≤◌, ◌==◌, ◌&&◌, nat_lt, nat_le, Bool, true, false, IfSome, if◌then◌else◌}
 use Rattle.std.proofs.Common.{List, [], ◌∷◌, length, All}
-use Rattle.std.proofs.Common.{Option, Some, None, option_and_then, option_map, Result, Ok, Err, IsUtf8, refl, subst, arith}
+use Rattle.std.proofs.Common.{Option, Some, None, option_and_then, option_map, Result, Ok, Err, IsUtf8, refl, ap, subst, arith}
 use Rattle.std.proofs.lemmas.Bool.{cond_both, leb-true, ltb-true}
 use Rattle.std.proofs.lemmas.Bool.Decides.{nat_tests}
 use Rattle.std.proofs.lemmas.Int.{ints}
@@ -35,7 +35,10 @@ use Rattle.message_reader.specs.Queries.{query_of}
 use Rattle.message_reader.specs.Spelled.{HasLabels}
 use Rattle.message_reader.specs.Wires.{IsProper, IsWireCall}
 use Rattle.journal_lines.specs.Lines.{HasStopText, HasTexts}
+use Rattle.journal_replay.specs.Journals.{CanBeWritten}
+use Rattle.journal_laws.proofs.Sizes.{HasRoom, calls_weight, message-line-size}
 use Rattle.journal_laws.proofs.Texts.{If, chained}
+use Rattle.journal_laws.proofs.Weights.{data_weight, get-weight, items-weight, items_weight, text-weight, two-texts, weight-read}
 use Rattle.journal_laws.proofs.ReadTexts.{TextData, TextItems, get-text, items-in, text-in, texts-read}
 
 -- ---- numbers, times and dates
@@ -117,21 +120,53 @@ needed : {A E : Type 0} (P : A → Type 0) (cause : E) (o : Option A) → If P o
 needed P cause None h = tt
 needed P cause (Some a) h = h
 
--- a needed text of an object, and behind it what is read next
-with-text : {B : Type 0} (Q : B → Type 0) (f : List ℕ → Result B BadLine) (k : List ℕ) (d : Data) → TextData d
-    → ((s : List ℕ) → IsUtf8 s → Said Q (f s)) → Said Q (need Shape (text_at k d) >>= f)
-with-text Q f k d h next = behind IsUtf8 Q f (need Shape (text_at k d)) (needed IsUtf8 Shape (text_at k d) (text-in k d h)) next
+abbrev IsText : List ℕ → Type 0
+IsText s = is_utf8 s ≡ true
 
-with-label : {B : Type 0} (Q : B → Type 0) (f : ℕ → Result B BadLine) (k : List ℕ) (d : Data) → ((n : ℕ) → n < 2 ^ 32 → Said Q (f n)) → Said Q (need Shape (label_at k d) >>= f)
+-- the strings in the value are texts, and it weighs at most so much
+record IsWithin (n : ℕ) (d : Data) : Type 0 where
+  texts : TextData d
+  light : data_weight d ≤ n
+
+-- the string is this member of the object, and a text
+record IsTextAt (k : List ℕ) (d : Data) (s : List ℕ) : Type 0 where
+  utf8 : IsText s
+  weighs : 3 + length k + length s ≤ data_weight d
+  is : text_at k d ≡ Some s
+
+text-there : (k : List ℕ) (d : Data) (o : Option (List ℕ)) → If IsUtf8 o → If (λ s. 3 + length k + length s ≤ data_weight d) o → text_at k d ≡ o → If (IsTextAt k d) o
+text-there k d None u le is = tt
+text-there k d (Some s) u le is = record { utf8 = is_utf8-from_IsUtf8 s u; weighs = le; is = is }
+
+-- the list is in a value that weighs at most so much
+record AreWithin (n : ℕ) (ds : Items) : Type 0 where
+  texts : TextItems ds
+  light : items_weight ds ≤ n
+
+items-there : (n : ℕ) (d : Data) (o : Option Items) → data_weight d ≤ n → If TextItems o → If (λ ds. items_weight ds ≤ data_weight d) o → If (AreWithin n) o
+items-there n d None few h le = tt
+items-there n d (Some ds) few h le = record { texts = h; light = omega arith }
+
+object-there : (n : ℕ) (k : List ℕ) (d : Data) (o : Option Data) → data_weight d ≤ n → If TextData o → If (λ e. 2 + length k + data_weight e ≤ data_weight d) o → If (IsWithin n) o
+object-there n k d None few h le = tt
+object-there n k d (Some e) few h le = record { texts = h; light = omega arith }
+
+-- a needed member of an object, and behind it what is read next
+module _ {B : Type 0} (n : ℕ) (Q : B → Type 0) where
+  with-text : (f : List ℕ → Result B BadLine) (k : List ℕ) (d : Data) → IsWithin n d → ((s : List ℕ) → IsTextAt k d s → Said Q (f s)) → Said Q (need Shape (text_at k d) >>= f)
+  with-text f k d h next =
+      behind (IsTextAt k d) Q f (need Shape (text_at k d)) (needed (IsTextAt k d) Shape (text_at k d) (text-there k d (text_at k d) (text-in k d h.texts) (text-weight k d) refl)) next
+
+  with-items : (f : Items → Result B BadLine) (k : List ℕ) (d : Data) → IsWithin n d → ((ds : Items) → AreWithin n ds → Said Q (f ds)) → Said Q (need Shape (items_at k d) >>= f)
+  with-items f k d h next =
+      behind (AreWithin n) Q f (need Shape (items_at k d)) (needed (AreWithin n) Shape (items_at k d) (items-there n d (items_at k d) h.light (items-in k d h.texts) (items-weight k d))) next
+
+  with-object : (f : Data → Result B BadLine) (k : List ℕ) (d : Data) → IsWithin n d → ((e : Data) → IsWithin n e → Said Q (f e)) → Said Q (need Shape (get k d) >>= f)
+  with-object f k d h next =
+      behind (IsWithin n) Q f (need Shape (get k d)) (needed (IsWithin n) Shape (get k d) (object-there n k d (get k d) h.light (get-text k d h.texts) (get-weight k d))) next
+
+with-label : {B : Type 0} (Q : B → Type 0) (f : ℕ → Result B BadLine) (k : List ℕ) (d : Data) → ((m : ℕ) → m < 2 ^ 32 → Said Q (f m)) → Said Q (need Shape (label_at k d) >>= f)
 with-label Q f k d next = behind (Below (2 ^ 32)) Q f (need Shape (label_at k d)) (needed (Below (2 ^ 32)) Shape (label_at k d) (label-is k d)) next
-
-with-items : {B : Type 0} (Q : B → Type 0) (f : Items → Result B BadLine) (k : List ℕ) (d : Data) → TextData d
-    → ((ds : Items) → TextItems ds → Said Q (f ds)) → Said Q (need Shape (items_at k d) >>= f)
-with-items Q f k d h next = behind TextItems Q f (need Shape (items_at k d)) (needed TextItems Shape (items_at k d) (items-in k d h)) next
-
-with-object : {B : Type 0} (Q : B → Type 0) (f : Data → Result B BadLine) (k : List ℕ) (d : Data) → TextData d
-    → ((e : Data) → TextData e → Said Q (f e)) → Said Q (need Shape (get k d) >>= f)
-with-object Q f k d h next = behind TextData Q f (need Shape (get k d)) (needed TextData Shape (get k d) (get-text k d h)) next
 
 with-date : {B : Type 0} (Q : B → Type 0) (f : ℕ → Result B BadLine) (text : List ℕ) → ((n : ℕ) → IsCivil n → Said Q (f n)) → Said Q (need Time (date_of text) >>= f)
 with-date Q f text next = behind IsCivil Q f (need Time (date_of text)) (needed IsCivil Time (date_of text) (date-is text)) next
@@ -146,33 +181,29 @@ with-any Q f (Err e) next = tt
 
 -- ---- messages about events
 
--- a message is as those that can be written
-pub record IsReadMessage (w : Wire) : Type 0 where
+-- a message is as those that can be written, and has few bytes in its names and few calls
+pub record IsReadMessage (n : ℕ) (w : Wire) : Type 0 where
   pub proper : IsProper w
   pub labels : HasLabels w
   pub texts : HasTexts w
+  pub room : HasRoom n w
 
-abbrev IsText : List ℕ → Type 0
-IsText s = is_utf8 s ≡ true
+record IsNamed (n : ℕ) (e : NamedEvent) : Type 0 where
+  trip : IsText e.trip
+  short : length e.trip ≤ n
+  call : e.call < 2 ^ 32
 
-text : (s : List ℕ) → IsUtf8 s → IsText s
-text = is_utf8-from_IsUtf8
-
-record IsNamed (n : NamedEvent) : Type 0 where
-  trip : IsText n.trip
-  call : n.call < 2 ^ 32
-
-named-said : (d : Data) → TextData d → Said IsNamed (named_event d)
+named-said : (n : ℕ) (d : Data) → IsWithin n d → Said (IsNamed n) (named_event d)
 unfolding named_event
-named-said d h =
-    with-text IsNamed _ (codes "trip") d h (λ trip t. with-text IsNamed _ (codes "date") d h (λ date u. with-label IsNamed _ (codes "call") d (λ call lt.
-    with-text IsNamed _ (codes "event") d h (λ event v. with-any IsNamed _ (need Shape (departure_of event)) (λ dep. record { trip = text trip t; call = lt })))))
+named-said n d h =
+    with-text n (IsNamed n) _ (codes "trip") d h (λ trip t. with-text n (IsNamed n) _ (codes "date") d h (λ date u. with-label (IsNamed n) _ (codes "call") d (λ call lt.
+    with-text n (IsNamed n) _ (codes "event") d h (λ event v. with-any (IsNamed n) _ (need Shape (departure_of event)) (λ dep. record { trip = t.utf8; short = omega (arith, t.weighs, h.light); call = lt })))))
 
-event-said : (kind : ValueKind) (d : Data) → TextData d → Said IsReadMessage (event_of kind d)
+event-said : (n : ℕ) (kind : ValueKind) (d : Data) → IsWithin n d → Said (IsReadMessage n) (event_of kind d)
 unfolding event_of
-event-said kind d h =
-    behind IsNamed IsReadMessage _ (named_event d) (named-said d h) (λ named n. with-text IsReadMessage _ (codes "time") d h (λ time t.
-    with-date IsReadMessage _ named.date (λ day civil. with-time IsReadMessage _ time (λ secs le. record { proper = (civil, le); labels = n.call; texts = n.trip }))))
+event-said n kind d h =
+    behind (IsNamed n) (IsReadMessage n) _ (named_event d) (named-said n d h) (λ named is. with-text n (IsReadMessage n) _ (codes "time") d h (λ time t.
+    with-date (IsReadMessage n) _ named.date (λ day civil. with-time (IsReadMessage n) _ time (λ secs le. record { proper = (civil, le); labels = is.call; texts = is.trip; room = is.short }))))
 
 abbrev IsTimeIfAny : Option ℕ → Type 0
 IsTimeIfAny o = IfSome o (λ s. s ≤ 359999)
@@ -185,163 +216,206 @@ if-any-said (Some t) = made (seconds_of t) (seconds-are t)
     made None h = tt
     made (Some s) h = h
 
-correct-said : (d : Data) → TextData d → Said IsReadMessage (correct_of d)
+correct-said : (n : ℕ) (d : Data) → IsWithin n d → Said (IsReadMessage n) (correct_of d)
 unfolding correct_of
-correct-said d h =
-    behind IsNamed IsReadMessage _ (named_event d) (named-said d h) (λ named n. with-any IsReadMessage _ (need Shape (text_or_null_at (codes "time") d)) (λ time.
-    with-date IsReadMessage _ named.date (λ day civil.
-    behind IsTimeIfAny IsReadMessage _ (need Time (seconds_if_any time)) (needed IsTimeIfAny Time (seconds_if_any time) (if-any-said time))
-    (λ secs le. record { proper = (civil, le); labels = n.call; texts = n.trip }))))
+correct-said n d h =
+    behind (IsNamed n) (IsReadMessage n) _ (named_event d) (named-said n d h) (λ named is. with-any (IsReadMessage n) _ (need Shape (text_or_null_at (codes "time") d)) (λ time.
+    with-date (IsReadMessage n) _ named.date (λ day civil.
+    behind IsTimeIfAny (IsReadMessage n) _ (need Time (seconds_if_any time)) (needed IsTimeIfAny Time (seconds_if_any time) (if-any-said time))
+    (λ secs le. record { proper = (civil, le); labels = is.call; texts = is.trip; room = is.short }))))
 
-withdraw-said : (d : Data) → TextData d → Said IsReadMessage (withdraw_of d)
+withdraw-said : (n : ℕ) (d : Data) → IsWithin n d → Said (IsReadMessage n) (withdraw_of d)
 unfolding withdraw_of
-withdraw-said d h =
-    behind IsNamed IsReadMessage _ (named_event d) (named-said d h) (λ named n. with-date IsReadMessage _ named.date (λ day civil. record { proper = civil; labels = n.call; texts = n.trip }))
+withdraw-said n d h =
+    behind (IsNamed n) (IsReadMessage n) _ (named_event d) (named-said n d h) (λ named is. with-date (IsReadMessage n) _ named.date (λ day civil. record { proper = civil; labels = is.call; texts = is.trip; room = is.short }))
 
-cancel-said : (d : Data) → TextData d → Said IsReadMessage (cancel_of d)
+cancel-said : (n : ℕ) (d : Data) → IsWithin n d → Said (IsReadMessage n) (cancel_of d)
 unfolding cancel_of
-cancel-said d h =
-    with-text IsReadMessage _ (codes "trip") d h (λ trip t. with-text IsReadMessage _ (codes "date") d h (λ date u. with-label IsReadMessage _ (codes "from") d (λ from lt.
-    with-label IsReadMessage _ (codes "to") d (λ to less. with-date IsReadMessage _ date (λ day civil. record { proper = civil; labels = (lt, less); texts = text trip t })))))
+cancel-said n d h =
+    with-text n (IsReadMessage n) _ (codes "trip") d h (λ trip t. with-text n (IsReadMessage n) _ (codes "date") d h (λ date u. with-label (IsReadMessage n) _ (codes "from") d (λ from lt.
+    with-label (IsReadMessage n) _ (codes "to") d (λ to less. with-date (IsReadMessage n) _ date (λ day civil. record { proper = civil; labels = (lt, less); texts = t.utf8; room = omega (arith, t.weighs, h.light) })))))
 
 -- ---- messages about connections
 
-record IsRef (r : WireRef) : Type 0 where
+record IsRef (n : ℕ) (r : WireRef) : Type 0 where
   trip : IsText r.trip
+  short : length r.trip ≤ n
   date : IsCivil r.date
   call : r.call < 2 ^ 32
 
-record IsRefTexts (r : RefTexts) : Type 0 where
+record IsRefTexts (n : ℕ) (r : RefTexts) : Type 0 where
   trip : IsText r.trip
+  short : length r.trip ≤ n
   call : r.call < 2 ^ 32
 
-ref-texts-said : (d : Data) → TextData d → Said IsRefTexts (ref_texts d)
+ref-texts-said : (n : ℕ) (d : Data) → IsWithin n d → Said (IsRefTexts n) (ref_texts d)
 unfolding ref_texts
-ref-texts-said d h =
-    with-text IsRefTexts _ (codes "trip") d h (λ trip t. with-text IsRefTexts _ (codes "date") d h (λ date u.
-    with-label IsRefTexts _ (codes "call") d (λ call lt. record { trip = text trip t; call = lt })))
+ref-texts-said n d h =
+    with-text n (IsRefTexts n) _ (codes "trip") d h (λ trip t. with-text n (IsRefTexts n) _ (codes "date") d h (λ date u.
+    with-label (IsRefTexts n) _ (codes "call") d (λ call lt. record { trip = t.utf8; short = omega (arith, t.weighs, h.light); call = lt })))
 
-ref-said : (r : RefTexts) → IsRefTexts r → Said IsRef (ref_of r)
+ref-said : (n : ℕ) (r : RefTexts) → IsRefTexts n r → Said (IsRef n) (ref_of r)
 unfolding ref_of
-ref-said r is = with-date IsRef _ r.date (λ day civil. record { trip = is.trip; date = civil; call = is.call })
+ref-said n r is = with-date (IsRef n) _ r.date (λ day civil. record { trip = is.trip; short = is.short; date = civil; call = is.call })
 
-connect-said : (kind : AConnect) (d : Data) → TextData d → Said IsReadMessage (connect_of kind d)
+connect-said : (n : ℕ) (kind : AConnect) (d : Data) → IsWithin n d → Said (IsReadMessage n) (connect_of kind d)
 unfolding connect_of
-connect-said kind d h =
-    with-object IsReadMessage _ (codes "feeder") d h (λ feeder f. with-object IsReadMessage _ (codes "train") d h (λ train t.
-    behind IsRefTexts IsReadMessage _ (ref_texts feeder) (ref-texts-said feeder f) (λ feeder_texts ft.
-    behind IsRefTexts IsReadMessage _ (ref_texts train) (ref-texts-said train t) (λ train_texts tt'.
-    behind IsRef IsReadMessage _ (ref_of feeder_texts) (ref-said feeder_texts ft) (λ a fr. behind IsRef IsReadMessage _ (ref_of train_texts) (ref-said train_texts tt')
-    (λ b tr. record { proper = (fr.date, tr.date); labels = (fr.call, tr.call); texts = (fr.trip, tr.trip) }))))))
+connect-said n kind d h =
+    let P : Wire → Type 0 = IsReadMessage n in
+    with-object n P _ (codes "feeder") d h (λ feeder f. with-object n P _ (codes "train") d h (λ train t.
+    behind (IsRefTexts n) P _ (ref_texts feeder) (ref-texts-said n feeder f) (λ feeder_texts ft. behind (IsRefTexts n) P _ (ref_texts train) (ref-texts-said n train t) (λ train_texts tt'.
+    behind (IsRef n) P _ (ref_of feeder_texts) (ref-said n feeder_texts ft) (λ a fr. behind (IsRef n) P _ (ref_of train_texts) (ref-said n train_texts tt') (λ b tr.
+    record { proper = (fr.date, tr.date); labels = (fr.call, tr.call); texts = (fr.trip, tr.trip); room = (fr.short, tr.short) }))))))
 
 -- ---- messages with lists of calls
 
-record IsCallTexts (c : CallTexts) : Type 0 where
+record IsCallTexts (n : ℕ) (c : CallTexts) : Type 0 where
   stop : IsText c.stop
+  weighs : 7 + length c.stop ≤ n
 
-record IsCall (c : WireCall) : Type 0 where
+record IsCall (n : ℕ) (c : WireCall) : Type 0 where
   stop : HasStopText c
   times : IsWireCall c
+  weighs : 7 + length c.stop ≤ n
 
-call-texts-said : (d : Data) → TextData d → Said IsCallTexts (call_texts d)
+call-texts-said : (n : ℕ) (d : Data) → IsWithin n d → Said (IsCallTexts n) (call_texts d)
 unfolding call_texts
-call-texts-said d h =
-    with-text IsCallTexts _ (codes "stop") d h (λ stop s. with-text IsCallTexts _ (codes "arr") d h (λ arr a.
-    with-text IsCallTexts _ (codes "dep") d h (λ dep b. record { stop = text stop s })))
+call-texts-said n d h =
+    with-text n (IsCallTexts n) _ (codes "stop") d h (λ stop s. with-text n (IsCallTexts n) _ (codes "arr") d h (λ arr a.
+    with-text n (IsCallTexts n) _ (codes "dep") d h (λ dep b. record { stop = s.utf8; weighs = omega (arith, s.weighs, h.light) })))
 
-call-said : (d : Data) → TextData d → Said IsCall (call_of d)
+call-said : (n : ℕ) (d : Data) → IsWithin n d → Said (IsCall n) (call_of d)
 unfolding call_of
-call-said d h =
-    behind IsCallTexts IsCall _ (call_texts d) (call-texts-said d h) (λ texts t. with-time IsCall _ texts.arr (λ arr le.
-    with-time IsCall _ texts.dep (λ dep less. record { stop = t.stop; times = (le, less) })))
+call-said n d h =
+    behind (IsCallTexts n) (IsCall n) _ (call_texts d) (call-texts-said n d h) (λ texts t. with-time (IsCall n) _ texts.arr (λ arr le.
+    with-time (IsCall n) _ texts.dep (λ dep less. record { stop = t.stop; times = (le, less); weighs = t.weighs })))
 
-record AreCalls (n : ℕ) (cs : List WireCall) : Type 0 where
+-- so many calls, which were read of values that weigh so much
+record AreCalls (many weight : ℕ) (cs : List WireCall) : Type 0 where
   stops : All HasStopText cs
   times : All IsWireCall cs
-  all : length cs ≡ n
+  all : length cs ≡ many
+  weigh : calls_weight cs ≤ weight
 
-calls-said : (ds : Items) → TextItems ds → Said (AreCalls (count ds)) (calls_of ds)
+calls-said : (ds : Items) → TextItems ds → Said (AreCalls (count ds) (items_weight ds)) (calls_of ds)
 unfolding calls_of count
-calls-said no_items h = record { stops = All-nil HasStopText; times = All-nil IsWireCall; all = refl }
+calls-said no_items h = record { stops = All-nil HasStopText; times = All-nil IsWireCall; all = refl; weigh = omega arith }
 calls-said (item d ds) h =
-    let Q : List WireCall → Type 0 = AreCalls (suc (count ds)) in
-    behind IsCall Q _ (call_of d) (call-said d h.0) (λ c is. behind (AreCalls (count ds)) Q _ (calls_of ds) (calls-said ds h.1) (λ cs are.
-    record { stops = All-cons HasStopText c cs is.stop are.stops; times = All-cons IsWireCall c cs is.times are.times; all = omega (arith, are.all) }))
+    let one : IsWithin (data_weight d) d = record { texts = h.0; light = omega arith } in
+    let Q : List WireCall → Type 0 = AreCalls (suc (count ds)) (data_weight d + items_weight ds) in
+    behind (IsCall (data_weight d)) Q _ (call_of d) (call-said (data_weight d) d one) (λ c is. behind (AreCalls (count ds) (items_weight ds)) Q _ (calls_of ds) (calls-said ds h.1) (λ cs are.
+    record {
+      stops = All-cons HasStopText c cs is.stop are.stops;
+      times = All-cons IsWireCall c cs is.times are.times;
+      all = omega (arith, are.all);
+      weigh = omega (arith, is.weighs, are.weigh);
+    }))
 
-reroute-said : (d : Data) → TextData d → Said IsReadMessage (reroute_of d)
+reroute-said : (n : ℕ) (d : Data) → IsWithin n d → Said (IsReadMessage n) (reroute_of d)
 unfolding reroute_of
-reroute-said d h =
-    with-text IsReadMessage _ (codes "trip") d h (λ trip t. with-text IsReadMessage _ (codes "date") d h (λ date u. with-label IsReadMessage _ (codes "from") d (λ from lt.
-    with-label IsReadMessage _ (codes "to") d (λ to less. with-items IsReadMessage _ (codes "via") d h (λ via all. with-any IsReadMessage _ (calls_shape via) (λ shape.
-    with-date IsReadMessage _ date (λ day civil. behind (AreCalls (count via)) IsReadMessage _ (calls_of via) (calls-said via all)
-    (λ calls are. record { proper = (civil, are.times); labels = (lt, less); texts = (text trip t, are.stops) }))))))))
+reroute-said n d h =
+    let P : Wire → Type 0 = IsReadMessage n in
+    with-text n P _ (codes "trip") d h (λ trip t. with-text n P _ (codes "date") d h (λ date u. with-label P _ (codes "from") d (λ from lt.
+    with-label P _ (codes "to") d (λ to less. with-items n P _ (codes "via") d h (λ ds within. with-any P _ (calls_shape ds) (λ shape.
+    with-date P _ date (λ day civil. behind (AreCalls (count ds) (items_weight ds)) P _ (calls_of ds) (calls-said ds within.texts) (λ calls are.
+    record {
+      proper = (civil, are.times);
+      labels = (lt, less);
+      texts = (t.utf8, are.stops);
+      room = (omega (arith, t.weighs, h.light), omega (arith, are.weigh, within.light));
+    }))))))))
 
 unless-said : {E : Type 0} (b : Bool) (cause : E) → Said (λ _. b ≡ true) (unless b cause)
 unless-said true cause = refl
 unless-said false cause = tt
 
-extra-said : (d : Data) → TextData d → Said IsReadMessage (extra_of d)
+apart : codes "trip" ≡ codes "route" → ⊥
+apart is = omega (arith, ap length is)
+
+extra-said : (n : ℕ) (d : Data) → IsWithin n d → Said (IsReadMessage n) (extra_of d)
 unfolding extra_of
-extra-said d h =
-    with-text IsReadMessage _ (codes "trip") d h (λ trip t. with-text IsReadMessage _ (codes "date") d h (λ date u. with-text IsReadMessage _ (codes "route") d h (λ route r.
-    with-items IsReadMessage _ (codes "calls") d h (λ ds all. with-any IsReadMessage _ (calls_shape ds) (λ shape.
-    behind (λ _. nat_le 2 (count ds) ≡ true) IsReadMessage _ (unless (nat_le 2 (count ds)) Shape) (unless-said (nat_le 2 (count ds)) Shape) (λ _ two.
-    with-date IsReadMessage _ date (λ day civil. behind (AreCalls (count ds)) IsReadMessage _ (calls_of ds) (calls-said ds all)
-    (λ calls are. record { proper = (civil, are.times, omega (arith, are.all, leb-true 2 (count ds) two)); labels = tt; texts = (text trip t, text route r, are.stops) }))))))))
+extra-said n d h =
+    let P : Wire → Type 0 = IsReadMessage n in
+    with-text n P _ (codes "trip") d h (λ trip t. with-text n P _ (codes "date") d h (λ date u. with-text n P _ (codes "route") d h (λ route r.
+    with-items n P _ (codes "calls") d h (λ ds within. with-any P _ (calls_shape ds) (λ shape.
+    behind (λ _. nat_le 2 (count ds) ≡ true) P _ (unless (nat_le 2 (count ds)) Shape) (unless-said (nat_le 2 (count ds)) Shape) (λ _ two.
+    with-date P _ date (λ day civil. behind (AreCalls (count ds) (items_weight ds)) P _ (calls_of ds) (calls-said ds within.texts) (λ calls are.
+    record {
+      proper = (civil, are.times, omega (arith, are.all, leb-true 2 (count ds) two));
+      labels = tt;
+      texts = (t.utf8, r.utf8, are.stops);
+      room = (omega (arith, two-texts (codes "trip") (codes "route") apart d trip route t.is r.is, h.light), omega (arith, are.weigh, within.light));
+    }))))))))
 
 -- ---- lines
 
-abbrev pub IsRead : Line → Type 0
-IsRead (Message w) = IsReadMessage w
-IsRead (Query q) = ⊤
-IsRead Flush = ⊤
+abbrev pub IsRead : ℕ → Line → Type 0
+IsRead n (Message w) = IsReadMessage n w
+IsRead n (Query q) = ⊤
+IsRead n Flush = ⊤
 
-as-message : (r : Result Wire BadLine) → Said IsReadMessage r → Said IsRead (r >>= λ w. Ok (Message w))
-as-message (Ok w) h = h
-as-message (Err bad) h = tt
+as-message : (n : ℕ) (r : Result Wire BadLine) → Said (IsReadMessage n) r → Said (IsRead n) (r >>= λ w. Ok (Message w))
+as-message n (Ok w) h = h
+as-message n (Err bad) h = tt
 
 picked : {K : Type 0} (P : K → Type 0) (b : Bool) (kind : K) (o : Option K) → P kind → If P o → If P (if b then Some kind else o)
 picked P true kind o h rest = h
 picked P false kind o h rest = rest
 
 -- by its type
-kind-said : (name : List ℕ) (d : Data) → TextData d → If (λ kind. Said IsRead (message_of kind d)) (kind_of name)
+kind-said : (n : ℕ) (name : List ℕ) (d : Data) → IsWithin n d → If (λ kind. Said (IsRead n) (message_of kind d)) (kind_of name)
 unfolding kind_of message_of
-kind-said name d h =
-    picked (λ kind. Said IsRead (message_of kind d)) (bytes_eq name (codes "forecast")) _ _ (as-message (event_of values.Forecast d) (event-said values.Forecast d h))
-    (picked (λ kind. Said IsRead (message_of kind d)) (bytes_eq name (codes "report")) _ _ (as-message (event_of values.Report d) (event-said values.Report d h))
-    (picked (λ kind. Said IsRead (message_of kind d)) (bytes_eq name (codes "correct")) _ _ (as-message (correct_of d) (correct-said d h))
-    (picked (λ kind. Said IsRead (message_of kind d)) (bytes_eq name (codes "withdraw")) _ _ (as-message (withdraw_of d) (withdraw-said d h))
-    (picked (λ kind. Said IsRead (message_of kind d)) (bytes_eq name (codes "cancel")) _ _ (as-message (cancel_of d) (cancel-said d h))
-    (picked (λ kind. Said IsRead (message_of kind d)) (bytes_eq name (codes "reroute")) _ _ (as-message (reroute_of d) (reroute-said d h))
-    (picked (λ kind. Said IsRead (message_of kind d)) (bytes_eq name (codes "extra")) _ _ (as-message (extra_of d) (extra-said d h))
-    (picked (λ kind. Said IsRead (message_of kind d)) (bytes_eq name (codes "keep")) _ _ (as-message (connect_of connects.Keep d) (connect-said connects.Keep d h))
-    (picked (λ kind. Said IsRead (message_of kind d)) (bytes_eq name (codes "drop")) _ _ (as-message (connect_of connects.Drop d) (connect-said connects.Drop d h))
-    (picked (λ kind. Said IsRead (message_of kind d)) (bytes_eq name (codes "rule")) _ _ (as-message (connect_of connects.Rule d) (connect-said connects.Rule d h))
-    (picked (λ kind. Said IsRead (message_of kind d)) (bytes_eq name (codes "query")) _ _ (with-any IsRead (λ q. Ok (Query q)) (query_of d) (λ q. tt))
-    (picked (λ kind. Said IsRead (message_of kind d)) (bytes_eq name (codes "flush")) _ _ tt tt)))))))))))
+kind-said n name d h =
+    picked (λ kind. Said (IsRead n) (message_of kind d)) (bytes_eq name (codes "forecast")) _ _ (as-message n (event_of values.Forecast d) (event-said n values.Forecast d h))
+    (picked (λ kind. Said (IsRead n) (message_of kind d)) (bytes_eq name (codes "report")) _ _ (as-message n (event_of values.Report d) (event-said n values.Report d h))
+    (picked (λ kind. Said (IsRead n) (message_of kind d)) (bytes_eq name (codes "correct")) _ _ (as-message n (correct_of d) (correct-said n d h))
+    (picked (λ kind. Said (IsRead n) (message_of kind d)) (bytes_eq name (codes "withdraw")) _ _ (as-message n (withdraw_of d) (withdraw-said n d h))
+    (picked (λ kind. Said (IsRead n) (message_of kind d)) (bytes_eq name (codes "cancel")) _ _ (as-message n (cancel_of d) (cancel-said n d h))
+    (picked (λ kind. Said (IsRead n) (message_of kind d)) (bytes_eq name (codes "reroute")) _ _ (as-message n (reroute_of d) (reroute-said n d h))
+    (picked (λ kind. Said (IsRead n) (message_of kind d)) (bytes_eq name (codes "extra")) _ _ (as-message n (extra_of d) (extra-said n d h))
+    (picked (λ kind. Said (IsRead n) (message_of kind d)) (bytes_eq name (codes "keep")) _ _ (as-message n (connect_of connects.Keep d) (connect-said n connects.Keep d h))
+    (picked (λ kind. Said (IsRead n) (message_of kind d)) (bytes_eq name (codes "drop")) _ _ (as-message n (connect_of connects.Drop d) (connect-said n connects.Drop d h))
+    (picked (λ kind. Said (IsRead n) (message_of kind d)) (bytes_eq name (codes "rule")) _ _ (as-message n (connect_of connects.Rule d) (connect-said n connects.Rule d h))
+    (picked (λ kind. Said (IsRead n) (message_of kind d)) (bytes_eq name (codes "query")) _ _ (with-any (IsRead n) (λ q. Ok (Query q)) (query_of d) (λ q. tt))
+    (picked (λ kind. Said (IsRead n) (message_of kind d)) (bytes_eq name (codes "flush")) _ _ tt tt)))))))))))
 
-head-said : (d : Data) → TextData d → Said (λ kind. Said IsRead (message_of kind d)) (head_of d)
+head-said : (n : ℕ) (d : Data) → IsWithin n d → Said (λ kind. Said (IsRead n) (message_of kind d)) (head_of d)
 unfolding head_of
-head-said d h =
-    with-any (λ kind. Said IsRead (message_of kind d)) _ (need Shape (number_at (codes "v") d)) (λ v.
-    with-any (λ kind. Said IsRead (message_of kind d)) _ (need Shape (text_at (codes "type") d)) (λ name.
-    behind (λ kind. Said IsRead (message_of kind d)) (λ kind. Said IsRead (message_of kind d)) _ (need Shape (kind_of name))
-    (needed (λ kind. Said IsRead (message_of kind d)) Shape (kind_of name) (kind-said name d h))
-    (λ kind is. with-any (λ kind. Said IsRead (message_of kind d)) _ (unless (has_version kind v) Shape) (λ _. is))))
+head-said n d h =
+    with-any (λ kind. Said (IsRead n) (message_of kind d)) _ (need Shape (number_at (codes "v") d)) (λ v.
+    with-any (λ kind. Said (IsRead n) (message_of kind d)) _ (need Shape (text_at (codes "type") d)) (λ name.
+    behind (λ kind. Said (IsRead n) (message_of kind d)) (λ kind. Said (IsRead n) (message_of kind d)) _ (need Shape (kind_of name))
+    (needed (λ kind. Said (IsRead n) (message_of kind d)) Shape (kind_of name) (kind-said n name d h))
+    (λ kind is. with-any (λ kind. Said (IsRead n) (message_of kind d)) _ (unless (has_version kind v) Shape) (λ _. is))))
 
-value-said : (d : Data) → TextData d → Said IsRead (said_by_value d)
+value-said : (n : ℕ) (d : Data) → IsWithin n d → Said (IsRead n) (said_by_value d)
 unfolding said_by_value
-value-said d h = behind (λ kind. Said IsRead (message_of kind d)) IsRead (λ kind. message_of kind d) (head_of d) (head-said d h) (λ kind is. is)
+value-said n d h = behind (λ kind. Said (IsRead n) (message_of kind d)) (IsRead n) (λ kind. message_of kind d) (head_of d) (head-said n d h) (λ kind is. is)
 
-utf8-said : (bytes : List ℕ) → Said IsText (utf8_of bytes)
-utf8-said bytes = cond_both (is_utf8 bytes) (Ok bytes) (Err Utf8) (Said IsText) (λ is. is) (λ is. tt)
+-- the text, as it is told from the bytes
+record IsTheText (bytes text : List ℕ) : Type 0 where
+  utf8 : IsText text
+  is : text ≡ bytes
 
-pub line-said : (bytes : List ℕ) → Said IsRead (line_of bytes)
+utf8-said : (bytes : List ℕ) → Said (IsTheText bytes) (utf8_of bytes)
+utf8-said bytes = cond_both (is_utf8 bytes) (Ok bytes) (Err Utf8) (Said (IsTheText bytes)) (λ is. record { utf8 = is; is = refl }) (λ is. tt)
+
+within-there : (n : ℕ) (o : Option Data) → If TextData o → If (λ d. data_weight d ≤ n) o → If (IsWithin n) o
+within-there n None h le = tt
+within-there n (Some d) h le = record { texts = h; light = le }
+
+-- what a line says was read of a value that weighs at most one more than the line is long
+pub line-said : (bytes : List ℕ) → Said (IsRead (1 + length bytes)) (line_of bytes)
 unfolding line_of
 line-said bytes =
-    behind IsText IsRead _ (utf8_of bytes) (utf8-said bytes) (λ text is.
-    behind TextData IsRead said_by_value (json_of text) (needed TextData Json (read text) (texts-read text is)) (λ d h. value-said d h))
+    let n : ℕ = 1 + length bytes in
+    behind (IsTheText bytes) (IsRead n) _ (utf8_of bytes) (utf8-said bytes) (λ text the.
+    let few : If (λ d. data_weight d ≤ n) (read text) = subst (λ (l : ℕ). If (λ d. data_weight d ≤ 1 + l) (read text)) (ap length the.is) (weight-read text) in
+    behind (IsWithin n) (IsRead n) said_by_value (json_of text) (needed (IsWithin n) Json (read text) (within-there n (read text) (texts-read text the.utf8) few)) (λ d h. value-said n d h))
 
-pub read-message : (bytes : List ℕ) (w : Wire) → line_of bytes ≡ Ok (Message w) → IsReadMessage w
-read-message bytes w is = subst (Said IsRead) is (line-said bytes)
+pub read-message : (bytes : List ℕ) (w : Wire) → line_of bytes ≡ Ok (Message w) → IsReadMessage (1 + length bytes) w
+read-message bytes w is = subst (Said (IsRead (1 + length bytes))) is (line-said bytes)
+
+-- a message from a line that is not long can be written
+pub can-write : (n : ℕ) (w : Wire) → n ≤ 65536 → IsReadMessage n w → CanBeWritten w
+can-write n w few is = record { proper = is.proper; labels = is.labels; texts = is.texts; short = omega (arith, message-line-size n w is.proper is.labels is.room) }

@@ -1,12 +1,13 @@
 -- What `journal` writes for the lines of an input is the journal of the messages that it accepts.
-use Rattle.std.proofs.Common.{◌≡◌, ℕ, ◌+◌, List, [], ◌∷◌, ◌++◌, All, Option, Some, None, Result, Ok, Err, refl, sym, ap, ◌∙◌, subst, map, append-nil}
-use Rattle.std.specs.List.{concat}
-use Rattle.std.proofs.lemmas.List.Elements.{All-cons, All-nil}
+use Rattle.std.proofs.Common.{◌≡◌, ℕ, ◌+◌, ◌≤◌, length, arith, List, [], ◌∷◌, ◌++◌, All, Option, Some, None, Result, Ok, Err, refl, sym, ap, ◌∙◌, subst, map, append-nil}
+use Rattle.std.specs.List.{AllByRecursion, concat}
+use Rattle.std.proofs.lemmas.List.Elements.{All-cons, All-nil, recursion_from_All}
 use mathlib.Core.List.{IsPrefix}
 use Rattle.delay_model.specs.declared.messages.Message.{Message}
 use Rattle.information_service.specs.Answering.{AreAnsweredBy, IsBeginning, IsWhole}
 use Rattle.information_service.specs.Lines.{said_by}
 use Rattle.information_service.specs.ServiceState.{ServiceState, after_line, after_said}
+use Rattle.message_reader.specs.Lines.{line_of}
 use Rattle.message_reader.specs.declared.bad_line.BadLine.{BadLine}
 use Rattle.message_reader.specs.declared.wire.Line.{Line as Spoken}
 use Rattle.message_reader.specs.declared.wire.Line.TheVariants.{Message as Says, Query as Asks, Flush}
@@ -18,9 +19,9 @@ use Rattle.journal_answers.specs.JournaledLines.{accepted_text, journal_output, 
 use Rattle.journal_replay.specs.Journals.{after_wires, journal_of, messages_in, AreTaken, CanBeHead, CanBeWritten, IsReadSoFar}
 use Rattle.journal_replay.specs.Reading.{accepted_wire, after_bytes, after_wire, nothing_read}
 use Rattle.journal_replay.proofs.Beginnings.{journal-read}
-use Rattle.journal_laws.specs.Journaled.{accepted_wires, after_lines, in_front, read_behind, said_in_front, HasShortLine}
+use Rattle.journal_laws.specs.Journaled.{accepted_wires, after_lines, in_front, read_behind, said_in_front, IsInputLine}
 use Rattle.journal_laws.proofs.Accepted.{refused-leaves}
-use Rattle.journal_laws.proofs.ReadMessages.{IsRead, IsReadMessage, Said, line-said}
+use Rattle.journal_laws.proofs.ReadMessages.{IsRead, Said, can-write, line-said}
 use Rattle.journal_laws.proofs.WholeRead.{whole-read}
 
 -- the lines of messages
@@ -67,31 +68,39 @@ answers-are t header n (x ∷ xs) bytes now header_now (text, rest, next, header
     ∙ ap (λ (s : ServiceState). said_text t (said_by x) ++ texts (accepted_wires s xs)) one.leaves
     ∙ (said-leads t (said_by x) (accepted_wires (after_line t x) xs)).written
 
--- ---- what was read of the lines
+-- ---- what was read of the lines can be written
 
-in-front-read : (w : Wire) (o : Option Message) (ws : List Wire) → IsReadMessage w → All IsReadMessage ws → All IsReadMessage (in_front w o ws)
-in-front-read w (Some m) ws is all = All-cons IsReadMessage w ws is all
-in-front-read w None ws is all = all
+abbrev IsWritten : Spoken → Type 0
+IsWritten (Says w) = CanBeWritten w
+IsWritten (Asks q) = Unit {0}
+IsWritten Flush = Unit {0}
 
-said-read : (t : ServiceState) (said : Result Spoken BadLine) (ws : List Wire) → Said IsRead said → All IsReadMessage ws → All IsReadMessage (said_in_front t said ws)
-said-read t (Ok (Says w)) ws is all = in-front-read w (accepted_wire t w) ws is all
-said-read t (Ok (Asks q)) ws is all = all
-said-read t (Ok Flush) ws is all = all
-said-read t (Err bad) ws is all = all
+written : (n : ℕ) (said : Result Spoken BadLine) → n ≤ 65536 → Said (IsRead n) said → Said IsWritten said
+written n (Ok (Says w)) few is = can-write n w few is
+written n (Ok (Asks q)) few is = tt
+written n (Ok Flush) few is = tt
+written n (Err bad) few is = tt
 
-input-said : (x : Line) → Said IsRead (said_by x)
-input-said long = tt
-input-said (short bytes) = line-said bytes
+line-written : (x : Line) → IsInputLine x → Said IsWritten (said_by x)
+line-written long few = tt
+line-written (short bytes) few = written (1 + length bytes) (line_of bytes) (omega arith) (line-said bytes)
 
-lines-are-read : (t : ServiceState) (lines : List Line) → All IsReadMessage (accepted_wires t lines)
-lines-are-read t [] = All-nil IsReadMessage
-lines-are-read t (x ∷ xs) = said-read t (said_by x) (accepted_wires (after_line t x) xs) (input-said x) (lines-are-read (after_line t x) xs)
+in-front-written : (w : Wire) (o : Option Message) (ws : List Wire) → CanBeWritten w → All CanBeWritten ws → All CanBeWritten (in_front w o ws)
+in-front-written w (Some m) ws is all = All-cons CanBeWritten w ws is all
+in-front-written w None ws is all = all
 
--- so those whose lines are not too long can be written
-can-be-written : (t : ServiceState) (lines : List Line) → All HasShortLine (accepted_wires t lines) → All CanBeWritten (accepted_wires t lines)
-can-be-written t lines few k d within =
-    let is = lines-are-read t lines k d within in
-    record { proper = is.proper; labels = is.labels; texts = is.texts; short = few k d within }
+said-written : (t : ServiceState) (said : Result Spoken BadLine) (ws : List Wire) → Said IsWritten said → All CanBeWritten ws → All CanBeWritten (said_in_front t said ws)
+said-written t (Ok (Says w)) ws is all = in-front-written w (accepted_wire t w) ws is all
+said-written t (Ok (Asks q)) ws is all = all
+said-written t (Ok Flush) ws is all = all
+said-written t (Err bad) ws is all = all
+
+lines-written : (t : ServiceState) (lines : List Line) → AllByRecursion IsInputLine lines → All CanBeWritten (accepted_wires t lines)
+lines-written t [] few = All-nil CanBeWritten
+lines-written t (x ∷ xs) few = said-written t (said_by x) (accepted_wires (after_line t x) xs) (line-written x few.0) (lines-written (after_line t x) xs few.1)
+
+can-be-written : (t : ServiceState) (lines : List Line) → All IsInputLine lines → All CanBeWritten (accepted_wires t lines)
+can-be-written t lines few = lines-written t lines (recursion_from_All IsInputLine lines few)
 
 -- ---- all that is written
 
@@ -104,7 +113,7 @@ module _ (head : Head) (t : ServiceState) (lines : List Line) (bytes : List ℕ)
       w.all ∙ ap (λ (l : List ℕ). text_of_head head ++ l) (append-nil w.shown ∙ answers-are t (text_of_head head) 0 lines w.shown w.answers.now w.answers.kept_now w.answers.answers)
 
   -- and so it is read again
-  pub read-again : CanBeHead head → All HasShortLine (accepted_wires t lines) → bytes ≡ journal_of head (accepted_wires t lines)
+  pub read-again : CanBeHead head → All IsInputLine lines → bytes ≡ journal_of head (accepted_wires t lines)
       → after_bytes (text_of_head head) (nothing_read t) bytes ≡ read_behind t lines
   read-again can few is =
       let all = can-be-written t lines few in
@@ -114,6 +123,6 @@ module _ (head : Head) (t : ServiceState) (lines : List Line) (bytes : List ℕ)
       ∙ ap (λ (s : ServiceState). record { service = s; messages = messages_in t ws; lines = (read_behind t lines).lines; held = []; refusal = None }) (lines-lead t lines)
 
   -- and so is every beginning
-  pub torn-read : (front : List ℕ) → CanBeHead head → All HasShortLine (accepted_wires t lines) → bytes ≡ journal_of head (accepted_wires t lines) → IsPrefix front bytes
+  pub torn-read : (front : List ℕ) → CanBeHead head → All IsInputLine lines → bytes ≡ journal_of head (accepted_wires t lines) → IsPrefix front bytes
       → IsReadSoFar t (accepted_wires t lines) front (after_bytes (text_of_head head) (nothing_read t) front)
   torn-read front can few is begins = journal-read head t (accepted_wires t lines) front begins.0 can (can-be-written t lines few) (lines-taken t lines) (begins.1 ∙ is)

@@ -1,17 +1,16 @@
 -- Which messages `journal` writes for the lines of an input, and how far what it writes is read.
-use Rattle.std.specs.Prelude.{◌≤◌, ◌+◌, List, [], ◌∷◌, Result, Ok, Err, Some, None, fold, length}
+use Rattle.std.specs.Prelude.{ℕ, ◌<◌, ◌+◌, List, [], ◌∷◌, Result, Ok, Err, Some, None, fold, length}
 use Rattle.std.specs.declared.option.Option.{Option}
 use Rattle.delay_model.specs.declared.messages.Message.{Message}
 use Rattle.information_service.specs.Lines.{said_by}
 use Rattle.information_service.specs.ServiceState.{ServiceState, after_line}
-use Rattle.journal_lines.specs.Lines.{text_of_message}
 use Rattle.journal_replay.specs.Journals.{messages_in}
-use Rattle.journal_replay.specs.Reading.{JournalProgress, accepted_wire, long_from}
+use Rattle.journal_replay.specs.Reading.{JournalProgress, accepted_wire}
 use Rattle.message_reader.specs.declared.bad_line.BadLine.{BadLine}
 use Rattle.message_reader.specs.declared.wire.Line.{Line as Spoken}
 use Rattle.message_reader.specs.declared.wire.Line.TheVariants.{Message as Says, Query as Asks, Flush}
 use Rattle.message_reader.specs.declared.wire.Wire.{Wire}
-use Rattle.mt_io.specs.Lines.{Line}
+use Rattle.mt_io.specs.Lines.{Line, long, short}
 
 -- a message in front of others, if it is accepted as this one by number
 abbrev pub in_front : Wire → Option Message → List Wire → List Wire
@@ -31,9 +30,10 @@ abbrev pub accepted_wires : ServiceState → List Line → List Wire
 accepted_wires t [] = []
 accepted_wires t (x ∷ xs) = said_in_front t (said_by x) (accepted_wires (after_line t x) xs)
 
--- the line of the message is not too long
-abbrev pub HasShortLine : Wire → Type 0
-HasShortLine w = length (text_of_message w) ≤ long_from
+-- the line is as lines of inputs are: a line of 65,536 bytes or more is told as a long one
+abbrev pub IsInputLine : Line → Type 0
+IsInputLine (short bytes) = length bytes < 65536
+IsInputLine long = Unit {0}
 
 -- the service behind the lines of an input
 abbrev pub after_lines : ServiceState → List Line → ServiceState

@@ -7,7 +7,7 @@ ghost use Rattle.information_service.specs.Answering.{IsBeginning, IsWhole};
 ghost use Rattle.information_service.specs.Lines.{accepted_of};
 ghost use Rattle.information_service.specs.ServiceState.{service_after, ServiceState};
 ghost use Rattle.journal_answers.specs.JournaledLines.{journal_output};
-ghost use Rattle.journal_laws.specs.Journaled.{accepted_wires, after_lines, read_behind, HasShortLine};
+ghost use Rattle.journal_laws.specs.Journaled.{accepted_wires, after_lines, read_behind, IsInputLine};
 ghost use Rattle.journal_laws.specs.Parts.{IsJournalRead};
 ghost use Rattle.journal_lines.specs.declared.heads.Head.{Head as AHead};
 ghost use Rattle.journal_lines.specs.Lines.{text_of_head, HasTexts};
@@ -74,15 +74,15 @@ pub fn what_journal_writes_is_read_again()
         → bytes ≡ journal_of head (accepted_wires s lines) }
     ensures taken { (s : ServiceState) (lines : List Line) → AreTaken s (accepted_wires s lines) }
     ensures again { (head : AHead) (s : ServiceState) (lines : List Line) (bytes : List ℕ)
-        → CanBeHead head → All HasShortLine (accepted_wires s lines)
+        → CanBeHead head → All IsInputLine lines
         → IsWhole journal_output s (text_of_head head) lines bytes
         → replay_of (text_of_head head) s bytes ≡ read_behind s lines }
     ensures begun { (head : AHead) (s : ServiceState) (lines : List Line) (bytes : List ℕ)
-        → CanBeHead head → All HasShortLine (accepted_wires s lines)
+        → CanBeHead head → All IsInputLine lines
         → IsBeginning journal_output s (text_of_head head) lines bytes
         → replay_of (text_of_head head) s bytes ≡ read_behind s lines }
     ensures torn { (head : AHead) (s : ServiceState) (lines : List Line) (bytes front : List ℕ)
-        → CanBeHead head → All HasShortLine (accepted_wires s lines)
+        → CanBeHead head → All IsInputLine lines
         → IsWhole journal_output s (text_of_head head) lines bytes → IsPrefix front bytes
         → IsReadSoFar s (accepted_wires s lines) front
         (replay_of (text_of_head head) s front) }
