@@ -37,19 +37,11 @@ use Rattle.message_reader.specs.Wires.{IsProper, IsWireCall}
 use Rattle.journal_lines.specs.Lines.{HasStopText, HasTexts}
 use Rattle.journal_replay.specs.Journals.{CanBeWritten}
 use Rattle.journal_laws.proofs.Sizes.{HasRoom, calls_weight, message-line-size}
-use Rattle.journal_laws.proofs.Texts.{If, chained}
+use Rattle.journal_laws.proofs.Texts.{If, any, chained, looser}
 use Rattle.journal_laws.proofs.Weights.{data_weight, get-weight, items-weight, items_weight, text-weight, two-texts, weight-read}
 use Rattle.journal_laws.proofs.ReadTexts.{TextData, TextItems, get-text, items-in, text-in, texts-read}
 
 -- ---- numbers, times and dates
-
-weaker : {A : Type 0} (P Q : A → Type 0) → ((a : A) → P a → Q a) → (o : Option A) → If P o → If Q o
-weaker P Q k None h = tt
-weaker P Q k (Some a) h = k a h
-
-any : {A : Type 0} (o : Option A) → If (λ _. ⊤) o
-any None = tt
-any (Some a) = tt
 
 abbrev Below : ℕ → ℕ → Type 0
 Below bound n = n < bound
@@ -86,7 +78,7 @@ abbrev IsTime : ℕ → Type 0
 IsTime s = s ≤ 359999
 
 hour-is : (hours : ℕ) (bytes : List ℕ) → hours < 100 → If IsTime (clock hours bytes)
-hour-is hours bytes few = weaker (Below (3600 * hours + 3600)) IsTime (λ s lt. omega arith) (clock hours bytes) (clock-is hours bytes)
+hour-is hours bytes few = looser (Below (3600 * hours + 3600)) IsTime (λ s lt. omega arith) (clock hours bytes) (clock-is hours bytes)
 
 seconds-are : (bytes : List ℕ) → If IsTime (seconds_of bytes)
 unfolding seconds_of
@@ -147,7 +139,8 @@ items-there : (n : ℕ) (d : Data) (o : Option Items) → data_weight d ≤ n �
 items-there n d None few h le = tt
 items-there n d (Some ds) few h le = record { texts = h; light = omega arith }
 
-object-there : (n : ℕ) (k : List ℕ) (d : Data) (o : Option Data) → data_weight d ≤ n → If TextData o → If (λ e. 2 + length k + data_weight e ≤ data_weight d) o → If (IsWithin n) o
+object-there : (n : ℕ) (k : List ℕ) (d : Data) (o : Option Data) → data_weight d ≤ n → If TextData o → If (λ e. 2 + length k + data_weight e ≤ data_weight d) o
+    → If (IsWithin n) o
 object-there n k d None few h le = tt
 object-there n k d (Some e) few h le = record { texts = h; light = omega arith }
 
@@ -197,7 +190,8 @@ named-said : (n : ℕ) (d : Data) → IsWithin n d → Said (IsNamed n) (named_e
 unfolding named_event
 named-said n d h =
     with-text n (IsNamed n) _ (codes "trip") d h (λ trip t. with-text n (IsNamed n) _ (codes "date") d h (λ date u. with-label (IsNamed n) _ (codes "call") d (λ call lt.
-    with-text n (IsNamed n) _ (codes "event") d h (λ event v. with-any (IsNamed n) _ (need Shape (departure_of event)) (λ dep. record { trip = t.utf8; short = omega (arith, t.weighs, h.light); call = lt })))))
+    with-text n (IsNamed n) _ (codes "event") d h (λ event v. with-any (IsNamed n) _ (need Shape (departure_of event))
+    (λ dep. record { trip = t.utf8; short = omega (arith, t.weighs, h.light); call = lt })))))
 
 event-said : (n : ℕ) (kind : ValueKind) (d : Data) → IsWithin n d → Said (IsReadMessage n) (event_of kind d)
 unfolding event_of
@@ -227,13 +221,19 @@ correct-said n d h =
 withdraw-said : (n : ℕ) (d : Data) → IsWithin n d → Said (IsReadMessage n) (withdraw_of d)
 unfolding withdraw_of
 withdraw-said n d h =
-    behind (IsNamed n) (IsReadMessage n) _ (named_event d) (named-said n d h) (λ named is. with-date (IsReadMessage n) _ named.date (λ day civil. record { proper = civil; labels = is.call; texts = is.trip; room = is.short }))
+    behind (IsNamed n) (IsReadMessage n) _ (named_event d) (named-said n d h) (λ named is. with-date (IsReadMessage n) _ named.date
+    (λ day civil. record { proper = civil; labels = is.call; texts = is.trip; room = is.short }))
 
 cancel-said : (n : ℕ) (d : Data) → IsWithin n d → Said (IsReadMessage n) (cancel_of d)
 unfolding cancel_of
 cancel-said n d h =
     with-text n (IsReadMessage n) _ (codes "trip") d h (λ trip t. with-text n (IsReadMessage n) _ (codes "date") d h (λ date u. with-label (IsReadMessage n) _ (codes "from") d (λ from lt.
-    with-label (IsReadMessage n) _ (codes "to") d (λ to less. with-date (IsReadMessage n) _ date (λ day civil. record { proper = civil; labels = (lt, less); texts = t.utf8; room = omega (arith, t.weighs, h.light) })))))
+    with-label (IsReadMessage n) _ (codes "to") d (λ to less. with-date (IsReadMessage n) _ date (λ day civil. record {
+      proper = civil;
+      labels = (lt, less);
+      texts = t.utf8;
+      room = omega (arith, t.weighs, h.light);
+    })))))
 
 -- ---- messages about connections
 

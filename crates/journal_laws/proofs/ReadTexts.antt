@@ -1,6 +1,6 @@
 -- Each string in the value that a text in UTF-8 is, is in UTF-8.
 use Rattle.std.proofs.Common.{◌≡◌, ℕ, zero, suc, ◌-◌, ◌==◌, ◌&&◌, nat_eq, cond, Bool, true, false, List, [], ◌∷◌, ◌++◌, length, take, drop}
-use Rattle.std.proofs.Common.{Option, Some, None, option_map, IsUtf8, refl, sym, subst, append_assoc, arith}
+use Rattle.std.proofs.Common.{Option, Some, None, IsUtf8, refl, sym, subst, append_assoc, arith}
 use Rattle.std.proofs.lemmas.Bool.{cond_both}
 use Rattle.std.proofs.lemmas.Bool.Decides.{nat_tests}
 use Rattle.std.proofs.lemmas.Str.{IsUtf8-from_is_utf8}
@@ -20,7 +20,7 @@ use Rattle.serde_json.specs.Data.{put}
 use Rattle.serde_json.specs.Find.{as_array, as_str, get, get_member}
 use Rattle.serde_json.specs.Read.{of_json, of_items, of_members, max_depth, read}
 use Rattle.message_reader.specs.Fields.{items_at, text_at}
-use Rattle.journal_laws.proofs.Texts.{If, chained, string-text}
+use Rattle.journal_laws.proofs.Texts.{If, any, chained, made-by, string-text}
 
 -- ---- the tokens of a text
 
@@ -294,14 +294,6 @@ abbrev mutual
   pub TextMembers : made.Members → Type 0
   TextMembers made.no_members = ⊤
   TextMembers (made.member k d ms) = TextData d × TextMembers ms
-
-made-by : {A B : Type 0} (P : A → Type 0) (Q : B → Type 0) (f : A → B) → ((a : A) → P a → Q (f a)) → (o : Option A) → If P o → If Q (option_map f o)
-made-by P Q f k None h = tt
-made-by P Q f k (Some a) h = k a h
-
-any : {A : Type 0} (o : Option A) → If (λ _. ⊤) o
-any None = tt
-any (Some a) = tt
 
 text-put : (k : List ℕ) (d : made.Data) (ms : made.Members) → TextData d → TextMembers ms → TextMembers (put k d ms)
 text-put k d made.no_members one rest = (one, tt)

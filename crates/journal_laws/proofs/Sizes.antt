@@ -1,12 +1,13 @@
 -- How long the line of a message is at most.
-use Rattle.std.proofs.Common.{◌≡◌, ℕ, ◌+◌, ◌*◌, ◌^◌, ◌<◌, ◌≤◌, Bool, true, false, Option, Some, None, IfSome, List, [], ◌∷◌, ◌++◌, length, All, refl, arith, length-append}
+use Rattle.std.proofs.Common.{◌≡◌, ℕ, ◌+◌, ◌*◌, ◌^◌, ◌<◌, ◌≤◌, Bool, true, false, Option, Some, None, List, [], ◌∷◌, ◌++◌, length, refl, arith}
+use Rattle.std.proofs.Common.{length-append}
 use Rattle.std.specs.List.{AllByRecursion}
 use Rattle.std.specs.Prelude.{codes, decimal}
 use Rattle.std.proofs.lemmas.Bool.Decides.{nat_tests}
 use Rattle.std.proofs.lemmas.Fmt.{length-decimal-le}
 use Rattle.std.proofs.lemmas.List.Elements.{recursion_from_All}
 use Rattle.json.specs.Print.{escape, escape_byte, quoted}
-use Rattle.serde_json.specs.Data.{unsigned, Data, null, boolean, number, string, array, object, Items, no_items, item, Members, no_members, member}
+use Rattle.serde_json.specs.Data.{Data, null, boolean, number, string, array, object, Members, no_members, member}
 use Rattle.serde_json.specs.Written.{comma_if, compact_text, items_text, members_text, number_text}
 use Rattle.train_nodes.specs.declared.kinds.ValueKind.{ValueKind}
 use Rattle.train_nodes.specs.declared.kinds.ValueKind.TheVariants as values
@@ -15,8 +16,7 @@ use Rattle.message_reader.specs.declared.wire.Connect.TheVariants as connects
 use Rattle.message_reader.specs.declared.wire.Wire.{Wire}
 use Rattle.message_reader.specs.declared.wire.Wire.TheVariants.{Event, Correct, Withdraw, Cancel, Reroute, Extra, Connect}
 use Rattle.message_reader.specs.declared.wire.WireCall.{WireCall}
-use Rattle.message_reader.specs.declared.wire.WireRef.{WireRef}
-use Rattle.message_reader.specs.Spelled.{HasLabels, call_object, call_objects, connect_name, date_text, event_name, object_of, ref_object, time_or_null, time_text, value_name}
+use Rattle.message_reader.specs.Spelled.{HasLabels, call_object, call_objects, connect_name, date_text, event_name, object_of, time_or_null, time_text, value_name}
 use Rattle.message_reader.specs.Wires.{IsProper, IsWireCall}
 use Rattle.journal_lines.specs.Lines.{text_of_message}
 
@@ -34,7 +34,11 @@ escape-size : (s : List ℕ) → length (escape s) ≤ 6 * length s
 escape-size [] = omega arith
 escape-size (x ∷ xs) = omega (arith, byte-size x, escape-size xs, length-append (escape_byte x) (escape xs))
 
-clean-escape : (s : List ℕ) → AllByRecursion (λ x. (48 ≤ x) × (x ≤ 58)) s → length (escape s) ≤ length s
+-- a digit or a colon
+abbrev IsClean : ℕ → Type 0
+IsClean x = (48 ≤ x) × (x ≤ 58)
+
+clean-escape : (s : List ℕ) → AllByRecursion IsClean s → length (escape s) ≤ length s
 clean-escape [] h = omega arith
 clean-escape (x ∷ xs) h = omega (arith, clean-size x h.0.0 h.0.1, clean-escape xs h.1, length-append (escape_byte x) (escape xs))
 
@@ -52,12 +56,13 @@ time-size : (s : ℕ) → length (quoted (time_text s)) ≤ 50
 unfolding time_text
 time-size s = quoted-size (time_text s)
 
+clean-time : (s : ℕ) → s ≤ 359999 → AllByRecursion IsClean (time_text s)
+unfolding time_text
+clean-time s le = grind arith
+
 clock-size : (s : ℕ) → s ≤ 359999 → length (quoted (time_text s)) ≤ 10
 unfolding time_text
-clock-size s le =
-    let clean : length (escape (time_text s)) ≤ length (time_text s) = clean-escape (time_text s)
-    ((omega arith, omega arith), ((omega arith, omega arith), ((omega arith, omega arith), ((omega arith, omega arith), ((omega arith, omega arith), ((omega arith, omega arith), ((omega arith, omega arith), ((omega arith, omega arith), tt))))))))
-    in omega (arith, quoted-is (time_text s))
+clock-size s le = omega (arith, quoted-is (time_text s), clean-escape (time_text s) (clean-time s le))
 
 label-size : (n : ℕ) → n < 2 ^ 32 → length (decimal n) ≤ 10
 label-size n lt = length-decimal-le 10 n (omega arith) (omega arith) (omega arith)
@@ -157,10 +162,7 @@ event-word true = quoted-size (codes "dep")
 event-word false = quoted-size (codes "arr")
 
 value-word : (kind : ValueKind) → length (quoted (value_name kind)) ≤ 50
-value-word values.Report = weaker (quoted-size (codes "report"))
-  where
-    weaker : length (quoted (codes "report")) ≤ 38 → length (quoted (codes "report")) ≤ 50
-    weaker h = omega arith
+value-word values.Report = omega (arith, quoted-size (codes "report"))
 value-word values.Forecast = quoted-size (codes "forecast")
 
 connect-word : (kind : AConnect) → length (quoted (connect_name kind)) ≤ 26
@@ -182,13 +184,45 @@ message-size n (Withdraw trip date call dep) proper labels room =
 message-size n (Cancel trip date from to) proper labels room =
     omega (arith, label-size from labels.0, label-size to labels.1, date-size date, quoted-size trip, quoted-size (codes "cancel"), label-size 2 (omega arith))
 message-size n (Reroute trip date from to via) proper labels room =
-    omega (arith, label-size from labels.0, label-size to labels.1, date-size date, quoted-size trip, quoted-size (codes "reroute"), label-size 2 (omega arith),
-    calls-size false via (recursion_from_All IsWireCall via proper.1), room.0, room.1)
+    omega (
+      arith,
+      label-size from labels.0,
+      label-size to labels.1,
+      date-size date,
+      quoted-size trip,
+      quoted-size (codes "reroute"),
+      label-size 2 (omega arith),
+      calls-size false via (recursion_from_All IsWireCall via proper.1),
+      room.0,
+      room.1,
+    )
 message-size n (Extra trip date route calls) proper labels room =
-    omega (arith, date-size date, quoted-size trip, quoted-size route, quoted-size (codes "extra"), label-size 2 (omega arith), calls-size false calls (recursion_from_All IsWireCall calls proper.1), room.0, room.1)
+    omega (
+      arith,
+      date-size date,
+      quoted-size trip,
+      quoted-size route,
+      quoted-size (codes "extra"),
+      label-size 2 (omega arith),
+      calls-size false calls
+          (recursion_from_All IsWireCall calls proper.1),
+      room.0,
+      room.1,
+    )
 message-size n (Connect kind feeder train) proper labels room =
-    omega (arith, label-size feeder.call labels.0, label-size train.call labels.1, date-size feeder.date, date-size train.date, quoted-size feeder.trip, quoted-size train.trip, connect-word kind, label-size 2 (omega arith),
-    room.0, room.1)
+    omega (
+      arith,
+      label-size feeder.call labels.0,
+      label-size train.call labels.1,
+      date-size feeder.date,
+      date-size train.date,
+      quoted-size feeder.trip,
+      quoted-size train.trip,
+      connect-word kind,
+      label-size 2 (omega arith),
+      room.0,
+      room.1,
+    )
 
 pub message-line-size : (n : ℕ) (w : Wire) → IsProper w → HasLabels w → HasRoom n w → length (text_of_message w) ≤ 13 * n + 901
 message-line-size n w proper labels room = omega (arith, line-size (13 * n + 900) w (message-size n w proper labels room))

@@ -1,5 +1,6 @@
 -- What a string holds is no longer than the bytes that stand for it.
-use Rattle.std.proofs.Common.{◌≡◌, ℕ, ◌+◌, ◌≤◌, Bool, true, false, cond, ◌&&◌, ◌==◌, nat_lt, List, [], ◌∷◌, length, Option, Some, None, option_and_then, refl, sym, ap, ◌∙◌, arith}
+use Rattle.std.proofs.Common.{◌≡◌, ℕ, ◌+◌, ◌≤◌, Bool, true, false, cond, ◌&&◌, ◌==◌, nat_lt, List, [], ◌∷◌, length, Option, Some, None, option_and_then}
+use Rattle.std.proofs.Common.{refl, sym, ap, ◌∙◌, arith}
 use Rattle.std.proofs.lemmas.Bool.{false≢true, eqb-true, and_parts}
 use Rattle.std.proofs.lemmas.List.{length-append}
 use Rattle.std.specs.Prelude.{⊤}
@@ -55,7 +56,8 @@ passes false false k = refl
 span_plain : (x : ℕ) (xs : List ℕ) → (x == 34) ≡ false → (x == 92) ≡ false → span in_string (x ∷ xs) ≡ 1 + span in_string xs
 unfolding span
 span_plain x xs q b =
-    (λ i. span_byte in_string (cond (q i) quote (cond (b i) backslash (cond (is_operator x) operator (cond (is_space x) space other)))) (λ n. span n xs)) ∙ passes (is_operator x) (is_space x) (λ n. span n xs)
+    (λ i. span_byte in_string (cond (q i) quote (cond (b i) backslash (cond (is_operator x) operator (cond (is_space x) space other)))) (λ n. span n xs)) ∙ passes (is_operator x)
+    (is_space x) (λ n. span n xs)
 
 span_backslash : (x : ℕ) (xs : List ℕ) → (x == 92) ≡ true → span in_string (x ∷ xs) ≡ 1 + span in_escape xs
 unfolding span
@@ -110,4 +112,11 @@ content-span (after_high h) (s ∷ u ∷ a ∷ b ∷ c ∷ d ∷ xs) =
     let n = span in_string (s ∷ u ∷ a ∷ b ∷ c ∷ d ∷ xs) in
     both n ((s == 92) && (u == 117)) _ _ (λ e. found n _ (code_unit a b c d) (λ f l. both n (is_low_surrogate l) _ _
     (λ y. longer n _ (encode_utf8 (surrogate_pair h l)) _ (content-span plain xs)
-    (omega (arith, span_backslash s (u ∷ a ∷ b ∷ c ∷ d ∷ xs) (and_parts _ _ e).0, span_escape u (a ∷ b ∷ c ∷ d ∷ xs), span_unit a b c d xs f, length-encode (surrogate_pair h l)))) (λ y. tt))) (λ e. tt)
+    (omega (
+      arith,
+      span_backslash s (u ∷ a ∷ b ∷ c ∷ d ∷ xs) (and_parts _ _ e).0,
+      span_escape u (a ∷ b ∷ c ∷ d ∷ xs),
+      span_unit a b c d xs f,
+      length-encode
+          (surrogate_pair h l),
+    ))) (λ y. tt))) (λ e. tt)

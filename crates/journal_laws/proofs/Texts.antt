@@ -1,5 +1,6 @@
 -- The strings of a text in UTF-8 are in UTF-8 as well.
-use Rattle.std.proofs.Common.{◌≡◌, ℕ, ◌+◌, ◌<◌, true, false, ◌&&◌, ◌==◌, nat_lt, List, [], ◌∷◌, ◌++◌, length, drop, get_or, Option, Some, None, option_and_then}
+use Rattle.std.proofs.Common.{◌≡◌, ℕ, ◌+◌, ◌<◌, true, false, ◌&&◌, ◌==◌, nat_lt, List, [], ◌∷◌, ◌++◌, length, drop, get_or, Option, Some, None}
+use Rattle.std.proofs.Common.{option_and_then, option_map}
 use Rattle.std.proofs.Common.{IsUtf8, refl, sym, ap, ◌∙◌, subst, append_assoc, append-nil, arith}
 use Rattle.std.proofs.lemmas.Bool.{and_parts, cond_both, eqb-true}
 use Rattle.std.proofs.lemmas.Bool.Decides.{nat_tests}
@@ -17,6 +18,18 @@ If P (Some a) = P a
 pub chained : {A B : Type 0} (P : A → Type 0) (Q : B → Type 0) (f : A → Option B) → ((a : A) → P a → If Q (f a)) → (o : Option A) → If P o → If Q (option_and_then f o)
 chained P Q f k None h = tt
 chained P Q f k (Some a) h = k a h
+
+pub made-by : {A B : Type 0} (P : A → Type 0) (Q : B → Type 0) (f : A → B) → ((a : A) → P a → Q (f a)) → (o : Option A) → If P o → If Q (option_map f o)
+made-by P Q f k None h = tt
+made-by P Q f k (Some a) h = k a h
+
+pub looser : {A : Type 0} (P Q : A → Type 0) → ((a : A) → P a → Q a) → (o : Option A) → If P o → If Q o
+looser P Q k None h = tt
+looser P Q k (Some a) h = k a h
+
+pub any : {A : Type 0} (o : Option A) → If (λ _. ⊤) o
+any None = tt
+any (Some a) = tt
 
 -- ---- where a text may be cut
 

@@ -1,5 +1,6 @@
 -- The strings and keys of a value are together no longer than the text that it was read of.
-use Rattle.std.proofs.Common.{◌≡◌, ℕ, zero, suc, ◌+◌, ◌≤◌, Bool, true, false, List, [], ◌∷◌, length, Option, Some, None, option_map, option_and_then, Ordering, Less, Equal, Greater, is_eq, nat_cmp, refl, sym, ap, ◌∙◌, arith}
+use Rattle.std.proofs.Common.{◌≡◌, ℕ, zero, suc, ◌+◌, ◌≤◌, Bool, true, false, List, [], ◌∷◌, length, Option, Some, None, option_and_then, Ordering, Less, Equal}
+use Rattle.std.proofs.Common.{Greater, is_eq, nat_cmp, refl, sym, ap, ◌∙◌, arith}
 use Rattle.std.proofs.lemmas.Map.Text.{is_eq-slice_cmp}
 use Rattle.std.proofs.lemmas.Slice.Eq.{bytes_eq-Decides}
 use Rattle.std.specs.Cmp.Lexicographic.{slice_cmp}
@@ -19,7 +20,7 @@ use Rattle.serde_json.specs.Find.{as_array, as_str, get, get_member}
 use Rattle.serde_json.specs.Read.{of_json, of_items, of_members, max_depth, read}
 use Rattle.message_reader.specs.Fields.{items_at, text_at}
 use Rattle.journal_laws.proofs.Spans.{AtMost, content-span}
-use Rattle.journal_laws.proofs.Texts.{If, chained}
+use Rattle.journal_laws.proofs.Texts.{If, any, chained, looser, made-by}
 use Rattle.journal_laws.proofs.ReadTexts.{IsWordLexeme, IsWordToken, operator-is, word-is}
 
 -- ---- the tokens of a text
@@ -106,7 +107,8 @@ lexemes-weigh : (m : Mode) (xs : List ℕ) → lexemes_weight (lex m xs) + span 
 unfolding lex span
 lexemes-weigh m [] = omega arith
 lexemes-weigh m (x ∷ xs) =
-    byte-weight m (class x) x xs (λ next. lex next xs) (λ next. span next xs) (length xs) (content-span plain xs) (not-in between xs (λ c k. refl)) (not-in in_word xs (λ c k. refl)) (λ next. lexemes-weigh next xs)
+    byte-weight m (class x) x xs (λ next. lex next xs) (λ next. span next xs) (length xs) (content-span plain xs) (not-in between xs (λ c k. refl)) (not-in in_word xs (λ c k. refl))
+    (λ next. lexemes-weigh next xs)
 
 allowed-weight : (b : Bool) (t : Token) (k : Place → List Token) (next : Place) (n : ℕ) → weights (k next) ≤ n → weights (if_allowed b t k next) ≤ weight t + n
 allowed-weight true t k next n rest = omega arith
@@ -198,7 +200,8 @@ key-weighs (Token.boolean b ∷ ts) = tt
 key-weighs (Token.null ∷ ts) = tt
 key-weighs (Token.bad ∷ ts) = tt
 
-mapped : {A B : Type 0} (v : A → ℕ) (w : B → ℕ) (f : A → B) (m n : ℕ) → ((a : A) (rest : ℕ) → v a + rest ≤ m → w (f a) + rest ≤ n) → (o : Option (A × List Token)) → Weighs v m o → Weighs w n (parse_map f o)
+mapped : {A B : Type 0} (v : A → ℕ) (w : B → ℕ) (f : A → B) (m n : ℕ) → ((a : A) (rest : ℕ) → v a + rest ≤ m → w (f a) + rest ≤ n) → (o : Option (A × List Token))
+    → Weighs v m o → Weighs w n (parse_map f o)
 mapped v w f m n k None h = tt
 mapped v w f m n k (Some q) h = k q.0 (weights q.1) h
 
@@ -206,7 +209,8 @@ abbrev Keeps : {A : Type 0} → (A → ℕ) → Parse A → Type 0
 Keeps w parse = (ts : List Token) → Weighs w (weights ts) (parse ts)
 
 module _ (p : Parse json.Json) (keeps : Keeps json_weight p) where
-  items-step : (more : Parse json.Items) → Keeps jsons_weight more → (ts : List Token) (o : Option (List Token)) → If (λ rest. 1 + weights rest ≤ weights ts) o → Weighs jsons_weight (weights ts) (items_step p more ts o)
+  items-step : (more : Parse json.Items) → Keeps jsons_weight more → (ts : List Token) (o : Option (List Token)) → If (λ rest. 1 + weights rest ≤ weights ts) o
+      → Weighs jsons_weight (weights ts) (items_step p more ts o)
   items-step more again ts (Some rest) e = e
   items-step more again ts None e =
       chained (λ q. json_weight q.0 + weights q.1 ≤ weights ts) (λ q. jsons_weight q.0 + weights q.1 ≤ weights ts) _
@@ -217,7 +221,8 @@ module _ (p : Parse json.Json) (keeps : Keeps json_weight p) where
   items-keep zero ts = tt
   items-keep (suc n) ts = items-step (items p n) (items-keep n) ts (after_end_array ts) (end-weighs ts)
 
-  members-step : (more : Parse json.Members) → Keeps fields_weight more → (n : ℕ) (key : Option (List ℕ)) (ts : List Token) → key_weight key + weights ts ≤ n → Weighs fields_weight n (members_step p more key ts)
+  members-step : (more : Parse json.Members) → Keeps fields_weight more → (n : ℕ) (key : Option (List ℕ)) (ts : List Token) → key_weight key + weights ts ≤ n
+      → Weighs fields_weight n (members_step p more key ts)
   members-step more again n None ts h = h
   members-step more again n (Some k) ts h =
       chained (λ q. json_weight q.0 + weights q.1 ≤ weights ts) (λ q. fields_weight q.0 + weights q.1 ≤ n) _
@@ -269,14 +274,6 @@ abbrev mutual
   members_weight made.no_members = 0
   members_weight (made.member k d ms) = (1 + length k) + (data_weight d + members_weight ms)
 
-made-by : {A B : Type 0} (P : A → Type 0) (Q : B → Type 0) (f : A → B) → ((a : A) → P a → Q (f a)) → (o : Option A) → If P o → If Q (option_map f o)
-made-by P Q f k None h = tt
-made-by P Q f k (Some a) h = k a h
-
-any : {A : Type 0} (o : Option A) → If (λ _. ⊤) o
-any None = tt
-any (Some a) = tt
-
 abbrev Least : {A : Type 0} → (A → ℕ) → ℕ → A → Type 0
 Least w n a = w a ≤ n
 
@@ -287,8 +284,10 @@ weaker w m n (Some a) le h = omega arith
 same-key : (k l : List ℕ) → slice_cmp nat_cmp k l ≡ Equal → k ≡ l
 same-key k l is = (bytes_eq-Decides k l).0 (sym (is_eq-slice_cmp k l) ∙ ap is_eq is)
 
-put-at : (o : Ordering) (k l : List ℕ) (d e : made.Data) (ms more : made.Members) → slice_cmp nat_cmp k l ≡ o → members_weight more ≤ (1 + length k) + (data_weight d + members_weight ms)
-    → members_weight (match_ordering o (made.member k d (made.member l e ms)) (made.member l d ms) (made.member l e more)) ≤ (1 + length k) + (data_weight d + ((1 + length l) + (data_weight e + members_weight ms)))
+put-at : (o : Ordering) (k l : List ℕ) (d e : made.Data) (ms more : made.Members) → slice_cmp nat_cmp k l ≡ o
+    → members_weight more ≤ (1 + length k) + (data_weight d + members_weight ms)
+    → members_weight (match_ordering o (made.member k d (made.member l e ms)) (made.member l d ms) (made.member l e more)) ≤ (1 + length k) + (data_weight d + ((1 + length l) +
+    (data_weight e + members_weight ms)))
 put-at Less k l d e ms more is le = omega arith
 put-at Equal k l d e ms more is le = omega arith
 put-at Greater k l d e ms more is le = omega arith
@@ -305,19 +304,22 @@ mutual
   data-made (json.string s) = omega arith
   data-made (json.array js) = made-by (Least items_weight (jsons_weight js)) (Least data_weight (1 + jsons_weight js)) made.array (λ ds le. omega arith) (of_items js) (items-made js)
   data-made (json.object ms) =
-      made-by (Least members_weight (fields_weight ms + 0)) (Least data_weight (1 + fields_weight ms)) made.object (λ es le. omega arith) (of_members ms made.no_members) (members-made ms made.no_members)
+      made-by (Least members_weight (fields_weight ms + 0)) (Least data_weight (1 + fields_weight ms)) made.object (λ es le. omega arith) (of_members ms made.no_members)
+      (members-made ms made.no_members)
 
   items-made : (js : json.Items) → If (Least items_weight (jsons_weight js)) (of_items js)
   items-made json.no_items = omega arith
   items-made (json.item j js) =
       chained (Least data_weight (json_weight j)) (Least items_weight (json_weight j + jsons_weight js)) _
-      (λ d one. made-by (Least items_weight (jsons_weight js)) (Least items_weight (json_weight j + jsons_weight js)) (made.item d) (λ ds le. omega arith) (of_items js) (items-made js)) (of_json j) (data-made j)
+      (λ d one. made-by (Least items_weight (jsons_weight js)) (Least items_weight (json_weight j + jsons_weight js)) (made.item d) (λ ds le. omega arith) (of_items js) (items-made js))
+      (of_json j) (data-made j)
 
   members-made : (ms : json.Members) (found : made.Members) → If (Least members_weight (fields_weight ms + members_weight found)) (of_members ms found)
   members-made json.no_members found = omega arith
   members-made (json.member k j ms) found =
       chained (Least data_weight (json_weight j)) (Least members_weight ((1 + length k) + (json_weight j + fields_weight ms) + members_weight found)) _
-      (λ d one. weaker members_weight (fields_weight ms + members_weight (put k d found)) ((1 + length k) + (json_weight j + fields_weight ms) + members_weight found) (of_members ms (put k d found)) (omega (arith, put-weight k d found)) (members-made ms (put k d found))) (of_json j) (data-made j)
+      (λ d one. weaker members_weight (fields_weight ms + members_weight (put k d found)) ((1 + length k) + (json_weight j + fields_weight ms) + members_weight found) (of_members ms
+      (put k d found)) (omega (arith, put-weight k d found)) (members-made ms (put k d found))) (of_json j) (data-made j)
 
 last-weight : (n : ℕ) (j : json.Json) (ts : List Token) → json_weight j + weights ts ≤ n → If (Least json_weight n) (json.if_last j ts)
 last-weight n j [] h = omega arith
@@ -329,7 +331,8 @@ weight-read text =
     let n : ℕ = 1 + length text in
     let few : weights (tokens text) ≤ n = omega (arith, tokens-weigh fresh (lex between text), lexemes-weigh between text) in
     chained (Least json_weight n) (Least data_weight n) of_json (λ j le. weaker data_weight (json_weight j) n (of_json j) le (data-made j)) _
-    (chained (λ q. json_weight q.0 + weights q.1 ≤ weights (tokens text)) (Least json_weight n) _ (λ q h. last-weight n q.0 q.1 (omega arith)) (value max_depth (tokens text)) (value-keeps max_depth (tokens text)))
+    (chained (λ q. json_weight q.0 + weights q.1 ≤ weights (tokens text)) (Least json_weight n) _ (λ q h. last-weight n q.0 q.1 (omega arith)) (value max_depth (tokens text))
+    (value-keeps max_depth (tokens text)))
 
 -- ---- the members of an object
 
@@ -376,10 +379,6 @@ array-weight (made.string s) = tt
 array-weight (made.array ds) = omega arith
 array-weight (made.object ms) = tt
 
-looser : {A : Type 0} (P Q : A → Type 0) → ((a : A) → P a → Q a) → (o : Option A) → If P o → If Q o
-looser P Q k None h = tt
-looser P Q k (Some a) h = k a h
-
 -- the text of a member
 pub text-weight : (k : List ℕ) (d : made.Data) → If (λ s. 3 + length k + length s ≤ data_weight d) (text_at k d)
 text-weight k d =
@@ -398,7 +397,8 @@ abbrev found_weight : Option made.Data → ℕ
 found_weight None = 0
 found_weight (Some d) = data_weight d
 
-two-at : (o q : Ordering) (d : made.Data) (a b : Option made.Data) (n : ℕ) → (o ≡ Equal → q ≡ Equal → ⊥) → found_weight a ≤ n → found_weight b ≤ n → found_weight a + found_weight b ≤ n
+two-at : (o q : Ordering) (d : made.Data) (a b : Option made.Data) (n : ℕ) → (o ≡ Equal → q ≡ Equal → ⊥) → found_weight a ≤ n → found_weight b ≤ n
+    → found_weight a + found_weight b ≤ n
     → found_weight (match_ordering o a (Some d) a) + found_weight (match_ordering q b (Some d) b) ≤ data_weight d + n
 two-at Less Less d a b n apart fst snd sum = omega arith
 two-at Less Equal d a b n apart fst snd sum = omega arith

@@ -1,7 +1,9 @@
 -- What `journal` writes for the lines of an input is the journal of the messages that it accepts.
-use Rattle.std.proofs.Common.{◌≡◌, ℕ, ◌+◌, ◌≤◌, length, arith, List, [], ◌∷◌, ◌++◌, All, Option, Some, None, Result, Ok, Err, refl, sym, ap, ◌∙◌, subst, map, append-nil}
+use Rattle.std.proofs.Common.{Bool, true, false, nat_lt, if◌then◌else◌, ◌≡◌, ℕ, ◌+◌, ◌≤◌, length, arith, List, [], ◌∷◌, ◌++◌, All, Option, Some, None}
+use Rattle.std.proofs.Common.{Result, Ok, Err, refl, sym, ap, ◌∙◌, subst, map, append-nil}
 use Rattle.std.specs.List.{AllByRecursion, concat}
-use Rattle.std.proofs.lemmas.List.Elements.{All-cons, All-nil, recursion_from_All}
+use Rattle.std.proofs.lemmas.Bool.{cond_both, ltb-true}
+use Rattle.std.proofs.lemmas.List.Elements.{All-cons, All-from_recursion, All-nil, recursion_from_All}
 use mathlib.Core.List.{IsPrefix}
 use Rattle.delay_model.specs.declared.messages.Message.{Message}
 use Rattle.information_service.specs.Answering.{AreAnsweredBy, IsBeginning, IsWhole}
@@ -12,7 +14,8 @@ use Rattle.message_reader.specs.declared.bad_line.BadLine.{BadLine}
 use Rattle.message_reader.specs.declared.wire.Line.{Line as Spoken}
 use Rattle.message_reader.specs.declared.wire.Line.TheVariants.{Message as Says, Query as Asks, Flush}
 use Rattle.message_reader.specs.declared.wire.Wire.{Wire}
-use Rattle.mt_io.specs.Lines.{Line, long, short}
+use Rattle.mt_io.specs.Lines.{Line, last_counts, lines_among, lines_of, long, pieces, short}
+use Rattle.mt_io.specs.Lines.{line_of as line_of_piece}
 use Rattle.journal_lines.specs.declared.heads.Head.{Head}
 use Rattle.journal_lines.specs.Lines.{text_of_head, text_of_message}
 use Rattle.journal_answers.specs.JournaledLines.{accepted_text, journal_output, said_text}
@@ -84,6 +87,31 @@ written n (Err bad) few is = tt
 line-written : (x : Line) → IsInputLine x → Said IsWritten (said_by x)
 line-written long few = tt
 line-written (short bytes) few = written (1 + length bytes) (line_of bytes) (omega arith) (line-said bytes)
+
+-- the lines of an input are no others
+input-line : (piece : List ℕ) → IsInputLine (line_of_piece piece)
+input-line piece = cond_both (nat_lt (length piece) 65536) (short piece) long IsInputLine (λ lt. ltb-true (length piece) 65536 lt) (λ lt. tt)
+
+last-input-line : (b : Bool) (piece : List ℕ) → AllByRecursion IsInputLine (if b then line_of_piece piece ∷ [] else [])
+last-input-line true piece = (input-line piece, tt)
+last-input-line false piece = tt
+
+input-lines : (ended : Bool) (ps : List (List ℕ)) → AllByRecursion IsInputLine (lines_among ended ps)
+input-lines ended [] = tt
+input-lines ended (piece ∷ []) = last-input-line (last_counts ended piece) piece
+input-lines ended (piece ∷ next ∷ more) = (input-line piece, input-lines ended (next ∷ more))
+
+first-lines : (first later : List Line) → AllByRecursion IsInputLine (first ++ later) → AllByRecursion IsInputLine first
+first-lines [] later all = tt
+first-lines (x ∷ xs) later all = (all.0, first-lines xs later all.1)
+
+pub first-are-input-lines : (ended : Bool) (input : List ℕ) (first later : List Line) → first ++ later ≡ lines_of ended input → All IsInputLine first
+unfolding lines_of
+first-are-input-lines ended input first later split =
+    All-from_recursion IsInputLine first (first-lines first later (subst (AllByRecursion IsInputLine) (sym split) (input-lines ended (pieces input))))
+
+pub are-input-lines : (ended : Bool) (input : List ℕ) → All IsInputLine (lines_of ended input)
+are-input-lines ended input = first-are-input-lines ended input (lines_of ended input) [] (append-nil (lines_of ended input))
 
 in-front-written : (w : Wire) (o : Option Message) (ws : List Wire) → CanBeWritten w → All CanBeWritten ws → All CanBeWritten (in_front w o ws)
 in-front-written w (Some m) ws is all = All-cons CanBeWritten w ws is all

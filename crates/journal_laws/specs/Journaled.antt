@@ -1,5 +1,5 @@
 -- Which messages `journal` writes for the lines of an input, and how far what it writes is read.
-use Rattle.std.specs.Prelude.{ℕ, ◌<◌, ◌+◌, List, [], ◌∷◌, Result, Ok, Err, Some, None, fold, length}
+use Rattle.std.specs.Prelude.{◌<◌, ◌+◌, List, [], ◌∷◌, Result, Ok, Err, Some, None, fold, length}
 use Rattle.std.specs.declared.option.Option.{Option}
 use Rattle.delay_model.specs.declared.messages.Message.{Message}
 use Rattle.information_service.specs.Lines.{said_by}
@@ -30,7 +30,8 @@ abbrev pub accepted_wires : ServiceState → List Line → List Wire
 accepted_wires t [] = []
 accepted_wires t (x ∷ xs) = said_in_front t (said_by x) (accepted_wires (after_line t x) xs)
 
--- the line is as lines of inputs are: a line of 65,536 bytes or more is told as a long one
+-- the line is as the lines of every input are: of one with 65,536 bytes or more only that it is
+-- long is told
 abbrev pub IsInputLine : Line → Type 0
 IsInputLine (short bytes) = length bytes < 65536
 IsInputLine long = Unit {0}
