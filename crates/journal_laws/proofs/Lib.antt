@@ -2,5 +2,11 @@ pub mod Accepted
 pub mod Counted
 pub mod InModel
 pub mod Parts
+pub mod ReadMessages
+pub mod ReadTexts
+pub mod Sizes
+pub mod Spans
+pub mod Texts
+pub mod Weights
 pub mod WholeRead
 pub mod Written

@@ -1,5 +1,5 @@
 -- Which messages `journal` writes for the lines of an input, and how far what it writes is read.
-use Rattle.std.specs.Prelude.{◌+◌, List, [], ◌∷◌, Result, Ok, Err, Some, None, fold, length}
+use Rattle.std.specs.Prelude.{◌<◌, ◌+◌, List, [], ◌∷◌, Result, Ok, Err, Some, None, fold, length}
 use Rattle.std.specs.declared.option.Option.{Option}
 use Rattle.delay_model.specs.declared.messages.Message.{Message}
 use Rattle.information_service.specs.Lines.{said_by}
@@ -10,7 +10,7 @@ use Rattle.message_reader.specs.declared.bad_line.BadLine.{BadLine}
 use Rattle.message_reader.specs.declared.wire.Line.{Line as Spoken}
 use Rattle.message_reader.specs.declared.wire.Line.TheVariants.{Message as Says, Query as Asks, Flush}
 use Rattle.message_reader.specs.declared.wire.Wire.{Wire}
-use Rattle.mt_io.specs.Lines.{Line}
+use Rattle.mt_io.specs.Lines.{Line, long, short}
 
 -- a message in front of others, if it is accepted as this one by number
 abbrev pub in_front : Wire → Option Message → List Wire → List Wire
@@ -29,6 +29,12 @@ said_in_front t (Err bad) ws = ws
 abbrev pub accepted_wires : ServiceState → List Line → List Wire
 accepted_wires t [] = []
 accepted_wires t (x ∷ xs) = said_in_front t (said_by x) (accepted_wires (after_line t x) xs)
+
+-- the line is as the lines of every input are: of one with 65,536 bytes or more only that it is
+-- long is told
+abbrev pub IsInputLine : Line → Type 0
+IsInputLine (short bytes) = length bytes < 65536
+IsInputLine long = Unit {0}
 
 -- the service behind the lines of an input
 abbrev pub after_lines : ServiceState → List Line → ServiceState

@@ -6,5 +6,6 @@ mod laws;
 
 pub use laws::{
     journal_messages_are_accepted_in_turn, journals_have_the_accepted_messages,
-    messages_are_counted, what_is_read_is_a_journal, what_journal_writes_is_read_again,
+    lines_of_inputs_are_input_lines, messages_are_counted, read_messages_can_be_written,
+    what_is_read_is_a_journal, what_journal_writes_is_read_again,
 };
