@@ -52,9 +52,9 @@ pub fn journal_messages_are_accepted_in_turn()
         → length (messages_in s ws) ≡ length ws }
 {}
 
-/// Every message that a line says has civil dates, times up to 99:59:59, labels of 32 bits, names in
-/// UTF-8 and, as an extra train, at least two calls. Where the line has fewer than 65,536 bytes, so
-/// that it is not long, the message can be written: its line in a journal is not too long.
+/// Every message that a line says has civil dates, times up to 99:59:59, labels of 32 bits, names
+/// in UTF-8 and, as an extra train, at least two calls. Where the line has fewer than 65,536 bytes,
+/// so that it is not long, the message can be written: its line in a journal is not too long.
 pub fn read_messages_can_be_written()
     ensures proper { (bytes : List ℕ) (w : AWire) → line_of bytes ≡ Ok (Message w) → IsProper w }
     ensures labels { (bytes : List ℕ) (w : AWire) → line_of bytes ≡ Ok (Message w) → HasLabels w }
