@@ -127,7 +127,7 @@ lines-written : (t : ServiceState) (lines : List Line) → AllByRecursion IsInpu
 lines-written t [] few = All-nil CanBeWritten
 lines-written t (x ∷ xs) few = said-written t (said_by x) (accepted_wires (after_line t x) xs) (line-written x few.0) (lines-written (after_line t x) xs few.1)
 
-can-be-written : (t : ServiceState) (lines : List Line) → All IsInputLine lines → All CanBeWritten (accepted_wires t lines)
+pub can-be-written : (t : ServiceState) (lines : List Line) → All IsInputLine lines → All CanBeWritten (accepted_wires t lines)
 can-be-written t lines few = lines-written t lines (recursion_from_All IsInputLine lines few)
 
 -- ---- all that is written

@@ -52,9 +52,9 @@ pub fn journal_messages_are_accepted_in_turn()
         → length (messages_in s ws) ≡ length ws }
 {}
 
-/// Every message that a line says has civil dates, times up to 99:59:59, labels of 32 bits, names in
-/// UTF-8 and, as an extra train, at least two calls. Where the line has fewer than 65,536 bytes, so
-/// that it is not long, the message can be written: its line in a journal is not too long.
+/// Every message that a line says has civil dates, times up to 99:59:59, labels of 32 bits, names
+/// in UTF-8 and, as an extra train, at least two calls. Where the line has fewer than 65,536 bytes,
+/// so that it is not long, the message can be written: its line in a journal is not too long.
 pub fn read_messages_can_be_written()
     ensures proper { (bytes : List ℕ) (w : AWire) → line_of bytes ≡ Ok (Message w) → IsProper w }
     ensures labels { (bytes : List ℕ) (w : AWire) → line_of bytes ≡ Ok (Message w) → HasLabels w }
@@ -71,10 +71,10 @@ pub fn lines_of_inputs_are_input_lines()
         → first ++ later ≡ lines_of ended input → All IsInputLine first }
 {}
 
-/// What `journal` writes for the lines of an input is the journal of the messages that it accepts.
-/// If its header is not too long, it is read again: behind it the service stands where the input
-/// left it, so a run that begins there goes on where the other one ended. Of every beginning of it,
-/// as a run leaves one that is killed, the whole lines are read.
+/// What `journal` writes for the lines of an input is the journal of the messages that it accepts,
+/// and each of them can be written. If its header is not too long, it is read again: behind it the
+/// service stands where the input left it, so a run that begins there goes on where the other one
+/// ended. Of every beginning of it, as a run leaves one that is killed, the whole lines are read.
 pub fn what_journal_writes_is_read_again()
     ensures whole { (head : AHead) (s : ServiceState) (lines : List Line) (bytes : List ℕ)
         → IsWhole journal_output s (text_of_head head) lines bytes
@@ -83,6 +83,8 @@ pub fn what_journal_writes_is_read_again()
         → IsBeginning journal_output s (text_of_head head) lines bytes
         → bytes ≡ journal_of head (accepted_wires s lines) }
     ensures taken { (s : ServiceState) (lines : List Line) → AreTaken s (accepted_wires s lines) }
+    ensures written { (s : ServiceState) (lines : List Line) → All IsInputLine lines
+        → All CanBeWritten (accepted_wires s lines) }
     ensures again { (head : AHead) (s : ServiceState) (lines : List Line) (bytes : List ℕ)
         → CanBeHead head → All IsInputLine lines
         → IsWhole journal_output s (text_of_head head) lines bytes

@@ -1,4 +1,4 @@
-use Rattle.journal_laws.proofs.Written.{beginning-journal, lines-taken, read-again, torn-read, whole-journal}
+use Rattle.journal_laws.proofs.Written.{beginning-journal, can-be-written, lines-taken, read-again, torn-read, whole-journal}
 use Rattle.journal_laws.proofs.laws.what_journal_writes_is_read_again.Goals as goal
 
 pub returns-clause-whole : goal.returns-clause-whole
@@ -9,6 +9,9 @@ returns-clause-beginning c = beginning-journal
 
 pub returns-clause-taken : goal.returns-clause-taken
 returns-clause-taken c = lines-taken
+
+pub returns-clause-written : goal.returns-clause-written
+returns-clause-written c = can-be-written
 
 pub returns-clause-again : goal.returns-clause-again
 returns-clause-again c = λ head s lines bytes can all w. read-again head s lines bytes can all (whole-journal head s lines bytes w)
