@@ -16,15 +16,19 @@ tests nothing; build the program first (README.md).
 """
 
 import argparse
+import multiprocessing
+import os
 import statistics
+import subprocess
 import sys
 import tempfile
 from pathlib import Path
+from random import Random
 
 sys.dont_write_bytecode = True
-from plans import MADE, MAKER, SIZES, made_feed  # noqa: E402
+from plans import MADE, MAKER, SIZES, made_feed, options_of  # noqa: E402
 from times import DATE, PROGRAM  # noqa: E402
-from watch import Feed, forecast  # noqa: E402
+from watch import calls_of, forecast  # noqa: E402
 
 MESSAGES, ROUNDS = 1_000_000, 3
 
@@ -42,42 +46,66 @@ def read_words():
     return words.parse_args()
 
 
-def make_messages(feed, number):
-    """Forecasts for arrivals at calls of trains that are drawn."""
-    trips = list(feed.trips.items())
-    for _ in range(number):
-        trip, calls = feed.random.choice(trips)
-        label = feed.random.randrange(1, len(calls))
-        yield forecast(trip, feed.date, label, "arr", calls[label][0] + 60 * feed.random.randint(1, 15))
+def write_messages(feed, date, number, path):
+    """Writes forecasts for arrivals at calls of trains that are drawn."""
+    random, trips = Random(1), list(calls_of(feed).items())
+    with path.open("wb") as lines:
+        for _ in range(number):
+            trip, calls = random.choice(trips)
+            label = random.randrange(1, len(calls))
+            lines.write(forecast(trip, date, label, "arr", calls[label][0] + 60 * random.randint(1, 15)) + b"\n")
 
 
-def with_journal(words, feed, folder, name, journal):
-    """The same feed in a folder of its own, with this journal."""
-    tables = folder / name
-    tables.mkdir()
-    for table in feed.iterdir():
-        (tables / table.name).symlink_to(table.resolve())
-    (tables / "journal.jsonl").write_bytes(journal)
-    return Feed(words, tables, folder)
+class Runs:
+    """The program over a feed, and a folder for the feeds with journals."""
+
+    def __init__(self, words, feed, folder):
+        self.program, self.feed, self.folder = words.program.resolve(), feed, folder
+        self.options = options_of(feed, words.date)
+
+    def run(self, command, lines=os.devnull, feed=None, output=os.devnull):
+        """The processor seconds and the peak mebibytes of a run of a command on these lines."""
+        with open(lines, "rb") as source, open(output, "wb") as sink:
+            given = [self.program, command, feed or self.feed, *self.options]
+            child = subprocess.Popen(given, stdin=source, stdout=sink)
+            _, status, usage = os.wait4(child.pid, 0)
+        child.returncode = os.waitstatus_to_exitcode(status)
+        if status != 0:
+            sys.exit(f"{self.program} {command} ended with status {child.returncode}")
+        return usage.ru_utime + usage.ru_stime, usage.ru_maxrss / 1024
+
+    def with_journal(self, name, lines):
+        """The same feed in a folder of its own, with the journal of these lines."""
+        tables = self.folder / name
+        tables.mkdir()
+        for table in self.feed.iterdir():
+            (tables / table.name).symlink_to(table.resolve())
+        self.run("journal", lines, output=tables / "journal.jsonl")
+        return tables
 
 
 def measure(words, path, folder):
-    feed = Feed(words, path, folder)
-    lines = list(make_messages(feed, words.messages))
-    feed.run("journal", [], keeps=True)
-    header = feed.output.read_bytes()
-    feed.run("journal", lines, keeps=True)
-    journal = feed.output.read_bytes()
-    written = journal.count(b"\n") - 1
-    print(f"{path}: {len(lines):,} messages, {written:,} in the journal, {len(journal):,} bytes", flush=True)
-    short = with_journal(words, path, folder, "short", header)
-    long = with_journal(words, path, folder, "long", journal)
-    runs = {"times": (feed, feed, lines), "journal": (feed, feed, lines), "restart": (short, long, [])}
+    runs = Runs(words, path, folder)
+    lines = folder / "lines"
+    date = runs.options[runs.options.index("--from") + 1]
+    # in a process of its own, since a child counts what its parent had in memory as its own
+    writing = multiprocessing.Process(target=write_messages, args=(path, date, words.messages, lines))
+    writing.start()
+    writing.join()
+    short, long = runs.with_journal("short", os.devnull), runs.with_journal("long", lines)
+    journal = long / "journal.jsonl"
+    with journal.open("rb") as written:
+        messages = sum(1 for _ in written) - 1
+    size = journal.stat().st_size
+    print(f"{path}: {words.messages:,} messages, {messages:,} in the journal, {size:,} bytes", flush=True)
+    cases = {"times": (path, lines, path), "journal": (path, lines, path), "restart": (short, os.devnull, long)}
     print(f"{'':>9}{'seconds':>9}{'MiB':>7}{'microseconds':>14}{'MiB':>7}")
-    for command, (without, behind, given) in runs.items():
-        rounds = [(without.run(command, []), behind.run(command, given)) for _ in range(words.rounds)]
+    for command, (without, given, behind) in cases.items():
+        rounds = [
+            (runs.run(command, feed=without), runs.run(command, given, feed=behind)) for _ in range(words.rounds)
+        ]
         load = statistics.median(first[0] for first, _ in rounds)
-        cost = statistics.median(last[0] - first[0] for first, last in rounds) * 1e6 / written
+        cost = statistics.median(last[0] - first[0] for first, last in rounds) * 1e6 / messages
         peaks = [statistics.median(pair[which][1] for pair in rounds) for which in (0, 1)]
         print(f"{command:>9}{load:>9.2f}{peaks[0]:>7.0f}{cost:>14.2f}{peaks[1]:>7.0f}", flush=True)
 

@@ -1,5 +1,6 @@
 pub mod Accepted
 pub mod Counted
+pub mod Heads
 pub mod InModel
 pub mod Parts
 pub mod ReadMessages

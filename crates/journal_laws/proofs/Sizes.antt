@@ -45,10 +45,10 @@ clean-escape (x ∷ xs) h = omega (arith, clean-size x h.0.0 h.0.1, clean-escape
 quoted-is : (s : List ℕ) → length (quoted s) ≡ length (escape s) + 2
 quoted-is s = omega (arith, length-append (escape s) (34 ∷ []))
 
-quoted-size : (s : List ℕ) → length (quoted s) ≤ 6 * length s + 2
+pub quoted-size : (s : List ℕ) → length (quoted s) ≤ 6 * length s + 2
 quoted-size s = omega (arith, quoted-is s, escape-size s)
 
-date-size : (date : ℕ) → length (quoted (date_text date)) ≤ 50
+pub date-size : (date : ℕ) → length (quoted (date_text date)) ≤ 50
 unfolding date_text
 date-size date = quoted-size (date_text date)
 
@@ -64,13 +64,13 @@ clock-size : (s : ℕ) → s ≤ 359999 → length (quoted (time_text s)) ≤ 10
 unfolding time_text
 clock-size s le = omega (arith, quoted-is (time_text s), clean-escape (time_text s) (clean-time s le))
 
-label-size : (n : ℕ) → n < 2 ^ 32 → length (decimal n) ≤ 10
+pub label-size : (n : ℕ) → n < 2 ^ 32 → length (decimal n) ≤ 10
 label-size n lt = length-decimal-le 10 n (omega arith) (omega arith) (omega arith)
 
 -- ---- a bound for the text of a value
 
 abbrev mutual
-  size : Data → ℕ
+  pub size : Data → ℕ
   size null = 4
   size (boolean b) = 5
   size (number n) = length (number_text n)
@@ -79,7 +79,7 @@ abbrev mutual
   size (object ms) = 1 + members_size ms
 
   -- with the closing bracket
-  members_size : Members → ℕ
+  pub members_size : Members → ℕ
   members_size no_members = 1
   members_size (member k d ms) = 6 * length k + 4 + (size d + members_size ms)
 
@@ -91,7 +91,7 @@ joined-size : (a q c m : List ℕ) → length (a ++ (q ++ 58 ∷ (c ++ m))) ≡ 
 joined-size a q c m = omega (arith, length-append a (q ++ 58 ∷ (c ++ m)), length-append q (58 ∷ (c ++ m)), length-append c m)
 
 mutual
-  data-size : (d : Data) → length (compact_text d) ≤ size d
+  pub data-size : (d : Data) → length (compact_text d) ≤ size d
   data-size null = omega arith
   data-size (boolean true) = omega arith
   data-size (boolean false) = omega arith

@@ -7,6 +7,7 @@ ghost use Rattle.information_service.specs.Answering.{IsBeginning, IsWhole};
 ghost use Rattle.information_service.specs.Lines.{accepted_of};
 ghost use Rattle.information_service.specs.ServiceState.{service_after, ServiceState};
 ghost use Rattle.journal_answers.specs.JournaledLines.{journal_output};
+ghost use Rattle.journal_laws.specs.Heads.{HasShortZone};
 ghost use Rattle.journal_laws.specs.Journaled.{accepted_wires, after_lines, read_behind, IsInputLine};
 ghost use Rattle.journal_laws.specs.Parts.{IsJournalRead};
 ghost use Rattle.journal_lines.specs.declared.heads.Head.{Head as AHead};
@@ -61,6 +62,12 @@ pub fn read_messages_can_be_written()
     ensures texts { (bytes : List ℕ) (w : AWire) → line_of bytes ≡ Ok (Message w) → HasTexts w }
     ensures written { (bytes : List ℕ) (w : AWire) → length bytes < 65536
         → line_of bytes ≡ Ok (Message w) → CanBeWritten w }
+{}
+
+/// The header of a journal is not too long, if its options are in their ranges and the text of its
+/// zone has fewer than 174,000 bytes.
+pub fn headers_with_short_zones_are_short()
+    ensures { (head : AHead) → HasShortZone head → CanBeHead head }
 {}
 
 /// Of all lines of an input, and of the first of them, those that are not long have fewer than
