@@ -1,5 +1,6 @@
 -- How following an input ends.
-use Rattle.std.proofs.Common.{◌≡◌, ◌≢◌, ℕ, ◌+◌, ◌<◌, ◌≤◌, ◌++◌, List, [], length, nat_eq, Option, Some, None, Result, Ok, Err, refl, sym, ◌∙◌, ap, subst, arith, inl, inr, append_assoc, length-append}
+use Rattle.std.proofs.Common.{◌≡◌, ◌≢◌, ℕ, ◌+◌, ◌<◌, ◌≤◌, ◌++◌, List, [], length, nat_eq, Option, Some, None, Result, Ok, Err}
+use Rattle.std.proofs.Common.{refl, sym, ◌∙◌, ap, subst, arith, inl, inr, append_assoc, length-append}
 use Rattle.std.proofs.lemmas.Bool.{cases_Bool}
 use Rattle.std.proofs.lemmas.Bool.Decides.{nat_tests}
 use Rattle.std.specs.Io.KnownBytes.{Consumes, IsAtEnd, Keeps}
@@ -90,6 +91,17 @@ followed-none o budget old left = record {
   answered = tt;
 }
 
+-- all that may be was taken
+pub spent : {o : Option TimetableState} {old now : FollowerState (List Message)} {left left_now : Option (List ℕ)} {taken : ℕ} {bytes : List ℕ} (budget : ℕ)
+    → IsSoFar o old now left left_now taken bytes → taken ≡ budget → IsFollowed o budget old now left left_now bytes (Err TooLong)
+spent budget so all = record {
+  taken = so.source;
+  within = omega (arith, so.count, all);
+  read = λ other. so.read;
+  memory = λ is. absurd (cc);
+  answered = (so.not_refused, omega (arith, so.count, all));
+}
+
 module _ {o : Option TimetableState} {old now : FollowerState (List Message)} {left mid : Option (List ℕ)} {taken : ℕ} {bytes : List ℕ} (budget : ℕ) (left_now : Option (List ℕ))
     (so : IsSoFar o old now left mid taken bytes) where
   -- a read failed
@@ -128,16 +140,6 @@ module _ {o : Option TimetableState} {old now : FollowerState (List Message)} {l
               answered = (has_ended, some);
             })
       ]
-
-  -- all that may be was taken
-  pub spent : mid ≡ left_now → taken ≡ budget → IsFollowed o budget old now left left_now bytes (Err TooLong)
-  spent same all = record {
-    taken = subst (λ (l : Option (List ℕ)). Consumes left l bytes) same so.source;
-    within = omega (arith, so.count, all);
-    read = λ other. so.read;
-    memory = λ is. absurd (cc);
-    answered = (so.not_refused, omega (arith, so.count, all));
-  }
 
   -- a piece was not read to its end
   module _ (new : FollowerState (List Message)) (piece : List ℕ) (next : Consumes mid left_now piece) (within : taken + length piece ≤ budget) where

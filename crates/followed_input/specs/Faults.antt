@@ -6,7 +6,8 @@ use Rattle.journal_replay.specs.declared.refusal.JournalRefusal.{JournalRefusal}
 use Rattle.journal_replay.specs.declared.refusal.JournalRefusal.TheVariants.{Header, Line}
 use Rattle.journal_replay.specs.declared.refusal.JournalRefusal.TheVariants as refusals
 use Rattle.followed_input.specs.declared.fault.FollowFault.{FollowFault}
-use Rattle.followed_input.specs.declared.fault.FollowFault.TheVariants.{Refused, ReadFault, OutOfMemory, TooLong}
+use Rattle.followed_input.specs.declared.fault.FollowFault.TheVariants.{Refused, ReadFault}
+use Rattle.followed_input.specs.declared.fault.FollowFault.TheVariants.{OutOfMemory, TooLong}
 
 -- why it stops where the journal is read no further for this
 abbrev pub fault_of : JournalRefusal → FollowFault
@@ -18,8 +19,8 @@ fault_of refusals.OutOfMemory = OutOfMemory
 abbrev pub ended : ℕ → Result (Unit {0}) FollowFault
 ended lines = if nat_eq lines 0 then Err (Refused Header) else Ok tt
 
--- the faults of an input after following it with this result, by those before it: one more where it
--- stopped because a read failed, else the same
+-- the faults of an input after it was followed with this result, by those before it: one more where
+-- following stopped because a read failed, else the same
 abbrev pub reads_failed : {T : Type 0} → Result T FollowFault → Faults → Option Faults
 reads_failed (Ok value) before = Some before
 reads_failed (Err (Refused why)) before = Some before

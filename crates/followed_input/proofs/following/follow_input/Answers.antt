@@ -106,4 +106,4 @@ returns-in_err-feed-clause-later g c = prefix-trans _ _ _ c.pieces.invariant.lat
 pub returns-clause-followed : goal.returns-clause-followed
 returns-clause-followed g c =
     let inv = c.pieces.invariant in
-    (inv.so_far.0, spent c.args.budget (g.S.Source.left c.pieces.input) inv.so_far.1 refl (omega (arith, c.pieces-test.false, inv.within)))
+    (inv.so_far.0, spent c.args.budget inv.so_far.1 (omega (arith, c.pieces-test.false, inv.within)))
