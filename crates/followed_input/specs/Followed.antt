@@ -15,22 +15,27 @@ use Rattle.followed_input.specs.declared.fault.FollowFault.{FollowFault}
 use Rattle.followed_input.specs.declared.fault.FollowFault.TheVariants.{Refused, ReadFault}
 use Rattle.followed_input.specs.declared.fault.FollowFault.TheVariants.{OutOfMemory, TooLong}
 
--- In the first three, so many bytes of an input may be taken, so many were taken, this is left of it,
--- and the reader of its journal stands so.
+-- In the first three, so many bytes of an input may be taken, so many were taken, this is left of
+-- it, and the reader of its journal stands so.
 
 -- the input is at its end, and nothing of it is refused
 pub record HasEnded (budget taken : ℕ) (left_now : Option (List ℕ)) (reader : ReaderState)
     : Type 0 where
+  -- no byte is left
   pub end : IsAtEnd left_now
+  -- the reader refuses nothing
   pub not_refused : reader.refusal ≡ None
-  -- no end is read where as many bytes were taken as may be
+  -- fewer bytes were taken than may be: where all were, no end is read
   pub fewer : taken < budget
 
--- it has ended without a whole line, which is a bad header
+-- it has ended without a whole line, and is refused for this
 pub record HasNoLine (budget taken : ℕ) (left_now : Option (List ℕ)) (reader : ReaderState)
     (why : JournalRefusal) : Type 0 where
+  -- it has ended
   pub ended : HasEnded budget taken left_now reader
+  -- no line was taken
   pub no_line : reader.lines ≡ 0
+  -- which is a bad header
   pub header : why ≡ Header
 
 -- so it is where this is answered: the input has ended, and a line of it was taken at least; the
@@ -54,13 +59,15 @@ IsAnswered budget taken left_now reader (Err TooLong) =
 pub record IsFollowed (o : Option TimetableState) (budget : ℕ)
     (old new : FollowerState (List Message)) (left left_now : Option (List ℕ)) (bytes : List ℕ)
     (result : Result (Unit {0}) FollowFault) : Type 0 where
-  -- they were taken of the input, and are no more than may be
+  -- they were taken of the input
   pub taken : Consumes left left_now bytes
+  -- they are no more than may be
   pub within : length bytes ≤ budget
-  -- the follower stands behind them, or, where there was no memory, behind a beginning of them
+  -- the follower stands behind them
   pub read : result ≢ Err OutOfMemory
       → HasRead (StandsAs o) old.board old.reader bytes new.board new.reader
+  -- or, where there was no memory, behind a beginning of them
   pub memory : result ≡ Err OutOfMemory
       → BreaksOff (StandsAs o) old.board old.reader bytes new.board new.reader.lines
-  -- what is answered
+  -- so it is where this is answered
   pub answered : IsAnswered budget (length bytes) left_now new.reader result

@@ -47,10 +47,12 @@ fn end_input(lines: u64) -> Result<(), FollowFault>
 
 /// Reads the journal that the input holds through the follower, piece by piece, until the input is
 /// at its end. Bytes behind its last whole line are passed over. It fails with `Refused` where the
-/// follower refuses the journal, or the input is at its end and no line was whole, with `ReadFault`
-/// where a read failed, and with `TooLong` where `budget` bytes were taken, no end was read, and
-/// nothing among them is refused. It takes no more than `budget` bytes. After `OutOfMemory` the
-/// follower can only be closed.
+/// follower refuses the journal, or the input is at its end and no line was whole, which is
+/// `Header`; with `ReadFault` where a read failed; and with `TooLong` where `budget` bytes were
+/// taken, no end was read, and nothing among them is refused. Then the messages of the whole lines
+/// that were taken are posted, up to the one that is refused. With `OutOfMemory` those of a
+/// beginning of the bytes are, and the follower can only be closed. It takes no more than `budget`
+/// bytes.
 pub fn follow_input<H: Opening<Timetable>, R: Wait, S: Source>(
     rt: &R,
     alloc: Global,
