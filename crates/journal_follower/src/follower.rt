@@ -159,6 +159,13 @@ impl<H: Opening<Timetable>> Follower<Publisher<Timetable, H>> {
         self.board.publisher.state()
     }
 
+    /// How many lines were taken, the header among them.
+    pub fn lines(&self) -> u64
+        ensures { result ≡ self.now.reader.lines }
+    {
+        self.reader.lines()
+    }
+
     /// The names that are known.
     pub fn directory(&self) -> &Directory
         ensures { result.now ≡ self.now.board.names }

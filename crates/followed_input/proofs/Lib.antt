@@ -1,0 +1,3 @@
+pub mod Endings
+pub mod LineCounts
+pub mod Reading
