@@ -1,11 +1,14 @@
 //! A feed of two trains, a journal about it, and the times of the trains.
 
 ghost use Rattle.std.specs.Prelude.{IfOk};
+ghost use Rattle.mt_base.specs.Civil.{IsCivil};
 ghost use Rattle.mt_base.specs.Options.{IsInRange};
 ghost use Rattle.schedule_build.specs.InStep.{AreInStep};
 
 use command_words::default_options;
 use commands::{LoadedTimetable, load_timetable};
+use journal_follower::Leader;
+use journal_lines::Head;
 use mt_base::Opts;
 use mt_io::MemFeed;
 use service_zones::Zone;
@@ -13,7 +16,7 @@ use std::alloc::Global;
 use std::test::Fail;
 
 /// The service day of the trains as the number YYYYMMDD.
-pub(crate) const SERVICE_DAY: u32 = 20_260_105;
+const SERVICE_DAY: u32 = 20_260_105;
 
 /// The tables of the feed, by their names. T2 waits for T1 for five minutes.
 const TABLES: [(&str, &str); 5] = [
@@ -84,7 +87,7 @@ T2,20260105,1,D,arr,09:10:00,09:13:00
 ";
 
 /// The usual options, but that no ride is made faster.
-pub(crate) fn options() -> Opts
+fn options() -> Opts
     ensures { IsInRange result }
 {
     let mut opts = default_options();
@@ -102,7 +105,7 @@ fn example_feed(alloc: Global) -> Result<MemFeed, Fail> {
 }
 
 /// The timetable of the feed, with its names.
-pub(crate) fn loaded(alloc: Global) -> Result<LoadedTimetable, Fail>
+fn loaded(alloc: Global) -> Result<LoadedTimetable, Fail>
     ensures in_step { IfOk result (λ l. AreInStep l.directory l.timetable.state) }
 {
     let mut feed = example_feed(alloc)?;
@@ -115,4 +118,23 @@ pub(crate) fn loaded(alloc: Global) -> Result<LoadedTimetable, Fail>
         &options(),
         &mut feed,
     )?)
+}
+
+/// What a follower of the journal begins with.
+pub(crate) fn leader(alloc: Global) -> Result<Leader, Fail>
+    ensures head { IfOk result (λ l. IsCivil l.head.first) }
+    ensures in_step { IfOk result (λ l. AreInStep l.directory l.timetable.state) }
+{
+    let loaded = loaded(alloc)?;
+    let head = Head {
+        first: SERVICE_DAY,
+        days: 1,
+        opts: options(),
+        zone: None,
+    };
+    Ok(Leader {
+        head,
+        timetable: loaded.timetable,
+        directory: loaded.directory,
+    })
 }

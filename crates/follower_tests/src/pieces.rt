@@ -5,10 +5,9 @@ ghost use Rattle.journal_follower.specs.Following.{IsReady};
 ghost use Rattle.mt_base.specs.Civil.{IsCivil};
 ghost use Rattle.schedule_build.specs.InStep.{AreInStep};
 
-use crate::example::{JOURNAL, LATE, SCHEDULED, SERVICE_DAY, loaded, options};
+use crate::example::{JOURNAL, LATE, SCHEDULED, leader};
 use delay_report::times_rows;
 use journal_follower::{Follower, Leader};
-use journal_lines::Head;
 use journal_replay::JournalRefusal;
 use mt_base::memory::OutOfMemory;
 use mt_base::numbers::TrainNo;
@@ -45,7 +44,7 @@ fn feed_pieces<H: Opening<Timetable>, R: Wait>(
 }
 
 /// The rows of all trains in the table of times.
-fn rows_of(
+pub(crate) fn rows_of(
     alloc: Global,
     timetable: &Timetable,
     directory: &Directory,
@@ -101,17 +100,7 @@ fn are_rows<R: Wait>(
     size: usize,
     rows: &str,
 ) -> Result<bool, Fail> {
-    let loaded = loaded(alloc)?;
-    let leader = Leader {
-        head: Head {
-            first: SERVICE_DAY,
-            days: 1,
-            opts: options(),
-            zone: None,
-        },
-        timetable: loaded.timetable,
-        directory: loaded.directory,
-    };
+    let leader = leader(alloc)?;
     let journal = JOURNAL.as_bytes();
     let read = &journal[..journal.len() - without.min(journal.len())];
     let found = rows_behind::<Brand, R>(rt, alloc, NewHistory::new(), leader, read, size.max(1))?;
