@@ -55,6 +55,7 @@ fn follow<H: Opening<Timetable>, R: Wait>(
 /// leads to these rows.
 fn ends_so<R: Wait>(
     rt: &R,
+    alloc: Global,
     bytes: &[u8],
     failing: &[u64],
     budget: u64,
@@ -63,7 +64,6 @@ fn ends_so<R: Wait>(
 ) -> Result<bool, Fail>
     requires budget { budget < 2 ^ 63 }
 {
-    let alloc = rt.alloc();
     let failing = Vec::from_slice(alloc, failing)?;
     let mut input = MemSource::build(Vec::from_slice(alloc, bytes)?, 7, failing);
     let leader = leader(alloc)?;
@@ -73,21 +73,21 @@ fn ends_so<R: Wait>(
 
 #[test]
 fn an_input_is_followed_to_its_end(rt: HostRuntime) -> Result<(), Fail> {
-    assert!(rt; ends_so(&rt, JOURNAL.as_bytes(), &[], MANY, Ok(()), LATE)?);
+    assert!(rt; ends_so(&rt, rt.alloc(), JOURNAL.as_bytes(), &[], MANY, Ok(()), LATE)?);
     Ok(())
 }
 
 #[test]
 fn an_empty_input_has_no_header(rt: HostRuntime) -> Result<(), Fail> {
     let refused = Err(FollowFault::Refused(JournalRefusal::Header));
-    assert!(rt; ends_so(&rt, &[], &[], MANY, refused, SCHEDULED)?);
+    assert!(rt; ends_so(&rt, rt.alloc(), &[], &[], MANY, refused, SCHEDULED)?);
     Ok(())
 }
 
 #[test]
 fn a_read_that_fails_ends_it(rt: HostRuntime) -> Result<(), Fail> {
     let failed = Err(FollowFault::ReadFault);
-    assert!(rt; ends_so(&rt, JOURNAL.as_bytes(), &[3], MANY, failed, SCHEDULED)?);
+    assert!(rt; ends_so(&rt, rt.alloc(), JOURNAL.as_bytes(), &[3], MANY, failed, SCHEDULED)?);
     Ok(())
 }
 
@@ -95,6 +95,6 @@ fn a_read_that_fails_ends_it(rt: HostRuntime) -> Result<(), Fail> {
 fn an_input_of_as_many_bytes_as_may_be_is_too_long(rt: HostRuntime) -> Result<(), Fail> {
     let journal = JOURNAL.as_bytes();
     let long = Err(FollowFault::TooLong);
-    assert!(rt; ends_so(&rt, journal, &[], journal.len() as u64, long, LATE)?);
+    assert!(rt; ends_so(&rt, rt.alloc(), journal, &[], journal.len() as u64, long, LATE)?);
     Ok(())
 }
