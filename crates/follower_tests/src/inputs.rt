@@ -22,6 +22,7 @@ use train_nodes::Msg;
 const MANY: u64 = 1_000_000;
 
 /// How following an input ended, and the rows of the times behind it.
+#[derive(Drop)]
 struct Followed {
     answer: Result<(), FollowFault>,
     rows: Vec<u8>,
@@ -87,7 +88,17 @@ fn an_empty_input_has_no_header(rt: HostRuntime) -> Result<(), Fail> {
 #[test]
 fn a_read_that_fails_ends_it(rt: HostRuntime) -> Result<(), Fail> {
     let failed = Err(FollowFault::ReadFault);
-    assert!(rt; ends_so(&rt, rt.alloc(), JOURNAL.as_bytes(), &[3], MANY, failed, SCHEDULED)?);
+    assert!(rt;
+        ends_so(
+            &rt,
+            rt.alloc(),
+            JOURNAL.as_bytes(),
+            &[3],
+            MANY,
+            failed,
+            SCHEDULED
+        )?
+    );
     Ok(())
 }
 
@@ -95,6 +106,16 @@ fn a_read_that_fails_ends_it(rt: HostRuntime) -> Result<(), Fail> {
 fn an_input_of_as_many_bytes_as_may_be_is_too_long(rt: HostRuntime) -> Result<(), Fail> {
     let journal = JOURNAL.as_bytes();
     let long = Err(FollowFault::TooLong);
-    assert!(rt; ends_so(&rt, rt.alloc(), journal, &[], journal.len() as u64, long, LATE)?);
+    assert!(rt;
+        ends_so(
+            &rt,
+            rt.alloc(),
+            journal,
+            &[],
+            journal.len() as u64,
+            long,
+            LATE
+        )?
+    );
     Ok(())
 }
