@@ -137,10 +137,11 @@ fn answer_words<T: AnswerLines<C>, L: LoadBehind<C>, C: Drop, F: Feed, S: Source
 
 /// All that the program does for a command that answers line by line, by the words and options of
 /// `times`: it reads the tables of the feed and, where `L` says so, a table of the feed's folder
-/// that is the command's own, and begins with what it makes of them, or refuses them. Then it answers each line of the input at once, as `T` says,
-/// with what stands before the first line and behind the last. Whatever it begins with, the service
-/// and what is kept have to fit each other as `T` says. It stops where `budget` bytes of the input
-/// were taken and no end was read. It waits for nobody and returns.
+/// that is the command's own, and begins with what it makes of them, or refuses them. Then it
+/// answers each line of the input at once, as `T` says, with what stands before the first line and
+/// behind the last. Whatever it begins with, the service and what is kept have to fit each other as
+/// `T` says. It stops where `budget` bytes of the input were taken and no end was read. It waits for
+/// nobody and returns.
 pub fn run_lines<
     T: AnswerLines<C>,
     L: LoadBehind<C>,
@@ -328,8 +329,8 @@ pub fn run_journal<F: Feed, S: Source, K: Sink, E: Sink>(
 }
 
 /// All that the program does for `restart`. It takes the messages of the journal in the feed's
-/// folder, and then does what it does for `times`, with numbers of messages that go on from those of
-/// the journal. It waits for nobody and returns.
+/// folder, and then does what it does for `times`, with numbers of messages that go on from those
+/// of the journal. It waits for nobody and returns.
 pub fn run_restart<F: Feed, S: Source, K: Sink, E: Sink>(
     alloc: Global,
     words: &[String],
