@@ -20,7 +20,8 @@ module _ (s : ServiceState) where
   still : (p q : JournalProgress) → IsCounted s p → q.messages ≡ p.messages → q.lines ≡ p.lines → q.service ≡ p.service → IsCounted s q
   still p q is a b c = record { messages = rw (a, b) is.messages; count = rw (b, c) is.count }
 
-  header-counted : (header ended : List ℕ) (p : JournalProgress) → IsCounted s p → p.lines ≡ 0 → (same : Bool) → bytes_eq ended header ≡ same → IsCounted s (header_taken header ended p)
+  header-counted : (header ended : List ℕ) (p : JournalProgress) → IsCounted s p → p.lines ≡ 0 → (same : Bool)
+      → bytes_eq ended header ≡ same → IsCounted s (header_taken header ended p)
   header-counted header ended p is first true same = rw same (record { messages = omega (arith, is.messages); count = omega (arith, is.count) })
   header-counted header ended p is first false other = rw other (record { messages = is.messages; count = is.count })
 

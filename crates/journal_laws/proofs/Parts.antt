@@ -83,7 +83,8 @@ module _ (head : Head) (s : ServiceState) where
       })
   header-behind p bytes ended is whole false other none = let bad = rw other at none in cc
 
-  taken-behind : (p : JournalProgress) (bytes : List ℕ) (w : Wire) → IsJournalRead head s bytes p → text_of_message w ≡ p.held ++ 10 ∷ [] → (o : Option Message) → accepted_wire p.service w ≡ o
+  taken-behind : (p : JournalProgress) (bytes : List ℕ) (w : Wire) → IsJournalRead head s bytes p → text_of_message w ≡ p.held ++ 10 ∷ []
+      → (o : Option Message) → accepted_wire p.service w ≡ o
       → (taken_as p w o).refusal ≡ None → IsJournalRead head s (bytes ++ 10 ∷ []) (taken_as p w o)
   taken-behind p bytes w is whole None refuses none = cc
   taken-behind p bytes w is whole (Some m) accepts none =

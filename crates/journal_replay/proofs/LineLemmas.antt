@@ -84,7 +84,8 @@ cut-taken header p front back none few =
     ∙ rw short refl
     ∙ ap (λ (l : List (List ℕ)). goes_on q q.refusal (line_by_line header q l)) (sym next.are)
 
-cut-refused : (header : List ℕ) (p : JournalProgress) (front back : List ℕ) → HasNoLf front → long_from ≤ length front → line_by_line header p (pieces (front ++ 10 ∷ back)) ≡ line_refused p
+cut-refused : (header : List ℕ) (p : JournalProgress) (front back : List ℕ) → HasNoLf front → long_from ≤ length front
+    → line_by_line header p (pieces (front ++ 10 ∷ back)) ≡ line_refused p
 cut-refused header p front back none many =
     let long : nat_le long_from (length front) ≡ true = grind (arith, nat_tests) in
     let next = first-piece back in

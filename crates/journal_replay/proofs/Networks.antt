@@ -37,7 +37,8 @@ message_taken-over nw p None same = refl
 message_taken-over nw p (Some w) same =
     ap (taken_as (read_over nw p) w) (accepted-over nw p.service w same) ∙ taken_as-over nw p w (accepted_wire p.service w) same
 
-header_taken-over : (nw : Network) (header ended : List ℕ) (p : JournalProgress) (is : Bool) → bytes_eq ended header ≡ is → header_taken header ended (read_over nw p) ≡ read_over nw (header_taken header ended p)
+header_taken-over : (nw : Network) (header ended : List ℕ) (p : JournalProgress) (is : Bool) → bytes_eq ended header ≡ is
+    → header_taken header ended (read_over nw p) ≡ read_over nw (header_taken header ended p)
 header_taken-over nw header ended p true is = rw is refl
 header_taken-over nw header ended p false is = rw is refl
 

@@ -83,7 +83,8 @@ module _ {T : Type 0} (Stands : T → ServiceState → List Message → Type 0) 
         subst (IsAt Stands new_taker new) (sym now) (record { reads = fields; stands = j.2 })
 
     -- or it is refused
-    refused-by : (why : JournalRefusal) → ((p : JournalProgress) → IsAt Stands first r0 p → (line_taken r.header whole (before p) ≡ refused why (before p)) × Stands new_taker (before p).service (before p).messages)
+    refused-by : (why : JournalRefusal) → ((p : JournalProgress) → IsAt Stands first r0 p
+        → (line_taken r.header whole (before p) ≡ refused why (before p)) × Stands new_taker (before p).service (before p).messages)
         → (more : List ℕ) (p : JournalProgress) → IsAt Stands first r0 p → StopsAt Stands new_taker r.lines why (after_bytes r0.header p (front ++ 10 ∷ more))
     refused-by why judged more p at =
         let j = judged p at in
@@ -166,7 +167,8 @@ module _ {T : Type 0} (Stands : T → ServiceState → List Message → Type 0) 
         stands = stops.stands;
       })
 
-  pub read-refused : (why : JournalRefusal) → ¬ (why ≡ OutOfMemory) → (first : T) (r0 : ReaderState) (bytes : List ℕ) (taker : T) (r new : ReaderState) → StopsIn Stands first r0 bytes taker r why
+  pub read-refused : (why : JournalRefusal) → ¬ (why ≡ OutOfMemory) → (first : T) (r0 : ReaderState) (bytes : List ℕ) (taker : T) (r new : ReaderState)
+      → StopsIn Stands first r0 bytes taker r why
       → new.lines ≡ r.lines → new.held ≡ [] → new.refusal ≡ Some why → HasRead Stands first r0 bytes taker new
   read-refused Header other first r0 bytes taker r new stops is none why_is = λ p at. noted Header taker r.lines new _ (stops p at) is none why_is
   read-refused (Line line) other first r0 bytes taker r new stops is none why_is = λ p at. noted (Line line) taker r.lines new _ (stops p at) is none why_is

@@ -8,7 +8,9 @@ use Rattle.journal_answers.proofs.lines.message_text.Goals as goal
 pub returns-then-count-before-clause-text : goal.returns-then-count-before-clause-text
 returns-then-count-before-clause-text c =
     let next = (c.in_ok-answer_said.ensures).next in
-    c.new.ensures.items ∙ sym (not-counted c.args.service.now c.args.message c.count.result (c.count.ensures ∙ ap (λ (t : ServiceState). t.count) next) (c.if-count-before.true ∙ c.count-before.ensures))
+    let behind = c.count.ensures ∙ ap (λ (t : ServiceState). t.count) next in
+    let same = c.if-count-before.true ∙ c.count-before.ensures in
+    c.new.ensures.items ∙ sym (not-counted c.args.service.now c.args.message c.count.result behind same)
 
 pub returns-clause-text : goal.returns-clause-text
 returns-clause-text c =

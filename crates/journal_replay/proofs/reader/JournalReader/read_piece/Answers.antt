@@ -6,7 +6,8 @@ use Rattle.journal_replay.proofs.Pieces.{handed, read-held, read-line, ready-beh
 use Rattle.journal_replay.proofs.reader.JournalReader.read_piece.Goals as goal
 
 -- bytes with an LF are those before it, it and those behind it
-behind : (front rest piece : List ℕ) (end : ℕ) → front ++ rest ≡ piece → rest ≡ take end rest ++ 10 ∷ drop (end + 1) rest → front ++ (take end rest ++ 10 ∷ drop (end + 1) rest) ≡ piece
+behind : (front rest piece : List ℕ) (end : ℕ) → front ++ rest ≡ piece → rest ≡ take end rest ++ 10 ∷ drop (end + 1) rest
+    → front ++ (take end rest ++ 10 ∷ drop (end + 1) rest) ≡ piece
 behind front rest piece end split parts = ap (λ (l : List ℕ). front ++ l) (sym parts) ∙ split
 
 -- the rest behind it
@@ -74,8 +75,10 @@ loop-end-preserved g c =
       not_refused = c.end_line.ensures.refusal ∙ none_yet;
       few = omega (arith, inv.few, ap length behind_it, length-drop (end + 1) rest, lf.0, ap (λ (x : ReaderState). x.lines) ended, c.hold.ensures.lines);
       ready =
-          ready-less S c.end_line.new.taker _ (length (drop (end + 1) rest)) (omega (arith, ap length behind_it))
-          (ready-behind S c.loop-end.taker c.end_line.new.taker r.header r.lines (length (drop (end + 1) rest)) (r.held ++ 10 ∷ []) ready (c.in_ok-end_line.ensures.judged ready.service ready.before ready.stands));
+          let left : ℕ = length (drop (end + 1) rest) in
+          let judged = c.in_ok-end_line.ensures.judged ready.service ready.before ready.stands in
+          ready-less S c.end_line.new.taker _ left (omega (arith, ap length behind_it))
+          (ready-behind S c.loop-end.taker c.end_line.new.taker r.header r.lines left (r.held ++ 10 ∷ []) ready judged);
     }
 
 pub returns-clause-read : goal.returns-clause-read
@@ -83,7 +86,8 @@ returns-clause-read g c =
     let S = g.T.TakeJournal.stands in
     let inv = c.loop-end.invariant in
     on_ok_weaker c.hold-2.result (λ held. subst (λ (all : List ℕ). HasRead S c.args.taker.now c.args.self.now all c.loop-end.taker c.hold-2.new.self) inv.split
-    (read-held S c.args.taker.now c.loop-end.taker c.args.self.now c.loop-end.self c.hold-2.new.self inv.front c.loop-end.rest.now inv.read inv.header inv.not_refused c.in_default.ensures held.new_is held.short))
+    (read-held S c.args.taker.now c.loop-end.taker c.args.self.now c.loop-end.self c.hold-2.new.self inv.front c.loop-end.rest.now
+    inv.read inv.header inv.not_refused c.in_default.ensures held.new_is held.short))
     c.hold-2.ensures.held
 
 pub returns-clause-stops : goal.returns-clause-stops
