@@ -26,7 +26,8 @@ use Rattle.commands.specs.declared.status.Stop.{Stop}
 use Rattle.commands.proofs.Endings.{Counts, early-feed, early-run, early-words, lines-end, same-error, still, stopped-also}
 use Rattle.commands.proofs.Tables.{WritesNothing}
 
-module _ {B F S K : Type 0} {task : Task B} (none : WritesNothing task) {budget : ℕ} {words : List (List ℕ)} {feed : FeedSeen} {left written : Option (List ℕ)} {reads writes : Faults} {before after : F} {input : S} {out : K} where
+module _ {B F S K : Type 0} {task : Task B} (none : WritesNothing task) {budget : ℕ} {words : List (List ℕ)} {feed : FeedSeen}
+    {left written : Option (List ℕ)} {reads writes : Faults} {before after : F} {input : S} {out : K} where
   -- the words are not read, and the feed is as it was
   pub words-exit : {T : Type 0} (f : WordsFault) (s : Stop) → s ≡ words_stop f → feed.faults_after ≡ feed.faults → after ≡ before
       → (IsErrOf {T = T} (Err f) words_faults.Usage → asked_of words ≡ None)
@@ -34,7 +35,8 @@ module _ {B F S K : Type 0} {task : Task B} (none : WritesNothing task) {budget 
   words-exit f s stop kept same usage = early-run none (Err s) _ stop (early-words (λ absent. same) f kept (λ is. usage (ap Err is)))
 
   -- their feed is not loaded
-  pub load-exit : {T : Type 0} {a : Asked} → asked_of words ≡ Some a → (f : FeedError) (s : Stop) → IsFeedStop f s → ((told : Files) → feed.tables ≡ Some told → IsErrorOf f (asked_in told a))
+  pub load-exit : {T : Type 0} {a : Asked} → asked_of words ≡ Some a → (f : FeedError) (s : Stop) → IsFeedStop f s
+      → ((told : Files) → feed.tables ≡ Some told → IsErrorOf f (asked_in told a))
       → (IsErrOf {T = T} (Err f) feeds.ReadFault → Some feed.faults_after ≡ counted feed.faults) → (¬ (IsErrOf {T = T} (Err f) feeds.ReadFault) → feed.faults_after ≡ feed.faults)
       → EndsAs task budget words feed (still left reads) (still written writes) before after input input out out (Err s)
   load-exit asked f s stop exact failed answered =
@@ -50,4 +52,5 @@ pub kept-end : {B F S K : Type 0} {task : Task B} {budget : ℕ} {words : List (
     → AppendsTakenFront (IsErrOf run lines.WriteFault) IsAll First budget input.bytes input.bytes_after out.bytes out.bytes_after
     → Counts budget input out run → EndsAs task budget words feed input out feed_old feed_new input_old input_new out_old out_new result
 kept-end begun loads result run is whole end stopped front counts =
-    lines-end begun loads result run is whole end (stopped-also run (λ had. (had.0, had.1, all_as (λ bytes b. inl b) had.2)) stopped) (taken_as (λ ls bytes w. w) (λ ls bytes b. inl b) front) counts
+    let stopped_so = stopped-also run (λ had. (had.0, had.1, all_as (λ bytes b. inl b) had.2)) stopped in
+    lines-end begun loads result run is whole end stopped_so (taken_as (λ ls bytes w. w) (λ ls bytes b. inl b) front) counts

@@ -23,7 +23,8 @@ refused-there p (Some other) why is = cc
 abbrev refused : List ℕ → Result (Start (Unit {0})) (List ℕ)
 refused line = Err line
 
-by-line : (p : JournalProgress) (why : JournalRefusal) (line : List ℕ) → replayed_by p (refusal_at_end p) ≡ Err why → line ≡ journal_line why → restarted_by p (refusal_at_end p) ≡ refused line
+by-line : (p : JournalProgress) (why : JournalRefusal) (line : List ℕ) → replayed_by p (refusal_at_end p) ≡ Err why
+    → line ≡ journal_line why → restarted_by p (refusal_at_end p) ≡ refused line
 by-line p why line is own = ap (restarted_by p) (refused-there p (refusal_at_end p) why is) ∙ ap refused (sym own)
 
 load-refused : (asked : Asked) (bytes : List ℕ) (t now : ServiceState) (why : JournalRefusal) (f : LoadFault) → IsReplayed (text_of_head (head_of asked)) t bytes now (Err why)

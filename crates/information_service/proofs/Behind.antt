@@ -22,29 +22,35 @@ record IsAccepted (nw : Network) (st : State) (read : Result Message Refusal) : 
   read_is : read ≡ Ok message
   accepted : refusal nw st message ≡ None
 
-accepted-by : (nw : Network) (names : Names) (st : State) (count line : ℕ) (w : Wire) (m : Message) (o : Option Refusal) → refusal nw st m ≡ o → is_accepted (reply_to_message nw names st count line w (Ok m)) ≡ true → IsAccepted nw st (Ok m)
+accepted-by : (nw : Network) (names : Names) (st : State) (count line : ℕ) (w : Wire) (m : Message) (o : Option Refusal)
+    → refusal nw st m ≡ o → is_accepted (reply_to_message nw names st count line w (Ok m)) ≡ true → IsAccepted nw st (Ok m)
 accepted-by nw names st count line w m None is yes' = record { message = m; read_is = refl; accepted = is }
 accepted-by nw names st count line w m (Some r) is yes' = absurd (cc (sym (refused-not names line w r), rw is at yes'))
 
-accepted-of : (nw : Network) (names : Names) (st : State) (count line : ℕ) (w : Wire) (read : Result Message Refusal) → is_accepted (reply_to_message nw names st count line w read) ≡ true → IsAccepted nw st read
+accepted-of : (nw : Network) (names : Names) (st : State) (count line : ℕ) (w : Wire) (read : Result Message Refusal)
+    → is_accepted (reply_to_message nw names st count line w read) ≡ true → IsAccepted nw st read
 accepted-of nw names st count line w (Ok m) yes' = accepted-by nw names st count line w m (refusal nw st m) refl yes'
 accepted-of nw names st count line w (Err r) yes' = absurd (cc)
 
 -- ---- a message that is not
 
-none-by : (nw : Network) (names : Names) (st : State) (count line : ℕ) (w : Wire) (m : Message) (o : Option Refusal) → refusal nw st m ≡ o → is_accepted (reply_to_message nw names st count line w (Ok m)) ≡ false → accepted_message nw st (Ok m) ≡ None
+none-by : (nw : Network) (names : Names) (st : State) (count line : ℕ) (w : Wire) (m : Message) (o : Option Refusal)
+    → refusal nw st m ≡ o → is_accepted (reply_to_message nw names st count line w (Ok m)) ≡ false → accepted_message nw st (Ok m) ≡ None
 none-by nw names st count line w m None is not = absurd (cc (rw is at not))
 none-by nw names st count line w m (Some r) is not = rw is refl
 
-none-of : (nw : Network) (names : Names) (st : State) (count line : ℕ) (w : Wire) (read : Result Message Refusal) → is_accepted (reply_to_message nw names st count line w read) ≡ false → accepted_message nw st read ≡ None
+none-of : (nw : Network) (names : Names) (st : State) (count line : ℕ) (w : Wire) (read : Result Message Refusal)
+    → is_accepted (reply_to_message nw names st count line w read) ≡ false → accepted_message nw st read ≡ None
 none-of nw names st count line w (Ok m) not = none-by nw names st count line w m (refusal nw st m) refl not
 none-of nw names st count line w (Err r) not = refl
 
 module _ (t now : TimetableState) (number : ℕ) (w : Wire) (names known : Names) (reply : Reply) (taken : IsTaken t now number w names known reply) where
   -- nothing is done behind it
-  pub nothing-done : {C R : Type 0} (Follows : Network → State → C → R → C → Type 0) (kept : C) → false ≡ is_accepted reply → IsFollowed Follows (service_with t t.count names) (resolved names w) kept None kept
+  pub nothing-done : {C R : Type 0} (Follows : Network → State → C → R → C → Type 0) (kept : C) → false ≡ is_accepted reply
+      → IsFollowed Follows (service_with t t.count names) (resolved names w) kept None kept
   nothing-done Follows kept not =
-      let none : accepted_message t.network t.state (resolved names w) ≡ None = none-of t.network names t.state t.count number w (resolved names w) (ap is_accepted (sym taken.replied) ∙ sym not) in
+      let not_replied = ap is_accepted (sym taken.replied) ∙ sym not in
+      let none : accepted_message t.network t.state (resolved names w) ≡ None = none-of t.network names t.state t.count number w (resolved names w) not_replied in
       rw none (refl, refl)
 
   module _ (yes' : true ≡ is_accepted reply) where
@@ -57,7 +63,8 @@ module _ (t now : TimetableState) (number : ℕ) (w : Wire) (names known : Names
     message-is : accepted_message t.network t.state (resolved names w) ≡ Some is.message
     message-is = rw (is.read_is, is.accepted) refl
 
-    pub just-taken : {C : Type 0} (Ready : Network → State → C → Type 0) (kept : C) → IsValid t.network t.state → IfOk (resolved names w) IsWellFormed → Ready t.network t.state kept → HasJustTaken Ready now kept
+    pub just-taken : {C : Type 0} (Ready : Network → State → C → Type 0) (kept : C) → IsValid t.network t.state
+        → IfOk (resolved names w) IsWellFormed → Ready t.network t.state kept → HasJustTaken Ready now kept
     just-taken Ready kept valid formed ready = rw took (record {
       before = t.state;
       message = is.message;

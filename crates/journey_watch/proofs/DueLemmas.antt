@@ -54,7 +54,8 @@ module _ (rows : List (List ℕ)) where
       ]
 
   -- such a train is that of an event
-  first-only : (m : Node) (nodes : List Node) (t : ℕ) → (Contains (watched_trains rows nodes) t → (n : Node) × Contains nodes n × (n.train ≡ t)) → Contains (m.train ∷ watched_trains rows nodes) t
+  first-only : (m : Node) (nodes : List Node) (t : ℕ)
+      → (Contains (watched_trains rows nodes) t → (n : Node) × Contains nodes n × (n.train ≡ t)) → Contains (m.train ∷ watched_trains rows nodes) t
       → (n : Node) × Contains (m ∷ nodes) n × (n.train ≡ t)
   first-only m nodes t rest (zero, within, at) = (m, first-is m nodes, at)
   first-only m nodes t rest (suc i, within, at) = let r = rest (i, omega (arith, within), at) in (r.0, later-is m nodes r.0 r.1, r.2)

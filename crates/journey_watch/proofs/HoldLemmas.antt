@@ -109,7 +109,8 @@ module _ (nw : Network) (st : State) (valid : IsValid nw st) where
       by (Some c) found is = runs-by name r c found c.departure.live refl (reached_call name.alight (after (is_call name.board) (calls_of st name.train))) refl is
 
   -- names at one place have one ride
-  one-ride : (all : List CertRide) (i : ℕ) (a b : CertRide) (r s : PlanRide) → slice_get all i ≡ Some a → slice_get all i ≡ Some b → ride_now nw st a ≡ Some r → RunsNow nw st b s → r ≡ s
+  one-ride : (all : List CertRide) (i : ℕ) (a b : CertRide) (r s : PlanRide) → slice_get all i ≡ Some a
+      → slice_get all i ≡ Some b → ride_now nw st a ≡ Some r → RunsNow nw st b s → r ≡ s
   one-ride all i a b r s at there is runs =
       let same : b ≡ a = same_Some b a (sym there ∙ at) in
       same_Some r s (sym is ∙ ap (ride_now nw st) (sym same) ∙ ride-found b s runs)

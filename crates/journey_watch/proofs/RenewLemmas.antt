@@ -49,7 +49,8 @@ module _ (nw : Network) (st : State) where
   renewed-none (w ∷ ws) all = λ i. kept-renewed w (all 0 w (omega arith)) i ∷ renewed-none ws (λ k d l. all (suc k) d (omega arith)) i
 
   -- the first journey that is not kept is told first
-  pub alerts-set : (ws : List Watched) (j : ℕ) (w : Watched) → slice_get ws j ≡ Some w → ((k : ℕ) (v : Watched) → k < j → slice_get ws k ≡ Some v → IsKept v) → has_kept_standing nw st w ≡ false
+  pub alerts-set : (ws : List Watched) (j : ℕ) (w : Watched) → slice_get ws j ≡ Some w
+      → ((k : ℕ) (v : Watched) → k < j → slice_get ws k ≡ Some v → IsKept v) → has_kept_standing nw st w ≡ false
       → alerts_of nw st ws ≡ alert_of nw st w ∷ alerts_of nw st (slice_set ws j (renewed nw st w))
   alerts-set [] j w at before not-kept = absurd (none-some w at)
   alerts-set (v ∷ ws) zero w at before not-kept =
@@ -67,13 +68,15 @@ module _ (nw : Network) (st : State) where
   renewed-set (v ∷ ws) (suc j) w at = ap (λ us. renewed nw st v ∷ us) (renewed-set ws j w at)
 
   -- the rides stay
-  pub rides-set : (ws : List Watched) (j : ℕ) (w : Watched) → slice_get ws j ≡ Some w → map (λ (w : Watched). w.rides) (slice_set ws j (renewed nw st w)) ≡ map (λ (w : Watched). w.rides) ws
+  pub rides-set : (ws : List Watched) (j : ℕ) (w : Watched) → slice_get ws j ≡ Some w
+      → map (λ (w : Watched). w.rides) (slice_set ws j (renewed nw st w)) ≡ map (λ (w : Watched). w.rides) ws
   rides-set [] j w at = refl
   rides-set (v ∷ ws) zero w at = ap (λ (u : Watched). u.rides ∷ map (λ (w : Watched). w.rides) ws) (sym (same_Some v w at))
   rides-set (v ∷ ws) (suc j) w at = ap (λ rs. v.rides ∷ rs) (rides-set ws j w at)
 
   -- reads are counted by the rides
-  pub reads-set : (nodes : List Node) (ws : List Watched) (j b : ℕ) (w : Watched) → slice_get ws j ≡ Some w → reads_for nodes (drop b (slice_set ws j (renewed nw st w))) ≡ reads_for nodes (drop b ws)
+  pub reads-set : (nodes : List Node) (ws : List Watched) (j b : ℕ) (w : Watched) → slice_get ws j ≡ Some w
+      → reads_for nodes (drop b (slice_set ws j (renewed nw st w))) ≡ reads_for nodes (drop b ws)
   reads-set nodes [] j b w at = refl
   reads-set nodes (v ∷ ws) zero zero w at =
       ap (λ (u : Watched). cond (is_on_one nodes u.rides) (2 * length u.rides) 0 + reads_for nodes ws) (sym (same_Some v w at))
@@ -100,7 +103,8 @@ pub reads-split : (nodes : List Node) (ws : List Watched) (b j : ℕ) (w : Watch
 reads-split nodes [] b j w l at = absurd (none-some w at)
 reads-split nodes (v ∷ ws) zero zero w l at =
     let same : v ≡ w = same_Some v w at in
-    subst (λ (u : Watched). cond (is_on_one nodes u.rides) (2 * length u.rides) 0 + reads_for nodes ws ≤ cond (is_on_one nodes v.rides) (2 * length v.rides) 0 + reads_for nodes ws) same (omega arith)
+    let reads : Watched → ℕ = λ u. cond (is_on_one nodes u.rides) (2 * length u.rides) 0 + reads_for nodes ws in
+    subst (λ (u : Watched). reads u ≤ reads v) same (omega arith)
 reads-split nodes (v ∷ ws) zero (suc j) w l at =
     let rest = reads-split nodes ws zero j w (omega arith) at in
     let first = cond (is_on_one nodes v.rides) (2 * length v.rides) 0 in

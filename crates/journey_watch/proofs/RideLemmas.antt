@@ -34,7 +34,8 @@ abbrev node : ℕ → ℕ → Bool → Node
 node train label dep = record { train = train; label = label; dep = dep }
 
 -- a call is live where its event is
-live-of : (nw : Network) (st : State) → IsValid nw st → (train label : ℕ) (dep : Bool) (c : Call) → call_named st train label ≡ Some c → is_live st (node train label dep) ≡ (values_of dep c).live
+live-of : (nw : Network) (st : State) → IsValid nw st → (train label : ℕ) (dep : Bool) (c : Call)
+    → call_named st train label ≡ Some c → is_live st (node train label dep) ≡ (values_of dep c).live
 live-of nw st valid train label dep c named =
     live-named st (node train label dep) (calls-distinct st valid.trains train) ∙ ap (λ o. option_map_or (λ (c : Call). (values_of dep c).live) o false) named
 
@@ -75,7 +76,8 @@ module _ (nw : Network) (st : State) (valid : IsValid nw st) (train label : ℕ)
       let arr : at.call.arrival.live ≡ true = sym arrives ∙ sym live in
       sym (ap {B = Bool} is_some step ∙ rw (arr, here) refl)
 
-  pub by-end : true ≡ is_live st (node train next false) → nat_eq next alight ≡ false → false ≡ is_live st (node train next true) → false ≡ is_some (reached_call alight (calls_behind st train label))
+  pub by-end : true ≡ is_live st (node train next false) → nat_eq next alight ≡ false → false ≡ is_live st (node train next true)
+      → false ≡ is_some (reached_call alight (calls_behind st train label))
   by-end live apart ends =
       let arr : at.call.arrival.live ≡ true = sym arrives ∙ sym live in
       let dep : at.call.departure.live ≡ false = sym departs ∙ sym ends in
@@ -154,7 +156,8 @@ pub none-of : {X : Type 0} (o : Option X) → is_some o ≡ false → o ≡ None
 none-of None there = refl
 none-of (Some x) there = absurd (cc)
 
-pub has-calls : (nw : Network) (st : State) → IsValid nw st → (train board alight : ℕ) → has_call st train board ≡ true → is_some (reached_call alight (calls_behind st train board)) ≡ true
+pub has-calls : (nw : Network) (st : State) → IsValid nw st → (train board alight : ℕ) → has_call st train board ≡ true
+    → is_some (reached_call alight (calls_behind st train board)) ≡ true
     → HasCalls nw st train board alight
 has-calls nw st valid train board alight there runs =
     let c = some-of (call_named st train board) there in

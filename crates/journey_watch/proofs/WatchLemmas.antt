@@ -181,7 +181,8 @@ module _ (nw : Network) (st : State) (nodes : List Node) (trains : List ℕ) (on
     own v here = at-own now j v (renewed nw st w) w at here
 
     -- what holds of each journey and of the one that is found again
-    each : (P : ℕ → Watched → Type 0) → ((k : ℕ) (v : Watched) → slice_get now k ≡ Some v → (k ≡ j → ⊥) → P k v) → P j (renewed nw st w) → (k : ℕ) (v : Watched) → slice_get next k ≡ Some v → P k v
+    each : (P : ℕ → Watched → Type 0) → ((k : ℕ) (v : Watched) → slice_get now k ≡ Some v → (k ≡ j → ⊥) → P k v)
+        → P j (renewed nw st w) → (k : ℕ) (v : Watched) → slice_get next k ≡ Some v → P k v
     each P others here k v found = elim (cases_eq k j) [
       | inl same ↦ rw same (subst (P j) (own v (rw same at found)) here)
       | inr apart ↦ others k v (at-other now j k v (renewed nw st w) apart found) apart
@@ -257,12 +258,14 @@ module _ (nw : Network) (st : State) (nodes : List Node) (trains due : List ℕ)
   here : IsBeingRenewed nw st nodes trains old now alerts (get_or due i 0 ∷ drop (i + 1) due) steps steps_now
   here = subst (λ left. IsBeingRenewed nw st nodes trains old now alerts left steps steps_now) (left-at due i within) is
 
-  pub none-more : None ≡ option_and_then (told_of nw st trains) (slice_get now (get_or due i 0)) → next ≡ now → IsBeingRenewed nw st nodes trains old next alerts (drop (i + 1) due) steps steps_next
+  pub none-more : None ≡ option_and_then (told_of nw st trains) (slice_get now (get_or due i 0)) → next ≡ now
+      → IsBeingRenewed nw st nodes trains old next alerts (drop (i + 1) due) steps steps_next
   none-more told same =
       goes-on nw st nodes trains are.only old now alerts (get_or due i 0) (drop (i + 1) due) (rises-behind due i are.order within) steps steps_now here (sym told) next same steps_next cost
 
   pub one-more : (a : Alert) → Some a ≡ option_and_then (told_of nw st trains) (slice_get now (get_or due i 0))
-      → ((w : Watched) → slice_get now (get_or due i 0) ≡ Some w → next ≡ slice_set now (get_or due i 0) (renewed nw st w)) → (alerts_now : List Alert) → alerts_now ≡ alerts ++ a ∷ []
+      → ((w : Watched) → slice_get now (get_or due i 0) ≡ Some w → next ≡ slice_set now (get_or due i 0) (renewed nw st w))
+      → (alerts_now : List Alert) → alerts_now ≡ alerts ++ a ∷ []
       → IsBeingRenewed nw st nodes trains old next alerts_now (drop (i + 1) due) steps steps_next
   one-more a told set alerts_now more =
       let w = some-at (told_of nw st trains) (slice_get now (get_or due i 0)) a (sym told) in

@@ -56,7 +56,8 @@ dead-killed nw st n from to valid free v h own among =
           absurd (let not : (kill_at es v).live ≡ false = rw among refl in cc)
     ]
 
-cancel-bare : (nw : Network) (st : State) (n from to : ℕ) → IsValid nw st → (k : ℕ) → IsUnchanged nw st (effect st (Cancel n from to)) k → (t : Train) → k ≡ n → slice_get st.trains k ≡ Some t
+cancel-bare : (nw : Network) (st : State) (n from to : ℕ) → IsValid nw st → (k : ℕ)
+    → IsUnchanged nw st (effect st (Cancel n from to)) k → (t : Train) → k ≡ n → slice_get st.trains k ≡ Some t
     → map bare (map (kill_in (stretch st n from to) n) t.calls) ≡ map bare t.calls
 cancel-bare nw st n from to valid k free t same got =
     let es = stretch st n from to in
@@ -78,7 +79,8 @@ first-live [] h = absurd (omega arith)
 first-live (a ∷ []) h = absurd (omega arith)
 first-live (a ∷ b ∷ cs) h = (change_event false (λ (e : EventValues). record e { live = false }) (new_call 0 a), (0, omega arith, refl), refl)
 
-extra-bare : (nw : Network) (st : State) (n day route : ℕ) (cs : List NewCall) → 2 ≤ length cs → n ≡ length st.trains → IsUnchanged nw st (effect st (Extra n day route cs)) (length st.trains) → ⊥
+extra-bare : (nw : Network) (st : State) (n day route : ℕ) (cs : List NewCall) → 2 ≤ length cs → n ≡ length st.trains
+    → IsUnchanged nw st (effect st (Extra n day route cs)) (length st.trains) → ⊥
 unfolding effect
 extra-bare nw st n day route cs two at free =
     let new = effect st (Extra n day route cs) in

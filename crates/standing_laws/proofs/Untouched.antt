@@ -29,7 +29,8 @@ after-same nw old new (c ∷ cs) a t n h =
     let later = λ (r : PlanRide). after-same nw old new cs r.alight_stop r.alight_time (n + 1) (λ i d l. h (suc i) d (omega arith)) in
     λ i. option_map_or (λ (r : PlanRide). cond (is_in_time nw a t r.board_stop r.board_time) (later r i) (Broken n)) (here i) (Broken n)
 
-standing-same : (nw : Network) (old new : State) (q : Query) (rides : List CertRide) → All (λ c. ride_now nw new c ≡ ride_now nw old c) rides → standing nw new q rides ≡ standing nw old q rides
+standing-same : (nw : Network) (old new : State) (q : Query) (rides : List CertRide)
+    → All (λ c. ride_now nw new c ≡ ride_now nw old c) rides → standing nw new q rides ≡ standing nw old q rides
 standing-same nw old new q [] h = refl
 standing-same nw old new q (c ∷ cs) h =
     let here : ride_now nw new c ≡ ride_now nw old c = h 0 c (omega arith) in

@@ -77,7 +77,8 @@ module _ (nw : Network) (t : ServiceState) (same : IsSame nw t.network) (kept : 
   behind-same None = refl
   behind-same (Some m) = sym (kept-same nw t.network same (effect t.state m) kept)
 
-  query-text-same : (number : ℕ) (asked : Result AskedQuery BadLine) (text : List ℕ) (now : WatchState) → IsQueryText t kept number asked text now → IsQueryText (over nw t) kept number asked text now
+  query-text-same : (number : ℕ) (asked : Result AskedQuery BadLine) (text : List ℕ) (now : WatchState)
+      → IsQueryText t kept number asked text now → IsQueryText (over nw t) kept number asked text now
   query-text-same number (Ok asked) text now is = record {
     reply = is.reply;
     is_reply = query-same nw t.network same t.state t.count number asked.day asked.query is.reply is.is_reply;

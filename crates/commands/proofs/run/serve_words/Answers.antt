@@ -9,7 +9,9 @@ returns-in-Err g c = record { run = words-exit by-served c.in-Err.fault _ c.from
 
 pub returns-in-Err-load_asked : goal.returns-in-Err-load_asked
 returns-in-Err-load_asked g c = record {
-  run = load-exit by-served c.in-Ok.ensures.ok c.in-Err-load_asked.error _ c.feed_stop.ensures c.in-Err-load_asked.ensures.exact c.in-Err-load_asked.ensures.failed c.in-Err-load_asked.ensures.answered;
+  run =
+      let fails = c.in-Err-load_asked.ensures in
+      load-exit by-served c.in-Ok.ensures.ok c.in-Err-load_asked.error _ c.feed_stop.ensures fails.exact fails.failed fails.answered;
 }
 
 pub returns : goal.returns

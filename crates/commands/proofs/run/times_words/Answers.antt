@@ -9,7 +9,9 @@ returns-in-Err g c = record { run = words-exit by-times c.in-Err.fault _ c.from.
 
 pub returns-in-Err-load_service : goal.returns-in-Err-load_service
 returns-in-Err-load_service g c = record {
-  run = load-exit by-times c.in-Ok.ensures.ok c.in-Err-load_service.error _ c.feed_stop.ensures c.in-Err-load_service.ensures.exact c.in-Err-load_service.ensures.failed c.in-Err-load_service.ensures.answered;
+  run =
+      let fails = c.in-Err-load_service.ensures in
+      load-exit by-times c.in-Ok.ensures.ok c.in-Err-load_service.error _ c.feed_stop.ensures fails.exact fails.failed fails.answered;
 }
 
 pub returns : goal.returns

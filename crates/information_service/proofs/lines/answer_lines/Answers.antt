@@ -86,7 +86,8 @@ answer_line-requires-clause-count g c =
     let gives = c.next.follows.holds-at-none.0 in
     let is : next_lines c.next.result ≡ given_line c.match-next.line ∷ [] =
     elim c.match-next.branch [ in-Line w ↦ rw (w.in-Line.is, w.line-is) refl | in-LongLine w ↦ rw (w.in-LongLine.is, w.line-is) refl ] in
-    omega (arith, inv.count, one-fits c.lines.before (given_line c.match-next.line) inv.answered.2.taken inv.answered.3 (λ e. ap g.S.Source.left (c.next.ensures.ended e)) (rw is at gives), gives.1.budget, inv.budget, c.requires.count)
+    let fits = one-fits c.lines.before (given_line c.match-next.line) inv.answered.2.taken inv.answered.3 (λ e. ap g.S.Source.left (c.next.ensures.ended e)) (rw is at gives) in
+    omega (arith, inv.count, fits, gives.1.budget, inv.budget, c.requires.count)
 
 pub answer_line-requires-clause-few : goal.answer_line-requires-clause-few
 answer_line-requires-clause-few g c = elim c.match-next.branch [

@@ -46,7 +46,8 @@ returns-clause-ride g c =
     let there : has_call st n.train n.board ≡ true = sym (rw (c.trains-trains.ensures.trains, c.graph.ensures.state) at c.has.ensures) ∙ c.if-not-has.false in
     let runs : is_some (reached_call n.alight (calls_behind st n.train n.board)) ≡ true = sym c.runs_to.ensures ∙ c.if-not-runs_to.false in
     let departs : live_time nw st (record { train = n.train; label = n.board; dep = true }) ≡ Some c.in_ok-board_time.board_time = sym (rw c.departure.ensures at c.in_ok-board_time.ensures.time) in
-    let arrives : live_time nw st (record { train = n.train; label = n.alight; dep = false }) ≡ Some c.in_ok-alight_time.alight_time = sym (rw c.arrival.ensures at c.in_ok-alight_time.ensures.time) in
+    let arrives : live_time nw st (record { train = n.train; label = n.alight; dep = false }) ≡ Some c.in_ok-alight_time.alight_time =
+    sym (rw c.arrival.ensures at c.in_ok-alight_time.ensures.time) in
     let from : option_map (λ (c : Call). c.stop) (call_named st n.train n.board) ≡ Some c.stop.result = rw (c.trains-trains.ensures.trains, c.graph.ensures.state) at c.stop.ensures in
     let to : option_map (λ (c : Call). c.stop) (call_named st n.train n.alight) ≡ Some c.stop-2.result = rw (c.trains-trains.ensures.trains, c.graph.ensures.state) at c.stop-2.ensures in
     ride-is nw st c.requires n
