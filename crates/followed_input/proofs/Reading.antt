@@ -103,7 +103,7 @@ so-far-more {o = o} {old = old} {now = now} {left = left} {mid = mid} {bytes = b
 
 -- no more lines were taken than bytes
 pub few-lines : {o : Option TimetableState} {old now : FollowerState (List Message)} {left left_now : Option (List ℕ)} {taken : ℕ} {bytes : List ℕ} (budget : ℕ) → IsReady o old
-    → old.reader.refusal ≡ None → IsSoFar o old now left left_now taken bytes → taken ≤ budget → old.reader.lines + budget < 2 ^ 63 → now.reader.lines < 2 ^ 63
+    → old.reader.refusal ≡ None → IsSoFar o old now left left_now taken bytes → taken < budget → old.reader.lines + budget ≤ 2 ^ 63 → now.reader.lines < 2 ^ 63
 few-lines {old = old} {now = now} {bytes = bytes} budget ready none so within few =
     let h = ready none in
     let p : JournalProgress = progress old.reader h.service.0 old.board.posted in

@@ -63,7 +63,7 @@ pub fn follow_input<H: Opening<Timetable>, R: Wait, S: Source>(
     // the follower can read on, and a line for each byte can be counted
     requires ready { IsReady H.opening follower.old }
     requires not_refused { follower.old.reader.refusal ≡ None }
-    requires lines { follower.old.reader.lines + budget < 2 ^ 63 }
+    requires lines { follower.old.reader.lines + budget ≤ 2 ^ 63 }
 
     // the bytes that were taken of the input, how the follower stands behind them, and what this
     // answers for them

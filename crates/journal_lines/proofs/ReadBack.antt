@@ -149,9 +149,6 @@ wide n small = omega arith
 ref-texts : (r : WireRef) → r.call < 2 ^ 32 → IsCivil r.date → is_utf8 r.trip ≡ true → AreTexts (ref_object r)
 ref-texts r small civil named = (refl, wide r.call small, (refl, text-of-date r.date civil, (refl, text-of-name r.trip named, tt)))
 
-ref-read : (r : WireRef) → r.call < 2 ^ 32 → of_json (outline (ref_object r)) ≡ Some (ref_object r)
-ref-read r small = rw (number_of-decimal r.call (wide r.call small)) refl
-
 calls-texts : (cs : List WireCall) → AllByRecursion IsWireCall cs → AllByRecursion HasStopText cs → ItemsAreTexts (call_objects cs)
 unfolding call_objects
 calls-texts [] times named = tt

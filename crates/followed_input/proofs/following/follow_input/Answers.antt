@@ -53,7 +53,7 @@ returns-then-count-eq0-clause-reads g c =
 pub feed-requires-clause-lines : goal.feed-requires-clause-lines
 feed-requires-clause-lines g c =
     let inv = c.pieces.invariant in
-    few-lines c.args.budget c.requires.ready c.requires.not_refused inv.so_far.1 inv.within c.requires.lines
+    few-lines c.args.budget c.requires.ready c.requires.not_refused inv.so_far.1 c.pieces-test.true c.requires.lines
 
 pub pieces-preserved : goal.pieces-preserved
 pieces-preserved g c =
