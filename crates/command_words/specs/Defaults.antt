@@ -3,7 +3,7 @@ use Rattle.std.specs.Prelude.{◌≡◌, List, [], ◌∷◌, None, Some, codes}
 use Rattle.clap.specs.Words.{Text}
 use Rattle.service_zones.specs.Zones.{utc}
 use Rattle.command_words.specs.declared.words.Command.{Command}
-use Rattle.command_words.specs.declared.words.Command.TheVariants.{Times, Serve, Check, Plans, Watch, Journal, Restart}
+use Rattle.command_words.specs.declared.words.Command.TheVariants.{Times, Serve, Check, Plans, Watch, Journal, Restart, Follow}
 use Rattle.command_words.specs.GenWords.{default_options}
 use Rattle.command_words.specs.Words.{Asked, asked_of}
 
@@ -34,3 +34,4 @@ DefaultsAreAsked =
     × (asked_of (words_without_options (codes "watch")) ≡ Some (asked_by_default Watch))
     × (asked_of (words_without_options (codes "journal")) ≡ Some (asked_by_default Journal))
     × (asked_of (words_without_options (codes "restart")) ≡ Some (asked_by_default Restart))
+    × (asked_of (words_without_options (codes "follow")) ≡ Some (asked_by_default Follow))

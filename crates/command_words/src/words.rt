@@ -41,6 +41,10 @@ pub enum Command {
 
     /// Takes the messages of a journal in the feed's folder first, and then does what `Times` does.
     Restart,
+
+    /// Reads a journal from the input while it is being written, and writes the table of all times
+    /// behind it.
+    Follow,
 }
 
 /// What the words ask for.
@@ -128,6 +132,7 @@ impl Command {
             "watch" => Some(Command::Watch),
             "journal" => Some(Command::Journal),
             "restart" => Some(Command::Restart),
+            "follow" => Some(Command::Follow),
             _ => None,
         }
     }

@@ -24,6 +24,7 @@ pub use laws::{lines_keep_names_in_step, outputs_differ_in_journeys_alone};
 pub use output::answer_input;
 pub use replies::{reply_to_asked, reply_to_found};
 pub use service::InformationService;
+pub use table::write_table;
 pub use taking::{TakeMessages, take_wire};
 pub use times::{WriteReplies, write_output};
 pub use writing::write_bytes;

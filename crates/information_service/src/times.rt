@@ -51,7 +51,7 @@ impl AnswerLines<()> for WriteReplies {
         _kept: &(),
         out: &mut K,
     ) -> Result<(), LinesFault> {
-        write_table(alloc, service, out)
+        write_table(alloc, &service.timetable, &service.directory, out)
     }
 
     fn networks_are_written_alike() {}

@@ -4,7 +4,7 @@ use Rattle.clap.specs.Words.{App, Text, fault_of, found_of, is_simple, is_simple
 use Rattle.clap.proofs.OnLiterals.{clap_on_literals}
 use Rattle.command_words.specs.Commands.{app_for, command_app, plans_app}
 use Rattle.command_words.specs.declared.words.Command.{Command}
-use Rattle.command_words.specs.declared.words.Command.TheVariants.{Times, Serve, Check, Plans, Watch, Journal, Restart}
+use Rattle.command_words.specs.declared.words.Command.TheVariants.{Times, Serve, Check, Plans, Watch, Journal, Restart, Follow}
 use Rattle.command_words.proofs.words.command_matches.Goals as goal
 
 simple : (command : Command) (name : Text) → is_simple (app_for command name) ≡ true
@@ -16,6 +16,7 @@ simple Plans name = refl
 simple Watch name = refl
 simple Journal name = refl
 simple Restart name = refl
+simple Follow name = refl
 
 free : (command : Command) (name : Text) → is_simple_and_free (app_for command name) ≡ true
 unfolding command_app plans_app clap_on_literals
@@ -26,6 +27,7 @@ free Plans name = refl
 free Watch name = refl
 free Journal name = refl
 free Restart name = refl
+free Follow name = refl
 
 pub given_arguments-requires-clause-simple : goal.given_arguments-requires-clause-simple
 given_arguments-requires-clause-simple c = ap is_simple c.in_ok-app_for.ensures ∙ simple c.args.command c.args.name.now

@@ -3,6 +3,6 @@ use Rattle.information_service.proofs.table.write_table.Given as goal
 
 abbrev pub invariant-loop-train : goal.invariant-loop-train
 invariant-loop-train g l = record {
-  rows : Appends (g.K.Sink.written l.fn.out) (g.K.Sink.written l.out) (header ++ rows_from l.service.names l.service.network l.service.state 0 l.train);
+  rows : Appends (g.K.Sink.written l.fn.out) (g.K.Sink.written l.out) (header ++ rows_from l.directory l.timetable.network l.timetable.state 0 l.train);
   write : g.K.Sink.faults l.out ≡ g.K.Sink.faults l.fn.out;
 }
