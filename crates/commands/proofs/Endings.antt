@@ -47,7 +47,7 @@ not-error x e is = absurd cc
 pub same-error : {T E : Type 0} (r : Result T E) (e f : E) → r ≡ Err e → r ≡ Err f → e ≡ f
 same-error r e f one other = cc
 
-same-stop : (s u : Stop) → stops s ≡ stops u → s ≡ u
+pub same-stop : (s u : Stop) → stops s ≡ stops u → s ≡ u
 same-stop s u is = cc
 
 pub is-err : (run : Result (Unit {0}) Stop) (s : Stop) → IsErrAnd run (λ e. e ≡ s) → stops s ≡ run
@@ -88,7 +88,7 @@ stopped-early {task = task} none {budget = budget} {feed = feed} {left = left} {
     }
 
 -- words that ask for something do not ask for nothing
-not-none : {P : Type 0} (words : List (List ℕ)) (a : Asked) → asked_of words ≡ Some a → asked_of words ≡ None → P
+pub not-none : {P : Type 0} (words : List (List ℕ)) (a : Asked) → asked_of words ≡ Some a → asked_of words ≡ None → P
 not-none words a asked absent = absurd (none-some a (sym absent ∙ asked))
 
 -- what is to be refused was asked for
@@ -234,7 +234,7 @@ stopped-lines T lines.WriteFault t stop = grind arith
 stopped-lines T lines.OutOfMemory t stop = grind arith
 stopped-lines T lines.TooLong t stop = t
 
-same-fault : (f g : LinesFault) → stops (Fault f) ≡ stops (Fault g) → f ≡ g
+pub same-fault : (f g : LinesFault) → stops (Fault f) ≡ stops (Fault g) → f ≡ g
 same-fault f g is = cc
 
 not-stopped : {P : Type 0} → (Ok tt ≡ stops (Fault lines.ReadFault)) ⊎ (Ok tt ≡ stops (Fault lines.TooLong)) → P

@@ -3,6 +3,10 @@ pub mod Endings
 pub mod Exits
 pub mod Fitting
 mod Failing
+pub mod FollowEndings
+pub mod FollowLoads
+pub mod FollowReading
+pub mod FollowStatuses
 pub mod GenEndings
 pub mod Made
 pub mod MadeLines

@@ -85,7 +85,7 @@ was-refused (Err (Fault lines.WriteFault)) line is = let h = is.0 in absurd cc
 was-refused (Err (Fault lines.OutOfMemory)) line is = let h = is.0 in absurd cc
 was-refused (Err (Fault lines.TooLong)) line is = let h = is.0 in absurd cc
 
-is-refused : (run : Result (Unit {0}) Stop) (line : List ℕ) → IsRefusedWith line run → (run_status run ≡ statuses.FeedRefused) × (line ≡ run_line run)
+pub is-refused : (run : Result (Unit {0}) Stop) (line : List ℕ) → IsRefusedWith line run → (run_status run ≡ statuses.FeedRefused) × (line ≡ run_line run)
 is-refused (Ok u) line is = absurd is
 is-refused (Err Usage) line is = absurd is
 is-refused (Err (Refused told)) line is = (refl, is)
@@ -101,7 +101,7 @@ told-line (Err (Fault f)) other = refl
 -- ---- a run that nothing hinders
 
 -- an input that is at its end, and of which fewer bytes were taken than may be, has fewer
-not-full : (budget : ℕ) (left now : Option (List ℕ)) (bytes : List ℕ) → left ≡ Some bytes → budget ≤ length bytes → IsAtEnd now → TookFewer budget left now → ⊥
+pub not-full : (budget : ℕ) (left now : Option (List ℕ)) (bytes : List ℕ) → left ≡ Some bytes → budget ≤ length bytes → IsAtEnd now → TookFewer budget left now → ⊥
 not-full budget left now bytes told full end took = absurd (omega (arith, full, took.2, ap length (all_taken left now bytes took.0 took.1 end told)))
 
 -- no more bytes are taken than were left

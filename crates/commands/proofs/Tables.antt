@@ -110,7 +110,7 @@ same-line : {A : Type 0} (x y : List ℕ) → refused {A = A} x ≡ refused y �
 same-line x y is = cc
 
 -- the service that the words ask for is the one that was loaded, but for its network
-same-service : {words : List (List ℕ)} {tables : Option Files}
+pub same-service : {words : List (List ℕ)} {tables : Option Files}
     {a : Asked} {nw loaded : Network} {st : State} {names : Names} {loads : Loads words tables nw st names} {st_loaded : State} {names_loaded : Names}
     → IsStart words tables a nw loaded st names loads st_loaded names_loaded → first_service nw names st ≡ first_service nw names_loaded st_loaded
 same-service {nw = nw} {st = st} {names_loaded = names_loaded} s = ap (λ (ns : Names). first_service nw ns st) s.named ∙ ap (λ (t : State). first_service nw names_loaded t) s.state

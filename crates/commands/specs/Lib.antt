@@ -3,6 +3,8 @@ pub mod Commands
 pub mod Contract
 pub mod Failing
 pub mod Feeds
+pub mod FollowContract
+pub mod FollowTasks
 pub mod GenContract
 pub mod LineTasks
 pub mod Loading

@@ -3,6 +3,7 @@
 
 mod beginning;
 mod feed;
+mod following;
 mod generated;
 mod loading;
 mod own_loads;
@@ -14,8 +15,5 @@ mod telling;
 pub use feed::{LoadedTimetable, load_timetable};
 pub use loading::{LoadBehind, LoadFault, LoadNothing};
 pub use own_loads::{LoadHeader, LoadJournal, LoadPlans, LoadWatch};
-pub use run::{
-    run_check, run_journal, run_lines, run_plans, run_restart, run_times, run_watch, traind,
-    traind_within,
-};
+pub use run::{run_lines, run_times, traind, traind_within};
 pub use status::Status;

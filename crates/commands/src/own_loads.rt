@@ -78,7 +78,7 @@ fn zone_name(alloc: Global, text: Option<&str>) -> Result<Option<Name>, OutOfMem
 }
 
 /// The head of a journal over the feed and with the options that the words ask for.
-fn head_of(alloc: Global, asked: &Asked<'_>) -> Result<Head, OutOfMemory>
+pub(crate) fn head_of(alloc: Global, asked: &Asked<'_>) -> Result<Head, OutOfMemory>
     ensures { IfOk result (λ head. head ≡ head_of (asked_view asked.now)) }
 {
     Ok(Head {
@@ -115,7 +115,7 @@ impl LoadBehind<HeaderText> for LoadHeader {
 }
 
 /// The line by which a journal is refused, or want of memory.
-fn journal_fault(alloc: Global, refusal: JournalRefusal) -> LoadFault
+pub(crate) fn journal_fault(alloc: Global, refusal: JournalRefusal) -> LoadFault
     ensures { HasJournalLine refusal result }
 {
     let line = match refusal {

@@ -1,22 +1,17 @@
 //! The program as a call: its commands over any feed, input and outputs.
 
 ghost use Rattle.std.specs.Prelude.{◌≡◌, ◌≤◌, ◌^◌, map, true, false, string_bytes};
-ghost use Rattle.checked_answers.specs.CheckedLines.{checked_output};
 ghost use Rattle.command_words.specs.GenWords.{is_gen};
+ghost use Rattle.commands.specs.Commands.{MeetsContractOf, command_named, work_for};
 ghost use Rattle.commands.specs.Contract.{EndsAs, MeetsContract, byte_budget};
 ghost use Rattle.commands.specs.Seen.{feed_seen, stream_seen};
 ghost use Rattle.commands.specs.GenContract.{MeetsGenContract};
-ghost use Rattle.commands.specs.Commands.{command_named, task_for};
-ghost use Rattle.commands.specs.LineTasks.{BeginsFitting, line_task, nothing_behind};
-ghost use Rattle.commands.specs.OwnLoads.{header_behind, journal_behind, plans_behind, watch_behind};
+ghost use Rattle.commands.specs.LineTasks.{BeginsFitting, line_task};
 ghost use Rattle.commands.specs.Tasks.{served_output, service_task, times_output};
-ghost use Rattle.information_service.specs.TimesOutput.{times_output as replies_output};
-ghost use Rattle.journal_answers.specs.JournaledLines.{journal_output};
-ghost use Rattle.plan_answers.specs.PlannedLines.{planned_output};
-ghost use Rattle.watch_answers.specs.WatchedLines.{watched_output};
 
 use crate::beginning::begin;
 use crate::feed::{load_asked, load_service};
+use crate::following::run_follow;
 use crate::generated::run_gen;
 use crate::loading::{LoadBehind, LoadNothing};
 use crate::own_loads::{LoadHeader, LoadJournal, LoadPlans, LoadWatch};
@@ -224,136 +219,6 @@ fn run_serve<R: Threads + Wait + Sync, F: Feed, S: Source, K: Sink, E: Sink, G: 
     tell(&run, err)
 }
 
-/// All that the program does for `check`. It answers each line of the input at once, by the times
-/// after the messages of the lines before it: a query with what shows that its answer is right, and
-/// a claim by whether what comes with it shows that it is right. It waits for nobody and returns.
-pub fn run_check<F: Feed, S: Source, K: Sink, E: Sink>(
-    alloc: Global,
-    words: &[String],
-    feed: &mut F,
-    input: &mut S,
-    out: &mut K,
-    err: &mut E,
-    budget: u64,
-) -> Status
-    requires budget { (1 ≤ budget) × (budget ≤ 2 ^ 63) }
-    ensures contract { MeetsContract (line_task nothing_behind checked_output) budget
-        (map string_bytes words.now)
-        (feed_seen F.tables F.faults feed.old feed.new)
-        (stream_seen S.left S.faults input.old input.new)
-        (stream_seen K.written K.faults out.old out.new)
-        (stream_seen E.written E.faults err.old err.new)
-        feed.old feed.new input.old input.new out.old out.new result }
-{
-    run_lines::<CheckLines, LoadNothing, (), F, S, K, E>(
-        alloc, words, feed, input, out, err, budget,
-    )
-}
-
-/// All that the program does for `plans`. It answers each line of the input at once, by the times
-/// after the messages of the lines before it: a query with all best plans by arrival and number of
-/// rides, up to as many rides as the words ask for. It waits for nobody and returns.
-pub fn run_plans<F: Feed, S: Source, K: Sink, E: Sink>(
-    alloc: Global,
-    words: &[String],
-    feed: &mut F,
-    input: &mut S,
-    out: &mut K,
-    err: &mut E,
-    budget: u64,
-) -> Status
-    requires budget { (1 ≤ budget) × (budget ≤ 2 ^ 63) }
-    ensures contract { MeetsContract (line_task plans_behind planned_output) budget
-        (map string_bytes words.now)
-        (feed_seen F.tables F.faults feed.old feed.new)
-        (stream_seen S.left S.faults input.old input.new)
-        (stream_seen K.written K.faults out.old out.new)
-        (stream_seen E.written E.faults err.old err.new)
-        feed.old feed.new input.old input.new out.old out.new result }
-{
-    run_lines::<PlanLines, LoadPlans, PlanSearch, F, S, K, E>(
-        alloc, words, feed, input, out, err, budget,
-    )
-}
-
-/// All that the program does for `watch`. It answers each line of the input at once, by the times
-/// after the messages of the lines before it. The journey that it shows to a query is watched from
-/// then on, up to 10,000 of them, and behind the reply to an accepted message it tells of each
-/// watched journey whose standing changes. It waits for nobody and returns.
-pub fn run_watch<F: Feed, S: Source, K: Sink, E: Sink>(
-    alloc: Global,
-    words: &[String],
-    feed: &mut F,
-    input: &mut S,
-    out: &mut K,
-    err: &mut E,
-    budget: u64,
-) -> Status
-    requires budget { (1 ≤ budget) × (budget ≤ 2 ^ 63) }
-    ensures contract { MeetsContract (line_task watch_behind watched_output) budget
-        (map string_bytes words.now)
-        (feed_seen F.tables F.faults feed.old feed.new)
-        (stream_seen S.left S.faults input.old input.new)
-        (stream_seen K.written K.faults out.old out.new)
-        (stream_seen E.written E.faults err.old err.new)
-        feed.old feed.new input.old input.new out.old out.new result }
-{
-    run_lines::<WatchLines, LoadWatch, Watch, F, S, K, E>(
-        alloc, words, feed, input, out, err, budget,
-    )
-}
-
-/// All that the program does for `journal`. It writes a header, and behind it the line of each
-/// message of the input that is accepted, at once. It waits for nobody and returns.
-pub fn run_journal<F: Feed, S: Source, K: Sink, E: Sink>(
-    alloc: Global,
-    words: &[String],
-    feed: &mut F,
-    input: &mut S,
-    out: &mut K,
-    err: &mut E,
-    budget: u64,
-) -> Status
-    requires budget { (1 ≤ budget) × (budget ≤ 2 ^ 63) }
-    ensures contract { MeetsContract (line_task header_behind journal_output) budget
-        (map string_bytes words.now)
-        (feed_seen F.tables F.faults feed.old feed.new)
-        (stream_seen S.left S.faults input.old input.new)
-        (stream_seen K.written K.faults out.old out.new)
-        (stream_seen E.written E.faults err.old err.new)
-        feed.old feed.new input.old input.new out.old out.new result }
-{
-    run_lines::<JournalLines, LoadHeader, HeaderText, F, S, K, E>(
-        alloc, words, feed, input, out, err, budget,
-    )
-}
-
-/// All that the program does for `restart`. It takes the messages of the journal in the feed's
-/// folder, and then does what it does for `times`, with numbers of messages that go on from those
-/// of the journal. It waits for nobody and returns.
-pub fn run_restart<F: Feed, S: Source, K: Sink, E: Sink>(
-    alloc: Global,
-    words: &[String],
-    feed: &mut F,
-    input: &mut S,
-    out: &mut K,
-    err: &mut E,
-    budget: u64,
-) -> Status
-    requires budget { (1 ≤ budget) × (budget ≤ 2 ^ 63) }
-    ensures contract { MeetsContract (line_task journal_behind replies_output) budget
-        (map string_bytes words.now)
-        (feed_seen F.tables F.faults feed.old feed.new)
-        (stream_seen S.left S.faults input.old input.new)
-        (stream_seen K.written K.faults out.old out.new)
-        (stream_seen E.written E.faults err.old err.new)
-        feed.old feed.new input.old input.new out.old out.new result }
-{
-    run_lines::<WriteReplies, LoadJournal, (), F, S, K, E>(
-        alloc, words, feed, input, out, err, budget,
-    )
-}
-
 /// The command that words ask for, if they ask for anything.
 fn command_for(words: &[String]) -> Command
     ensures { result ≡ command_named (map string_bytes words.now) }
@@ -364,10 +229,22 @@ fn command_for(words: &[String]) -> Command
     }
 }
 
-/// The program. For `times` it does what `run_times` does, and so for `check`, `plans`, `watch`,
-/// `journal` and `restart`. For `serve` it reads the tables of the feed and answers the input
-/// window after window, and queries beside the messages; the gate is called after each message and
-/// before each query. It stops where `budget` bytes of
+/// The program. For `times` it does what `run_times` does. For `serve` it reads the tables of the
+/// feed and answers the input window after window, and queries beside the messages; the gate is
+/// called after each message and before each query.
+///
+/// `check`, `plans`, `watch`, `journal` and `restart` do what `run_lines` does. By the times after
+/// the messages of the lines before it, `check` answers a query with what shows that its answer is
+/// right, and a claim by whether what comes with it shows that it is right; `plans` answers a query
+/// with all best plans by arrival and number of rides, up to as many rides as the words ask for;
+/// and `watch` watches the journey that it shows to a query from then on, up to 10,000 of them, and
+/// behind the reply to an accepted message tells of each whose standing changes. `journal` writes a
+/// header, and behind it the line of each message that is accepted. `restart` takes the messages of
+/// the journal in the feed's folder first, and then does what `times` does, with numbers of
+/// messages that go on from those of the journal.
+///
+/// For `follow` it reads the journal that the input holds, each line as it comes, and at the end of
+/// the input writes the table of all times behind it. Each of these stops where `budget` bytes of
 /// the input were taken and no end was read. For `gen` it does what it does for `serve` over a feed
 /// and an input that it makes from a number of trains, and writes one line with the sums over the
 /// replies; it asks nothing of `feed` and `input`.
@@ -393,7 +270,7 @@ pub fn traind_within<
 
     // every command but `gen`
     ensures contract { is_gen (map string_bytes words.now) ≡ false
-        → MeetsContract (task_for (command_named (map string_bytes words.now))).task budget
+        → MeetsContractOf (work_for (map string_bytes words.now)) budget
         (map string_bytes words.now)
         (feed_seen F.tables F.faults feed.old feed.new)
         (stream_seen S.left S.faults input.old input.new)
@@ -414,12 +291,23 @@ pub fn traind_within<
     }
     match command_for(words) {
         Command::Times => run_times(alloc, words, feed, input, out, err, budget),
-        Command::Check => run_check(alloc, words, feed, input, out, err, budget),
-        Command::Plans => run_plans(alloc, words, feed, input, out, err, budget),
-        Command::Watch => run_watch(alloc, words, feed, input, out, err, budget),
-        Command::Journal => run_journal(alloc, words, feed, input, out, err, budget),
-        Command::Restart => run_restart(alloc, words, feed, input, out, err, budget),
         Command::Serve => run_serve(rt, alloc, words, feed, input, out, err, gate, budget),
+        Command::Check => run_lines::<CheckLines, LoadNothing, (), F, S, K, E>(
+            alloc, words, feed, input, out, err, budget,
+        ),
+        Command::Plans => run_lines::<PlanLines, LoadPlans, PlanSearch, F, S, K, E>(
+            alloc, words, feed, input, out, err, budget,
+        ),
+        Command::Watch => run_lines::<WatchLines, LoadWatch, Watch, F, S, K, E>(
+            alloc, words, feed, input, out, err, budget,
+        ),
+        Command::Journal => run_lines::<JournalLines, LoadHeader, HeaderText, F, S, K, E>(
+            alloc, words, feed, input, out, err, budget,
+        ),
+        Command::Restart => run_lines::<WriteReplies, LoadJournal, (), F, S, K, E>(
+            alloc, words, feed, input, out, err, budget,
+        ),
+        Command::Follow => run_follow(rt, alloc, words, feed, input, out, err, budget),
     }
 }
 
@@ -440,7 +328,7 @@ pub fn traind<R: Threads + Wait + Sync, F: Feed, S: Source, K: Sink, E: Sink, G:
 ) -> Status
     // every command but `gen`
     ensures contract { is_gen (map string_bytes words.now) ≡ false
-        → MeetsContract (task_for (command_named (map string_bytes words.now))).task byte_budget
+        → MeetsContractOf (work_for (map string_bytes words.now)) byte_budget
         (map string_bytes words.now)
         (feed_seen F.tables F.faults feed.old feed.new)
         (stream_seen S.left S.faults input.old input.new)

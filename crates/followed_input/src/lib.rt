@@ -3,6 +3,8 @@
 
 mod fault;
 mod following;
+mod journal;
 
 pub use fault::FollowFault;
 pub use following::follow_input;
+pub use journal::follow_journal;

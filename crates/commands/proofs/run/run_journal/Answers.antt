@@ -1,4 +1,0 @@
-use Rattle.commands.proofs.run.run_journal.Goals as goal
-
-pub run_lines-requires-clause-fits : goal.run_lines-requires-clause-fits
-run_lines-requires-clause-fits g c = λ asked table t s is. tt
