@@ -57,7 +57,7 @@ WORDS = (
     "--slack=-5", "--no", "0", "1", "2", "007", "16", "17", "31", "32", "50", "51", "3600", "3601", "86400",
     "000000001", "0000000001", "2000", "2001", "40000", "40001", "100000", "100001", "+1", "1,000", "1.0", " 1",
     "feed", "./feed", "feed/", "feed/stops.txt", "nofeed", "x" * 300, "feed/..", "/dev/null", "\u00e4", "\u0661",
-    "times", "serve", "check", "plans", "watch", "journal", "restart", "gen", "help", "TIMES", "20260106",
+    "times", "serve", "check", "plans", "watch", "journal", "restart", "follow", "gen", "help", "TIMES", "20260106",
     "20260229", "18991231", "19000101",
     "21001231", "--rides", "--rides", "--rides=1", "--rides=8", "--rides=9", "--rides=0", "--rides=", "8", "9",
     "21010101", "00000101", "2026-01-05", "202601055", "--zone", "--zone=", "--zone=UTC0",

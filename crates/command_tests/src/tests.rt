@@ -4,6 +4,7 @@
 mod example_feed;
 mod exhaustion;
 mod failing_calls;
+mod follow_runs;
 mod full_watch;
 mod held_runs;
 mod in_memory;

@@ -41,7 +41,7 @@ fn follow<H: Opening<Timetable>, R: Wait>(
     requires opening { H.opening ≡ Some leader.timetable }
     requires head { IsCivil leader.head.first }
     requires in_step { AreInStep leader.directory leader.timetable.state }
-    requires budget { budget < 2 ^ 63 }
+    requires budget { budget ≤ 2 ^ 63 }
 {
     let (mut follower, viewers) = Follower::<Publisher<Timetable, H>>::build(
         rt, alloc, history, leader, 1,
@@ -63,7 +63,7 @@ fn ends_so<R: Wait>(
     answer: Result<(), FollowFault>,
     rows: &str,
 ) -> Result<bool, Fail>
-    requires budget { budget < 2 ^ 63 }
+    requires budget { budget ≤ 2 ^ 63 }
 {
     let failing = Vec::from_slice(alloc, failing)?;
     let mut input = MemSource::build(Vec::from_slice(alloc, bytes)?, 7, failing);

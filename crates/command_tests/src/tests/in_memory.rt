@@ -5,9 +5,7 @@ ghost use Rattle.std.specs.Prelude.{map, string_bytes};
 ghost use Rattle.command_words.specs.GenWords.{gen_asked_of, is_gen};
 ghost use Rattle.command_words.specs.declared.gen_words.AskedGen.{AskedGen as Generated};
 ghost use Rattle.mt_io.specs.Tables.{table_in};
-ghost use Rattle.commands.specs.Commands.{command_named, task_for};
-ghost use Rattle.commands.specs.Failing.{IsFrontWritten};
-ghost use Rattle.commands.specs.Runs.{CanEnd};
+ghost use Rattle.commands.specs.Commands.{CanGoWell, IsFrontOf, work_for};
 ghost use Rattle.commands.specs.Summaries.{IsOnlySummary};
 
 use commands::{Status, traind_within};
@@ -17,8 +15,9 @@ use std::sync::Wait;
 use std::thread::Threads;
 
 /// A run over a feed, an input and an output in memory, of which no call is to fail. The feed holds
-/// a timetable, the input has fewer bytes than may be taken, and the output has room for each front
-/// of what is to be written. All goes well, unless there is no memory.
+/// a timetable, the input has fewer bytes than may be taken, and in `follow` holds a journal that is
+/// not to be refused, and the output has room for each front of what is to be written. All goes
+/// well, unless there is no memory.
 pub fn run_in_memory<R: Threads + Wait + Sync>(
     rt: &R,
     alloc: Global,
@@ -37,11 +36,10 @@ pub fn run_in_memory<R: Threads + Wait + Sync>(
     requires out { out.old.failing ≡ [] }
 
     // what is asked can be answered, and there is room for it
-    requires can_end { CanEnd (task_for (command_named (map string_bytes words.now))).task
+    requires can_end { CanGoWell (work_for (map string_bytes words.now))
         (map string_bytes words.now) (Some (table_in feed.old.tables)) (Some input.old.left)
         budget }
-    requires room { (written : List ℕ) → IsFrontWritten
-        (task_for (command_named (map string_bytes words.now))).task budget
+    requires room { (written : List ℕ) → IsFrontOf (work_for (map string_bytes words.now)) budget
         (map string_bytes words.now) (Some (table_in feed.old.tables)) (Some input.old.left)
         (Some out.old.held) (Some written) → length written ≤ out.old.room }
 

@@ -28,7 +28,7 @@ pub(super) struct Run {
 }
 
 /// A run that goes well.
-const WELL: Run = Run {
+pub(super) const WELL: Run = Run {
     shows: "no line",
     case: CASE,
     input: &[],
