@@ -1,5 +1,5 @@
 #!/usr/bin/env python3
-"""Measures the built program on a long journal: writing it, and going on from it.
+"""Measures the built program on a long journal: writing it, going on from it, and following it.
 
 Usage: bench/journal.py [FEED ..] [--feed SIZE] [--messages N] [--rounds N] [--program PATH]
 
@@ -8,11 +8,11 @@ or nation and may be given more than once, is made as for bench/plans.py.
 
 On each feed 1,000,000 messages, or as many as it is told, are given to `times` and to `journal`:
 forecasts for arrivals at calls of trains that run, 1 to 15 minutes late. What `journal` wrote is
-then the journal of `restart`, which gets no line more. It prints how many lines and bytes the
-journal has, and for each command the seconds and the mebibytes of a run without a message, and
-the microseconds of a message and the mebibytes of a run with all of them, each the median of
-three rounds. All times are those that the program was on a processor. It proves nothing and
-tests nothing; build the program first (README.md).
+then the journal of `restart`, which gets no line more, and the input of `follow`. It prints how
+many lines and bytes the journal has, and for each command the seconds and the mebibytes of a run
+without a message, and the microseconds of a message and the mebibytes of a run with all of them,
+each the median of three rounds. All times are those that the program was on a processor. It
+proves nothing and tests nothing; build the program first (README.md).
 """
 
 import argparse
@@ -98,12 +98,15 @@ def measure(words, path, folder):
         messages = sum(1 for _ in written) - 1
     size = journal.stat().st_size
     print(f"{path}: {words.messages:,} messages, {messages:,} in the journal, {size:,} bytes", flush=True)
-    cases = {"times": (path, lines, path), "journal": (path, lines, path), "restart": (short, os.devnull, long)}
+    cases = {
+        "times": ((os.devnull, path), (lines, path)),
+        "journal": ((os.devnull, path), (lines, path)),
+        "restart": ((os.devnull, short), (os.devnull, long)),
+        "follow": ((short / "journal.jsonl", path), (journal, path)),
+    }
     print(f"{'':>9}{'seconds':>9}{'MiB':>7}{'microseconds':>14}{'MiB':>7}")
-    for command, (without, given, behind) in cases.items():
-        rounds = [
-            (runs.run(command, feed=without), runs.run(command, given, feed=behind)) for _ in range(words.rounds)
-        ]
+    for command, (without, behind) in cases.items():
+        rounds = [(runs.run(command, *without), runs.run(command, *behind)) for _ in range(words.rounds)]
         load = statistics.median(first[0] for first, _ in rounds)
         cost = statistics.median(last[0] - first[0] for first, last in rounds) * 1e6 / messages
         peaks = [statistics.median(pair[which][1] for pair in rounds) for which in (0, 1)]
