@@ -62,8 +62,9 @@ pub record SaysWhyFeed (words : List (List ℕ)) (tables : Option Files) (line :
   pub line_is : line ≡ refusal_line why
   pub is : (told : Files) → tables ≡ Some told → IsFeedRefused words tables why
 
--- this line tells why the journal is refused: for a reason which is the one by the definition, by
--- the bytes that were taken of the input, no more than may be
+-- this line tells why the journal is refused, which is never for want of memory: for a reason
+-- which, where the feed tells its tables and holds a timetable, is the one by the definition, by the
+-- bytes that were taken of the input, no more than may be
 pub record SaysWhyJournal (budget : ℕ) (words : List (List ℕ)) (tables : Option Files)
     (input : StreamSeen) (line : List ℕ) : Type 0 where
   pub why : JournalRefusal
@@ -74,7 +75,8 @@ pub record SaysWhyJournal (budget : ℕ) (words : List (List ℕ)) (tables : Opt
       × IsRefusedSoFar budget input.bytes_after bytes (read_from start bytes) why
 
 -- a journal with these bytes, of which so many may be taken, is to be refused for this: for a line
--- among those that may be taken; or, where they are more than it has, since it has no whole line
+-- among those that may be taken; or, where they are more than it has, at its end, where it also has
+-- to have a whole line
 abbrev pub IsJournalRefused : ℕ → FollowStart → List ℕ → JournalRefusal → Type 0
 IsJournalRefused budget start bytes why =
     ((read_from start (take budget bytes)).refusal ≡ Some why)

@@ -1,5 +1,5 @@
 -- What the commands load behind the feed that answer line by line, and how `restart` takes the
--- journal of the feed's folder.
+-- journal of the feed's folder. Its header and the lines that refuse it are also those of `follow`.
 use Rattle.std.specs.Prelude.{ℕ, ◌≡◌, ◌++◌, List, [], codes, decimal, Result, Ok, Err, None, Some}
 use Rattle.std.specs.declared.option.Option.{Option}
 use Rattle.command_words.specs.Words.{Asked}
@@ -49,7 +49,8 @@ head_of asked = record {
 abbrev pub header_behind : Behind (List ℕ)
 header_behind = keeping (λ asked. text_of_head (head_of asked))
 
--- the lines by which `restart` refuses the journal of the feed's folder
+-- the lines by which `restart` refuses the journal of the feed's folder; `follow` has those that
+-- name a row for the journal of its input
 abbrev pub missing_line : List ℕ
 missing_line = codes "traind: feed refused: missing journal.jsonl\n"
 

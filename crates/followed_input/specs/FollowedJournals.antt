@@ -22,8 +22,8 @@ pub record IsTimetableAt (s : ServiceState) (t : TimetableState) (names : Names)
   pub names_are : names ≡ s.names
 
 -- the journal is refused for this, of which these bytes were taken from an input and which is read
--- so far behind them: a line among them is refused; or the end of the input was read, and there is
--- no whole line
+-- so far behind them: a line among them is refused; or it is refused at its end, where it also has
+-- to have a whole line, and the end of the input was read
 abbrev pub IsRefusedSoFar : ℕ → Option (List ℕ) → List ℕ → JournalProgress → JournalRefusal
     → Type 0
 IsRefusedSoFar budget left_now bytes p why = (p.refusal ≡ Some why)
@@ -31,9 +31,9 @@ IsRefusedSoFar budget left_now bytes p why = (p.refusal ≡ Some why)
 
 -- so it is where this is answered, of a journal of which these bytes were taken from an input, no
 -- more than may be, and which is read so far behind them: the end of the input was read, nothing is
--- refused, and this is the timetable behind the journal; the journal is refused for this; nothing
--- is refused, and more bytes could have been taken; or nothing is refused, and as many were taken
--- as may be
+-- refused, and this is the timetable behind the journal; the journal is refused for this, which is
+-- not want of memory; a read failed, nothing is refused, and more bytes could have been taken; there
+-- was no memory; or nothing is refused, and as many bytes were taken as may be
 abbrev pub IsAnsweredSoFar : ℕ → Option (List ℕ) → List ℕ → JournalProgress
     → Result (TimetableState × Names) FollowFault → Type 0
 IsAnsweredSoFar budget left_now bytes p (Ok whole) = EndWasRead budget left_now bytes
