@@ -319,9 +319,9 @@ module _ {F S K : Type 0} {budget : ℕ} {words : List (List ℕ)} {feed : FeedS
           → FollowEndsAs budget words feed input out feed_old feed_new input_old input_new out_old out_new result
       follow-written run result is ok front fault writes full =
           subst (FollowEndsAs budget words feed input out feed_old feed_new input_old input_new out_old out_new) (sym is) (by-run run ok front fault writes full) where
-        by-run : (run : Result (Unit {0}) LinesFault) → OnOk run (Appends out.bytes out.bytes_after (table t.network others t.state))
-            → IfErr run (λ f. AppendsFront (f ≡ lines.WriteFault) out.bytes out.bytes_after (table t.network others t.state)) → IfErr run IsNotOfInput
-            → Some out.faults_after ≡ writes_failed run out.faults → (IsErrOf run lines.WriteFault → IsFull out.faults_after out.bytes_after)
-            → FollowEndsAs budget words feed input out feed_old feed_new input_old input_new out_old out_new (run_of run)
-        by-run (Ok u) ok front fault writes full = wrote-all ok writes
-        by-run (Err f) ok front fault writes full = wrote-front f fault front writes full
+            by-run : (run : Result (Unit {0}) LinesFault) → OnOk run (Appends out.bytes out.bytes_after (table t.network others t.state))
+                → IfErr run (λ f. AppendsFront (f ≡ lines.WriteFault) out.bytes out.bytes_after (table t.network others t.state)) → IfErr run IsNotOfInput
+                → Some out.faults_after ≡ writes_failed run out.faults → (IsErrOf run lines.WriteFault → IsFull out.faults_after out.bytes_after)
+                → FollowEndsAs budget words feed input out feed_old feed_new input_old input_new out_old out_new (run_of run)
+            by-run (Ok u) ok front fault writes full = wrote-all ok writes
+            by-run (Err f) ok front fault writes full = wrote-front f fault front writes full

@@ -42,8 +42,14 @@ module _ {budget : ℕ} {words : List (List ℕ)} {feed : FeedSeen} {input out :
         let now = told-after out.bytes out.bytes_after room.held front.front room.told front.written in
         let more = more-of out.bytes now.0 (table_behind (read_from start all)) is (rw now.1 at front) in
         let full = full-by room.room out.faults_after now.0 (same-room room.room out.faults out.faults_after room.can failed.0.writes) (rw now.1 at failed.1) in
-        absurd (omega (arith, full, more.1, length-append now.0 more.0, room.fits (now.0 ++ more.0)
-        (record { start = start; begins = begins; bytes = all; told = told; is = (whole.1, more.2) })))
+        absurd (omega (
+          arith,
+          full,
+          more.1,
+          length-append now.0 more.0,
+          room.fits (now.0 ++ more.0)
+              (record { start = start; begins = begins; bytes = all; told = told; is = (whole.1, more.2) }),
+        ))
 
     -- and no write did
     no-write : {Same : Type 0} → (Same × ¬ Failed) ⊎ WritesTable (AppendsFront Failed) budget words feed.tables input out → NoFollowFails budget words feed input out
@@ -100,8 +106,8 @@ module _ {F S K : Type 0} {budget : ℕ} {words : List (List ℕ)} {feed : FeedS
     front = elim p.front [
       | inl nothing ↦ inl (nothing.0, λ is. nothing.1 (write-failed run is))
       | inr writes ↦ inr (λ start begins.
-      let w = writes start begins in
-      (w.0, w.1, w.2, w.3, front_if (write-failed run) out.bytes out.bytes_after (table_behind (read_from start w.0)) w.4))
+          let w = writes start begins in
+          (w.0, w.1, w.2, w.3, front_if (write-failed run) out.bytes out.bytes_after (table_behind (read_from start w.0)) w.4))
     ];
     untouched = λ well fault memory. p.untouched (λ is. well (ap run_status is)) (λ is. fault (ap run_status is)) (λ is. memory (ap run_status is));
     read_fault = λ is. p.read_fault (read-failed run is);
@@ -120,16 +126,16 @@ module _ {F S K : Type 0} {budget : ℕ} {words : List (List ℕ)} {feed : FeedS
     error_line = told-line run;
     promises = follow-promises run p;
     too_long_exactly = λ can none. elim (unhindered run p
-    (record { start = can.start; begins = can.begins; bytes = can.bytes; told = can.told; is = λ why. long-not-refused can.start budget can.bytes why can.is }) none) [
-      | inl well ↦ absurd (not-full budget input.bytes input.bytes_after can.bytes can.told can.is.0 (p.ended well) (p.fewer well))
-      | inr other ↦ elim other [ inl memory ↦ inr (ap run_status memory) | inr long ↦ inl (ap run_status long) ]
-    ];
+        (record { start = can.start; begins = can.begins; bytes = can.bytes; told = can.told; is = λ why. long-not-refused can.start budget can.bytes why can.is }) none) [
+          | inl well ↦ absurd (not-full budget input.bytes input.bytes_after can.bytes can.told can.is.0 (p.ended well) (p.fewer well))
+          | inr other ↦ elim other [ inl memory ↦ inr (ap run_status memory) | inr long ↦ inl (ap run_status long) ]
+        ];
     complete = λ can none. elim (unhindered run p
-    (record { start = can.start; begins = can.begins; bytes = can.bytes; told = can.told; is = λ why. whole-not-refused can.start budget can.bytes why can.is }) none) [
-      | inl well ↦ inl (ap run_status well)
-      | inr other ↦ elim other [
-        | inl memory ↦ inr (ap run_status memory)
-        | inr long ↦ (let took = p.too_long long in absurd (omega (arith, few-taken input.bytes input.bytes_after took.0 can.bytes took.1 can.told, took.2, can.is.0)))
-      ]
-    ];
+        (record { start = can.start; begins = can.begins; bytes = can.bytes; told = can.told; is = λ why. whole-not-refused can.start budget can.bytes why can.is }) none) [
+          | inl well ↦ inl (ap run_status well)
+          | inr other ↦ elim other [
+            | inl memory ↦ inr (ap run_status memory)
+            | inr long ↦ (let took = p.too_long long in absurd (omega (arith, few-taken input.bytes input.bytes_after took.0 can.bytes took.1 can.told, took.2, can.is.0)))
+          ]
+        ];
   })

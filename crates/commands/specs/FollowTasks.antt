@@ -63,8 +63,8 @@ pub record SaysWhyFeed (words : List (List ℕ)) (tables : Option Files) (line :
   pub is : (told : Files) → tables ≡ Some told → IsFeedRefused words tables why
 
 -- this line tells why the journal is refused, which is never for want of memory: for a reason
--- which, where the feed tells its tables and holds a timetable, is the one by the definition, by the
--- bytes that were taken of the input, no more than may be
+-- which, where the feed tells its tables and holds a timetable, is the one by the definition, by
+-- the bytes that were taken of the input, no more than may be
 pub record SaysWhyJournal (budget : ℕ) (words : List (List ℕ)) (tables : Option Files)
     (input : StreamSeen) (line : List ℕ) : Type 0 where
   pub why : JournalRefusal

@@ -73,7 +73,8 @@ IsMissingFault (Refused line) = line.items ≡ missing_line
 IsMissingFault faults.OutOfMemory = Unit {0}
 
 -- what it begins with, by how far the journal is read: the service behind its messages
-abbrev pub restarted_by : JournalProgress → Option JournalRefusal → Result (Start (Unit {0})) (List ℕ)
+abbrev pub restarted_by : JournalProgress → Option JournalRefusal
+    → Result (Start (Unit {0})) (List ℕ)
 restarted_by p None = Ok (record { service = p.service; kept = tt })
 restarted_by p (Some why) = Err (journal_line why)
 

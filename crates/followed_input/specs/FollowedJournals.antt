@@ -32,8 +32,8 @@ IsRefusedSoFar budget left_now bytes p why = (p.refusal ≡ Some why)
 -- so it is where this is answered, of a journal of which these bytes were taken from an input, no
 -- more than may be, and which is read so far behind them: the end of the input was read, nothing is
 -- refused, and this is the timetable behind the journal; the journal is refused for this, which is
--- not want of memory; a read failed, nothing is refused, and more bytes could have been taken; there
--- was no memory; or nothing is refused, and as many bytes were taken as may be
+-- not want of memory; a read failed, nothing is refused, and more bytes could have been taken;
+-- there was no memory; or nothing is refused, and as many bytes were taken as may be
 abbrev pub IsAnsweredSoFar : ℕ → Option (List ℕ) → List ℕ → JournalProgress
     → Result (TimetableState × Names) FollowFault → Type 0
 IsAnsweredSoFar budget left_now bytes p (Ok whole) = EndWasRead budget left_now bytes

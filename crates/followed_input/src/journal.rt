@@ -47,8 +47,9 @@ pub fn follow_journal<H: Opening<Timetable>, R: Wait, S: Source>(
     // how many reads failed
     ensures reads { Some (S.faults input.new) ≡ reads_failed result (S.faults input.old) }
 {
-    let (mut follower, viewers) =
-        Follower::<Publisher<Timetable, H>>::build(rt, alloc, history, leader, 1)?;
+    let (mut follower, viewers) = Follower::<Publisher<Timetable, H>>::build(
+        rt, alloc, history, leader, 1,
+    )?;
     let answer = follow_input(rt, alloc, &mut follower, input, budget);
     let whole = follower.close(rt, viewers);
     answer?;
