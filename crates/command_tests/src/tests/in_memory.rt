@@ -15,9 +15,9 @@ use std::sync::Wait;
 use std::thread::Threads;
 
 /// A run over a feed, an input and an output in memory, of which no call is to fail. The feed holds
-/// a timetable, the input has fewer bytes than may be taken, and in `follow` it holds a journal that
-/// is not to be refused, and the output has room for each front of what is to be written. All goes
-/// well, unless there is no memory.
+/// a timetable, the input has fewer bytes than may be taken, and for `follow` a journal that is not
+/// to be refused, and the output has room for each front of what is to be written. All goes well,
+/// unless there is no memory.
 pub fn run_in_memory<R: Threads + Wait + Sync>(
     rt: &R,
     alloc: Global,
