@@ -2,9 +2,10 @@
 use Rattle.std.proofs.Common.{◌≡◌, ◌≢◌, ◌∙◌, ◌⊎◌, ◌≤◌, ℕ, List, [], length, Option, Some, None, Result, Ok, Err, refl, sym, ap, subst, inl, inr, arith}
 use Rattle.std.proofs.lemmas.Option.{none-some, same_Some}
 use Rattle.std.specs.Io.KnownBytes.{Appends, Consumes}
-use Rattle.std.specs.Result.{IfErr, IsErrOf, OnOk}
-use Rattle.command_words.specs.Words.{Asked}
-use Rattle.command_words.specs.Words.{asked_of}
+use Rattle.std.specs.Result.{IfErr, IsErrAnd, IsErrOf, OnOk}
+use Rattle.command_words.specs.Words.{Asked, asked_of}
+use Rattle.command_words.specs.declared.words.WordsFault.{WordsFault}
+use Rattle.command_words.specs.declared.words.WordsFault.TheVariants as words_faults
 use Rattle.delay_model.specs.declared.network.Network.{Network}
 use Rattle.delay_model.specs.declared.state.State.{State}
 use Rattle.delay_report.specs.Table.{table}
@@ -12,20 +13,25 @@ use Rattle.followed_input.specs.Faults.{reads_failed}
 use Rattle.followed_input.specs.FollowedJournals.{IsJournalFollowed, IsRefusedSoFar}
 use Rattle.followed_input.specs.declared.fault.FollowFault.{FollowFault}
 use Rattle.followed_input.specs.declared.fault.FollowFault.TheVariants as follows
+use Rattle.gtfs_tables.specs.declared.refusals.FeedError.{FeedError}
+use Rattle.gtfs_tables.specs.declared.refusals.FeedError.TheVariants as feeds
 use Rattle.gtfs_tables.specs.declared.refusals.FeedRefusal.{FeedRefusal}
 use Rattle.gtfs_tables.specs.Feeds.{Files}
+use Rattle.gtfs_tables.specs.Refusals.{IsErrorOf}
 use Rattle.information_service.proofs.Ends.{none_taken}
 use Rattle.information_service.proofs.Fronts.{front_all, front_if}
 use Rattle.information_service.specs.Causes.{IsNotOfInput, TookAll, TookAtMost, TookFewer, writes_failed}
 use Rattle.information_service.specs.Fronts.{AppendsFront, EndWasRead}
+use Rattle.information_service.specs.ServiceState.{ServiceState}
 use Rattle.information_service.specs.declared.fault.LinesFault.{LinesFault}
 use Rattle.information_service.specs.declared.fault.LinesFault.TheVariants as lines
+use Rattle.journal_lines.specs.declared.heads.Head.{Head}
 use Rattle.journal_lines.specs.Lines.{text_of_head}
 use Rattle.journal_replay.specs.Reading.{JournalProgress}
 use Rattle.journal_replay.specs.Replayed.{refusal_at_end, replay_of}
 use Rattle.journal_replay.specs.declared.refusal.JournalRefusal.{JournalRefusal}
 use Rattle.mt_io.proofs.Gives.{consumes_none}
-use Rattle.mt_io.specs.Causes.{Faults, IsFull}
+use Rattle.mt_io.specs.Causes.{Faults, IsFull, counted}
 use Rattle.schedule_build.specs.Directory.{Names}
 use Rattle.timetable.specs.TimetableState.{TimetableState}
 use Rattle.commands.specs.Beginnings.{IsEarly, StopsEarly, stops}
@@ -36,11 +42,12 @@ use Rattle.commands.specs.OwnLoads.{head_of, journal_line}
 use Rattle.commands.specs.Promises.{IsRefusedWith}
 use Rattle.commands.specs.Runs.{CanBeRefused, IsFeedRefused, IsRefused, Loads, Refusal, SaysWhy, by_feed, by_command, line_of_refusal}
 use Rattle.commands.specs.Seen.{FeedSeen, StreamSeen}
-use Rattle.commands.specs.Statuses.{refusal_line, run_of}
-use Rattle.commands.specs.Tasks.{Task, first_service}
+use Rattle.commands.specs.Feeds.{asked_in}
+use Rattle.commands.specs.Statuses.{IsFeedStop, refusal_line, run_of, words_stop}
+use Rattle.commands.specs.Tasks.{Task, first_service, service_task, times_output}
 use Rattle.commands.specs.declared.status.Stop.{Stop}
 use Rattle.commands.specs.declared.status.Stop.TheVariants.{Usage, Refused, Fault}
-use Rattle.commands.proofs.Endings.{not-error, not-none, same-fault, same-stop, still}
+use Rattle.commands.proofs.Endings.{early-feed, early-memory, early-words, is-err, not-error, not-none, same-error, same-fault, same-stop, still}
 use Rattle.commands.proofs.FollowLoads.{alike-loaded, over-at-end, over-refusal, over-so-far, over-table, read-loaded, table-at}
 use Rattle.commands.proofs.FollowReading.{long-not-refused, long-taken, refused-for, whole-not-refused, whole-taken}
 use Rattle.commands.proofs.Tables.{WasLoaded, not-refused}
@@ -104,6 +111,43 @@ module _ {B F S K : Type 0} {task : Task B} (none : (line : List ℕ) → ¬ (ta
         too_long = λ is. absurd (not_late lines.TooLong (λ h. h) is);
       }
 
+  -- where that is handed on
+  pub follow-early-run : (run : Result (Unit {0}) Stop) (s : Stop) → IsErrAnd run (λ e. e ≡ s) → StopsEarly task words feed (after ≡ before) s
+      → FollowEndsAs budget words feed (still left reads) (still written writes) before after input input out out run
+  follow-early-run run s is early =
+      subst (FollowEndsAs budget words feed (still left reads) (still written writes) before after input input out out) (is-err run s is) (follow-early s early)
+
+-- a task that refuses nothing behind the feed
+abbrev pub any_task : Task ServiceState
+any_task = service_task times_output
+
+no-refusal : (line : List ℕ) → ¬ (any_task.Refuses line)
+no-refusal line is = is
+
+module _ {F S K : Type 0} {budget : ℕ} {words : List (List ℕ)} {feed : FeedSeen} {left written : Option (List ℕ)} {reads writes : Faults} {before after : F} {input : S} {out : K} where
+  abbrev Ends : Result (Unit {0}) Stop → Type 0
+  Ends run = FollowEndsAs budget words feed (still left reads) (still written writes) before after input input out out run
+
+  -- the words are not read, and the feed is as it was
+  pub follow-words-exit : {T : Type 0} (f : WordsFault) (s : Stop) → s ≡ words_stop f → feed.faults_after ≡ feed.faults → after ≡ before
+      → (IsErrOf {T = T} (Err f) words_faults.Usage → asked_of words ≡ None) → Ends (Err s)
+  follow-words-exit f s stop kept same usage =
+      follow-early-run {task = any_task} no-refusal (Err s) (words_stop f) stop (early-words (λ absent. same) f kept (λ is. usage (ap Err is)))
+
+  -- their feed is not loaded
+  pub follow-load-exit : {T : Type 0} {a : Asked} → asked_of words ≡ Some a → (f : FeedError) (s : Stop) → IsFeedStop f s
+      → ((told : Files) → feed.tables ≡ Some told → IsErrorOf f (asked_in told a))
+      → (IsErrOf {T = T} (Err f) feeds.ReadFault → Some feed.faults_after ≡ counted feed.faults) → (¬ (IsErrOf {T = T} (Err f) feeds.ReadFault) → feed.faults_after ≡ feed.faults)
+      → Ends (Err s)
+  follow-load-exit asked f s stop exact failed answered =
+      follow-early-run {task = any_task} no-refusal (Err s) s refl
+      (early-feed asked f s stop exact (λ is. failed (ap Err is)) (λ other. answered (λ is. other (same-error _ _ _ refl is))))
+
+  -- there is no memory for the header
+  pub follow-memory-exit : {a : Asked} (run : Result (Unit {0}) Stop) → asked_of words ≡ Some a → IsErrAnd run (λ e. e ≡ Fault lines.OutOfMemory) → feed.faults_after ≡ feed.faults
+      → Ends run
+  follow-memory-exit {a = a} run asked is answered = follow-early-run {task = any_task} no-refusal run (Fault lines.OutOfMemory) is (early-memory (not-none words a asked) answered)
+
 -- ---- when the journal is read
 
 module _ {F S K : Type 0} {budget : ℕ} {words : List (List ℕ)} {feed : FeedSeen} {a : Asked} {loaded : Network} {st : State} {names : Names}
@@ -114,6 +158,12 @@ module _ {F S K : Type 0} {budget : ℕ} {words : List (List ℕ)} {feed : FeedS
 
   abbrev Taken : Result (TimetableState × Names) FollowFault → List ℕ → Type 0
   Taken result bytes = IsJournalFollowed budget (text_of_head (head_of a)) (first_service loaded names st) input.bytes input.bytes_after bytes result
+
+  -- by the header of this head, which is that of the words
+  pub taken-by : (head : Head) (result : Result (TimetableState × Names) FollowFault) (bytes : List ℕ) → head ≡ head_of a
+      → IsJournalFollowed budget (text_of_head head) (first_service loaded names st) input.bytes input.bytes_after bytes result → Taken result bytes
+  taken-by head result bytes is took =
+      subst (λ (h : Head). IsJournalFollowed budget (text_of_head h) (first_service loaded names st) input.bytes input.bytes_after bytes result) is took
 
   -- nothing of it is refused
   none-refused : (bytes : List ℕ) → Consumes input.bytes input.bytes_after bytes → (so_far bytes).refusal ≡ None → IsNotRefused words feed.tables input

@@ -1,5 +1,5 @@
 -- What a journal is refused for, by the bytes that were taken of it and by all of them.
-use Rattle.std.proofs.Common.{◌≡◌, ◌∙◌, ◌⊎◌, ◌+◌, ◌-◌, ◌<◌, ◌≤◌, ◌++◌, ℕ, suc, List, [], ◌∷◌, length, take, Option, Some, None, refl, sym, ap, subst, inl, inr, arith, append-nil}
+use Rattle.std.proofs.Common.{◌≡◌, ◌∙◌, ◌⊎◌, ◌+◌, ◌-◌, ◌<◌, ◌≤◌, ◌++◌, ℕ, suc, zero, List, [], ◌∷◌, length, take, Option, Some, None, refl, sym, ap, subst, inl, inr, arith, append-nil}
 use Rattle.std.proofs.lemmas.List.{length-append, take_all}
 use Rattle.std.proofs.lemmas.Option.{none-some, same_Some}
 use Rattle.std.specs.Io.KnownBytes.{Consumes}
@@ -17,7 +17,7 @@ use Rattle.commands.specs.FollowTasks.{FollowStart, IsJournalRefused, IsTooLong,
 -- some of the bytes that begin others, and no more than they are
 pub take-within : (n : ℕ) (xs ys : List ℕ) → length xs ≤ n → take n (xs ++ ys) ≡ xs ++ take (n - length xs) ys
 take-within n [] ys few = ap (λ (k : ℕ). take k ys) (let is : n ≡ n - 0 = omega arith in is)
-take-within 0 (x ∷ xs) ys few = absurd (omega (arith, few))
+take-within zero (x ∷ xs) ys few = absurd (omega (arith, few))
 take-within (suc n) (x ∷ xs) ys few =
     ap (λ (l : List ℕ). x ∷ l) (take-within n xs ys (omega (arith, few)) ∙ ap (λ (k : ℕ). xs ++ take k ys) (let is : n - length xs ≡ suc n - length (x ∷ xs) = omega arith in is))
 

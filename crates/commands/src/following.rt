@@ -59,8 +59,9 @@ fn follow_words<R: Wait, F: Feed, S: Source, K: Sink>(
         Ok(loaded) => loaded,
         Err(error) => return Err(feed_stop(alloc, error)),
     };
+    let head = head_of(alloc, &asked)?;
     let leader = Leader {
-        head: head_of(alloc, &asked)?,
+        head,
         timetable: loaded.timetable,
         directory: loaded.directory,
     };
