@@ -1,5 +1,5 @@
 -- What `follow` begins with is what was loaded.
-use Rattle.std.proofs.Common.{◌≡◌, ◌∙◌, ℕ, List, Option, Some, None, refl, sym, ap, subst}
+use Rattle.std.proofs.Common.{◌≡◌, ◌∙◌, ℕ, List, Option, sym, ap, subst}
 use Rattle.command_words.specs.Words.{Asked}
 use Rattle.delay_model.specs.declared.network.Network.{Network}
 use Rattle.delay_model.specs.declared.state.State.{State}
@@ -12,7 +12,7 @@ use Rattle.information_service.specs.ServiceState.{ServiceState}
 use Rattle.journal_lines.specs.Lines.{text_of_head}
 use Rattle.journal_replay.proofs.Networks.{bytes-keep, bytes-over, read_over}
 use Rattle.journal_replay.specs.Reading.{JournalProgress, nothing_read}
-use Rattle.journal_replay.specs.Replayed.{refusal_at_end, refused_by, replay_of}
+use Rattle.journal_replay.specs.Replayed.{refusal_at_end, replay_of}
 use Rattle.journal_replay.specs.declared.refusal.JournalRefusal.{JournalRefusal}
 use Rattle.schedule_build.specs.Directory.{Names}
 use Rattle.timetable.specs.TimetableState.{TimetableState}

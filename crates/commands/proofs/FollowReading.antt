@@ -1,5 +1,5 @@
 -- What a journal is refused for, by the bytes that were taken of it and by all of them.
-use Rattle.std.proofs.Common.{◌≡◌, ◌∙◌, ◌⊎◌, ◌+◌, ◌-◌, ◌<◌, ◌≤◌, ◌++◌, ℕ, suc, zero, List, [], ◌∷◌, length, take, Option, Some, None, refl, sym, ap, subst, inl, inr, arith, append-nil}
+use Rattle.std.proofs.Common.{◌≡◌, ◌∙◌, ◌-◌, ◌<◌, ◌≤◌, ◌++◌, ℕ, suc, zero, List, [], ◌∷◌, length, take, Option, Some, None, sym, ap, subst, inl, inr, arith, append-nil}
 use Rattle.std.proofs.lemmas.List.{length-append, take_all}
 use Rattle.std.proofs.lemmas.Option.{none-some, same_Some}
 use Rattle.std.specs.Io.KnownBytes.{Consumes}
@@ -7,7 +7,7 @@ use Rattle.followed_input.specs.FollowedJournals.{IsRefusedSoFar}
 use Rattle.information_service.proofs.Ends.{all_taken}
 use Rattle.information_service.specs.Fronts.{EndWasRead}
 use Rattle.journal_replay.proofs.ByteLemmas.{read-append, refused-stays}
-use Rattle.journal_replay.specs.Reading.{JournalProgress, after_bytes, nothing_read}
+use Rattle.journal_replay.specs.Reading.{JournalProgress, nothing_read}
 use Rattle.journal_replay.specs.Replayed.{refusal_at_end, refused_by}
 use Rattle.journal_replay.specs.declared.refusal.JournalRefusal.{JournalRefusal}
 use Rattle.commands.specs.FollowTasks.{FollowStart, IsJournalRefused, IsTooLong, IsWhole, read_from}

@@ -1,16 +1,14 @@
 -- The status of a run of `follow`, by how it ended.
-use Rattle.std.proofs.Common.{◌≡◌, ◌∙◌, ◌⊎◌, ◌≤◌, ◌<◌, ◌++◌, ℕ, List, length, Option, Some, None, Result, Ok, Err, refl, sym, ap, subst, inl, inr, arith}
+use Rattle.std.proofs.Common.{◌≡◌, ◌∙◌, ◌⊎◌, ◌++◌, ℕ, List, Some, Result, Ok, Err, refl, sym, ap, subst, inl, inr, arith}
 use Rattle.std.proofs.lemmas.List.{length-append}
 use Rattle.std.proofs.lemmas.Option.{none-some}
-use Rattle.std.specs.Io.KnownBytes.{Appends}
 use Rattle.information_service.proofs.Fronts.{front_if}
-use Rattle.information_service.specs.Causes.{TookFewer}
 use Rattle.information_service.specs.Fronts.{AppendsFront}
 use Rattle.information_service.specs.declared.fault.LinesFault.TheVariants as lines
 use Rattle.journal_replay.specs.declared.refusal.JournalRefusal.{JournalRefusal}
 use Rattle.commands.specs.Failing.{FeedReadFailed, HasRoom, InputReadFailed, Tells, WriteFailed}
 use Rattle.commands.specs.FollowContract.{FollowEndsAs, IsTableFront, KeepsFollowPromises, MeetsFollowContract, NoFollowFails}
-use Rattle.commands.specs.FollowTasks.{BeginsFollowing, CanBeFollowed, FollowStart, IsJournalRefused, IsTooLong, IsWhole, WritesTable, read_from, table_behind}
+use Rattle.commands.specs.FollowTasks.{BeginsFollowing, CanBeFollowed, FollowStart, IsJournalRefused, WritesTable, read_from, table_behind}
 use Rattle.commands.specs.Promises.{status_ends}
 use Rattle.commands.specs.Seen.{FeedSeen, StreamSeen}
 use Rattle.commands.specs.Statuses.{run_line, run_status}
@@ -20,7 +18,7 @@ use Rattle.commands.specs.declared.status.Stop.TheVariants.{Usage, Refused, Faul
 use Rattle.commands.proofs.Failing.{full-by, more-of, never-counted, rose, same-room, told-after}
 use Rattle.commands.proofs.FollowEndings.{holds-not-refused}
 use Rattle.commands.proofs.FollowReading.{long-not-refused, refused-taken, whole-not-refused, whole-taken}
-use Rattle.commands.proofs.Statuses.{ended-well, few-taken, had-usage, is-refused, not-full, read-failed, told-line, wanted-memory, was-long, was-refused, write-failed}
+use Rattle.commands.proofs.Statuses.{ended-well, few-taken, had-usage, is-refused, not-full, read-failed, told-line, was-long, was-refused, write-failed}
 
 module _ {budget : ℕ} {words : List (List ℕ)} {feed : FeedSeen} {input out : StreamSeen} where
   -- where nothing fails, no read did

@@ -15,3 +15,4 @@ pub mod Restarting
 pub mod SameTables
 pub mod Tables
 pub mod Statuses
+pub mod Works

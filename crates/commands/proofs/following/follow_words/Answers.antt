@@ -24,7 +24,7 @@ returns-in-Ok-follow_journal g c =
     let was = was-loaded c.in-Ok.ensures.ok c.in-Ok-load_asked.ensures.exact c.in-Ok-load_asked.ensures.network in
     let loads = c.in-Ok-load_asked.ensures.answered (not-error _ _) in
     let followed = c.in-Ok-follow_journal.ensures.followed in
-    let took = taken-by was loads c.in_ok-head.head _ followed.0 c.in_ok-head.ensures followed.1 in
+    let took = taken-by was c.args.budget _ _ c.in_ok-head.head _ followed.0 c.in_ok-head.ensures followed.1 in
     record {
       run =
           follow-written was loads took c.in-Ok-follow_journal.ensures.reads c.write_table.result c.run_of.result c.run_of.ensures
@@ -36,5 +36,5 @@ returns-in-Err-follow_journal g c =
     let was = was-loaded c.in-Ok.ensures.ok c.in-Ok-load_asked.ensures.exact c.in-Ok-load_asked.ensures.network in
     let loads = c.in-Ok-load_asked.ensures.answered (not-error _ _) in
     let followed = c.in-Err-follow_journal.ensures.followed in
-    let took = taken-by was loads c.in_ok-head.head _ followed.0 c.in_ok-head.ensures followed.1 in
+    let took = taken-by was c.args.budget _ _ c.in_ok-head.head _ followed.0 c.in_ok-head.ensures followed.1 in
     record { run = follow-stopped was loads c.in-Err-follow_journal.fault c.follow_stop.result c.follow_stop.ensures followed.0 took c.in-Err-follow_journal.ensures.reads }
