@@ -50,15 +50,16 @@ class Faults:
         return self.random.choice(self.run.replicas)
 
     def busy_replica(self):
-        """A replica whose `serve` has just begun to read windows that came while it stood still, and that process."""
+        """A replica whose `serve` was given windows while it stood still, and that process, which goes on most times."""
         replica = self.replica()
         wait_until(replica.serve_process, f"{replica.name} starts no serve")
         process = replica.serve_process()
         with suppress(ProcessLookupError):
             os.kill(process, signal.SIGSTOP)
             self.wait()
-            os.kill(process, signal.SIGCONT)
-            time.sleep(self.random.choice((0, self.random.uniform(0, BUSY))))
+            if self.random.randrange(3):
+                os.kill(process, signal.SIGCONT)
+                time.sleep(self.random.choice((0, self.random.uniform(0, BUSY))))
         return replica, process
 
     def kill_serve(self):
