@@ -18,7 +18,8 @@ fast as one writer can, while one replica follows. It prints messages a second a
 processor time of a message in the writer, the log server, the reader and `serve`. Then messages are put
 in 25 and 250 a second for some seconds, and it prints how many milliseconds lie between the moment
 before a message is put in and that at which its reply is in the replica's file: the median, and that
-of one in a hundred.
+of one in a hundred. At last the replica is started anew with its record, and it prints the seconds
+until it answers, and beside them those of its first start, without a message.
 
 It prints the load of the machine before each part, for figures by the clock tell something only where
 no other program runs and there are more cores than processes. It proves nothing and tests nothing;
@@ -46,6 +47,7 @@ from claim_lines import make_queries, query_line  # noqa: E402
 from replica_clients import Away, Client  # noqa: E402
 from replica_log import Log, connected  # noqa: E402
 from replica_processes import LogServer, Replica, Writer, is_installed, wait_until  # noqa: E402
+from replica_record import entries_of  # noqa: E402
 
 QUERIES, MESSAGES = 4_000, 5_000
 NUMBERS = 1, 2, 4
@@ -181,6 +183,8 @@ def measure_messages(bench, server):
     with bench.messages.open("rb") as lines:
         count = sum(1 for _ in lines)
     (replica,) = bench.replicas(server, 1)
+    replica.end()
+    first = started_in(replica)
     writer = Writer(server.address, bench.messages, None)
     bench.processes.append(writer)
     print(f"{count:,} messages; {told_load()}")
@@ -196,6 +200,18 @@ def measure_messages(bench, server):
     print("   ", ", ".join(f"{name} {seconds * 1e6 / count:.0f}" for name, seconds in parts), flush=True)
     for rate in RATES:
         measure_rate(server, replica, rate)
+    replica.end()
+    messages = sum(1 for _ in entries_of(replica.record))
+    told_start = f"a start with {messages:,} messages in the record: {started_in(replica):.2f} seconds"
+    print(f"{told_start}, without a message: {first:.2f}; {told_load()}", flush=True)
+
+
+def started_in(replica):
+    """How many seconds a replica takes until it answers."""
+    begin = time.monotonic()
+    replica.start()
+    wait_until(lambda: is_ready(replica), "a reader does not start")
+    return time.monotonic() - begin
 
 
 def told(replica):
