@@ -32,10 +32,14 @@ def is_installed():
     return shutil.which(SERVER) is not None
 
 
+def bound(words):
+    """The words of a process that is killed when the one that starts it ends."""
+    return [*(("setpriv", "--pdeathsig", "KILL") if shutil.which("setpriv") else ()), *words]
+
+
 def started(words, **files):
     """A process of these words."""
-    guard = ["setpriv", "--pdeathsig", "KILL"] if shutil.which("setpriv") else []
-    return subprocess.Popen([*guard, *words], stdin=subprocess.DEVNULL, start_new_session=True, **files)
+    return subprocess.Popen(bound(words), stdin=subprocess.DEVNULL, start_new_session=True, **files)
 
 
 def free_port():
@@ -131,8 +135,9 @@ class Replica(Process):
     def start(self):
         """Starts it, or its successor."""
         files = ["--record", self.record, "--replies", self.replies, "--clients", self.address]
+        words = [TOOLS / "replica_reader", "--log", self.log, *files, *bound(self.serve)]
         with self.errors.open("ab") as errors:
-            self.child = started([TOOLS / "replica_reader", "--log", self.log, *files, *self.serve], stderr=errors)
+            self.child = started(words, stderr=errors)
 
     def serve_process(self):
         """The number of its `serve` process, or None where none runs."""
