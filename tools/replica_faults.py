@@ -49,9 +49,8 @@ class Faults:
     def replica(self):
         return self.random.choice(self.run.replicas)
 
-    def busy_replica(self):
-        """A replica whose `serve` was given windows while it stood still, and that process, which goes on most times."""
-        replica = self.replica()
+    def busy_process(self, replica):
+        """The process `serve` of a replica, which was given windows while it stood still, and goes on most times."""
         wait_until(replica.serve_process, f"{replica.name} starts no serve")
         process = replica.serve_process()
         with suppress(ProcessLookupError):
@@ -60,24 +59,28 @@ class Faults:
             if self.random.randrange(3):
                 os.kill(process, signal.SIGCONT)
                 time.sleep(self.random.choice((0, self.random.uniform(0, BUSY))))
-        return replica, process
+        return process
 
     def kill_serve(self):
-        """The process `serve` of a replica is killed; the reader starts another."""
-        replica, process = self.busy_replica()
+        """The process `serve` of a replica is killed; the reader starts another, and shows no fewer messages."""
+        replica = self.replica()
+        before = self.run.flushed(replica)
+        process = self.busy_process(replica)
         with suppress(ProcessLookupError):
             os.kill(process, signal.SIGKILL)
         wait_until(lambda: replica.serve_process() not in (None, process), f"{replica.name} starts no other serve")
+        self.run.shows(replica, before)
 
     def kill_replica(self):
         """The reader and `serve` are killed at once, and the ends of their files are lost; then they start again."""
-        replica, _ = self.busy_replica()
+        replica = self.replica()
+        self.busy_process(replica)
         replica.end()
         self.wait()
         for path in (replica.record, replica.replies):
             size = path.stat().st_size
             os.truncate(path, max(0, size - self.random.choice((0, self.random.randrange(TORN)))))
-        replica.start()
+        self.start(replica)
 
     def lose_record(self):
         """A replica is killed and has no record any more, or no file at all; it begins as one that is new."""
@@ -95,13 +98,19 @@ class Faults:
         others = [other for other in self.run.replicas if other is not replica]
         if self.run.is_cut or self.random.choice((True, False)):
             shutil.copyfile(self.random.choice(others).record, replica.record)
+        self.start(replica)
+
+    def start(self, replica):
+        """Starts a replica, which shows at least what the log has now."""
+        with Log(self.run.server.address) as log:
+            accepted = self.run.drawn.accepted(log.last())
         replica.start()
+        self.run.shows(replica, accepted)
 
     def join(self):
         """A new replica is started, clients move to it, and then the oldest one is told to end."""
         new = self.run.new_replica()
         self.begin(new)
-        wait_until(lambda: os.path.exists(new.address), f"{new.name} does not start")
         self.run.replicas.append(new)
         self.wait()
         self.run.leave(self.run.replicas.pop(0))
@@ -114,7 +123,7 @@ class Faults:
         self.run.is_cut = True
         replica = self.replica()
         replica.end()
-        replica.start()
+        self.start(replica)
 
     def least(self):
         """How many messages each replica has at least."""

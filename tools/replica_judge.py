@@ -49,6 +49,10 @@ class Drawn:
             if "accepted" in reply:
                 self.rides.append(self.plain.current_rides())
 
+    def accepted(self, number):
+        """How many of the first so many messages are accepted."""
+        return sum("accepted" in reply for reply in self.replies[:number])
+
     def answer(self, place, after):
         """The plain program's answer to a query after so many accepted messages."""
         if (place, after) not in self.answers:

@@ -6,6 +6,7 @@ import subprocess
 import threading
 import time
 from collections import Counter
+from contextlib import suppress
 from random import Random
 
 from plain_feed import date_text
@@ -18,6 +19,7 @@ CLIENTS, LAST_QUERIES = 8, 40
 PATIENCE, LONG_PATIENCE = 1, 60
 PAUSE = 0.03
 LOOPBACK = "0100007F"
+FLUSH = {"v": 1, "type": "flush"}
 
 
 class Asking(threading.Thread):
@@ -74,7 +76,7 @@ class Run:
         self.is_cut, self.number, self.left, self.statuses = False, 0, [], []
         self.replicas = [self.new_replica() for _ in range(words.replicas)]
         self.clients = [Asking(self, f"client {number}") for number in range(CLIENTS)]
-        self.faults, self.happened = Faults(self), Counter()
+        self.faults, self.happened, self.fewer = Faults(self), Counter(), []
 
     def new_replica(self):
         self.number += 1
@@ -108,19 +110,31 @@ class Run:
     def ask_last(self):
         """Asks each replica some queries when it has all messages; that comes in the end, whatever happened."""
         self.last = []
+        most = len(self.drawn.rides) - 1
         for replica in self.replicas:
             client = Client(LONG_PATIENCE)
-            wait_until(lambda it=client, of=replica: self.has_all(it, of), f"{replica.name} has not all messages")
+            wait_until(lambda of=replica: self.flushed(of) == most, f"{replica.name} has not all messages")
             places = self.random.sample(range(len(self.drawn.queries)), LAST_QUERIES)
             self.last += [(place, client.ask(replica.address, self.drawn.queries[place])) for place in places]
             client.leave()
 
-    def has_all(self, client, replica):
-        """Whether a flush line shows all accepted messages."""
-        try:
-            return f'"flush":{len(self.drawn.rides) - 1},' in client.ask(replica.address, {"v": 1, "type": "flush"})
-        except Away:
-            return False
+    def flushed(self, replica):
+        """How many messages a flush line shows to a client that was shown none; it waits for the reply."""
+        found, client = [], Client(PATIENCE)
+
+        def ask():
+            with suppress(Away):
+                found.append(json.loads(client.ask(replica.address, FLUSH))["flush"])
+            return found
+
+        wait_until(ask, f"{replica.name} does not answer")
+        client.leave()
+        return found[0]
+
+    def shows(self, replica, least):
+        """Notes where a replica shows fewer messages than it must."""
+        number = self.flushed(replica)
+        self.fewer += [f"{replica.name} shows {number} messages, wanted {least}"] if number < least else []
 
     def end(self):
         """Ends all that runs, however the run went."""
@@ -135,6 +149,7 @@ class Run:
         """Each check of the run with what is wrong, or None."""
         yield "replies to queries", self.first(self.query_faults())
         yield "counts of each client", None if self.is_forgetful else self.first(self.count_faults())
+        yield "replicas that started", self.first(self.fewer)
         yield "replies in the last state", self.first(self.last_faults())
         yield "replies to messages", self.first(self.message_faults())
         yield "records and tables", self.first(self.record_faults())
