@@ -3,6 +3,7 @@
 import os
 import shutil
 import signal
+import threading
 import time
 from contextlib import suppress
 
@@ -101,10 +102,15 @@ class Faults:
         self.start(replica)
 
     def start(self, replica):
-        """Starts a replica, which shows at least what the log has now."""
-        with Log(self.run.server.address) as log:
+        """Starts a replica, at times while the log stands still; it shows at least what the log has now."""
+        server = self.run.server
+        with Log(server.address) as log:
             accepted = self.run.drawn.accepted(log.last())
+        if self.random.randrange(2):
+            server.send(signal.SIGSTOP)
         replica.start()
+        wait_until(lambda: os.path.exists(replica.address), f"{replica.name} does not start")
+        threading.Timer(self.random.uniform(0, 0.5), server.send, [signal.SIGCONT]).start()
         self.run.shows(replica, accepted)
 
     def join(self):

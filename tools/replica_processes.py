@@ -134,6 +134,7 @@ class Replica(Process):
 
     def start(self):
         """Starts it, or its successor."""
+        Path(self.address).unlink(missing_ok=True)
         files = ["--record", self.record, "--replies", self.replies, "--clients", self.address]
         words = [TOOLS / "replica_reader", "--log", self.log, *files, *bound(self.serve)]
         with self.errors.open("ab") as errors:

@@ -158,7 +158,11 @@ class Run:
         yield "where the log listens", None if listens == {LOOPBACK} else f"it listens at {self.listens}"
 
     def first(self, faults):
-        return next((fault for fault in faults if fault), None)
+        """The first fault, or None."""
+        try:
+            return next((fault for fault in faults if fault), None)
+        except ValueError as bad:
+            return f"what should be a reply is none: {bad}"
 
     def query_faults(self):
         for client in self.clients:
