@@ -49,7 +49,7 @@ def read_asked(line):
 
 
 class Asker:
-    """The connection of a client: what it has asked, what of this `serve` was given, and what it is still to be sent."""
+    """The connection of a client: what it has asked, what `serve` was given of that, and what is still to be sent."""
 
     def __init__(self, connection):
         connection.setblocking(False)

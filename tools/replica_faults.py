@@ -1,4 +1,4 @@
-"""The faults of tools/replicas, each at a moment that is drawn: what is killed, stopped, lost or cut, and what follows."""
+"""The faults of tools/replicas, each at a moment that is drawn: what is killed, stopped, lost or cut."""
 
 import os
 import shutil
@@ -39,9 +39,12 @@ class Faults:
             found += self.random.sample([*self.kinds], len(self.kinds))
         return found[:number]
 
-    def happen(self, kind):
-        """Lets a fault of a kind happen."""
-        self.kinds[kind]()
+    def happen(self, number):
+        """Lets so many faults happen, one after the other, each some moments after the one before."""
+        for kind in self.draw(number):
+            time.sleep(self.random.uniform(0.1, 0.9))
+            self.run.happened.update([kind])
+            self.kinds[kind]()
 
     def wait(self):
         """Some moments."""

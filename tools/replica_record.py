@@ -1,8 +1,9 @@
 """What a replica keeps of the log: for tools/replica_reader and tools/replicas.
 
 A record is a file with a line for each message that the replica took: its number, a blank and the line. It is what a
-new `serve` is given first. The replies to messages are kept in a file of the same form. `Places` says which of the entries that a log delivers are to be taken: by their numbers
-alone, so one that comes twice is passed over, and one that comes too early is asked for again.
+new `serve` is given first. The replies to messages are kept in a file of the same form. `Places` says which of the
+entries that a log delivers are to be taken: by their numbers alone, so one that comes twice is passed over, and one
+that comes too early is asked for again.
 """
 
 import fcntl

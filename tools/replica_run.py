@@ -1,4 +1,4 @@
-"""A run of replicas over one log, with clients that move between them, and what is wrong with it: for tools/replicas."""
+"""A run of replicas over one log, with clients that go from one to another, and what is wrong: for tools/replicas."""
 
 import json
 import signal
@@ -93,10 +93,7 @@ class Run:
         for process in (self.server, self.writer, *self.replicas, *self.clients):
             process.start()
         self.listens = [*listening_addresses(self.server.child.pid)]
-        for kind in self.faults.draw(number):
-            time.sleep(self.random.uniform(0.1, 0.9))
-            self.happened.update([kind])
-            self.faults.happen(kind)
+        self.faults.happen(number)
         wait_until(lambda: not self.writer.is_running(), "the writer does not come to its end")
         self.statuses.append(self.writer.child.returncode)
         self.ask_last()
