@@ -83,7 +83,7 @@ class Faults:
         self.wait()
         for path in (replica.record, replica.replies):
             size = path.stat().st_size
-            os.truncate(path, max(0, size - self.random.choice((0, self.random.randrange(TORN)))))
+            os.truncate(path, max(0, size - self.random.randint(1, TORN)))
         self.start(replica)
 
     def lose_record(self):
@@ -105,12 +105,11 @@ class Faults:
         self.start(replica)
 
     def start(self, replica):
-        """Starts a replica, at times while the log stands still; it shows at least what the log has now."""
+        """Starts a replica while the log stands still; what it shows first is at least what the log has now."""
         server = self.run.server
         with Log(server.address) as log:
             accepted = self.run.drawn.accepted(log.last())
-        if self.random.randrange(2):
-            server.send(signal.SIGSTOP)
+        server.send(signal.SIGSTOP)
         replica.start()
         wait_until(lambda: os.path.exists(replica.address), f"{replica.name} does not start")
         threading.Timer(self.random.uniform(0, 0.5), server.send, [signal.SIGCONT]).start()

@@ -12,10 +12,11 @@ from random import Random
 from plain_feed import date_text
 from replica_clients import Away, Client
 from replica_faults import Faults
+from replica_log import Log
 from replica_processes import LogServer, Replica, Writer, listening_addresses, wait_until
 from replica_record import entries_of
 
-CLIENTS, LAST_QUERIES = 8, 40
+CLIENTS, FIRST, LAST_QUERIES = 8, 10, 40
 PATIENCE, LONG_PATIENCE = 1, 60
 PAUSE = 0.03
 LOOPBACK = "0100007F"
@@ -90,9 +91,7 @@ class Run:
 
     def run(self, number):
         """Starts all, lets so many faults happen, and waits until all messages are everywhere; then ends all."""
-        for process in (self.server, self.writer, *self.replicas, *self.clients):
-            process.start()
-        self.listens = [*listening_addresses(self.server.child.pid)]
+        self.start()
         self.faults.happen(number)
         wait_until(lambda: not self.writer.is_running(), "the writer does not come to its end")
         self.statuses.append(self.writer.child.returncode)
@@ -103,6 +102,18 @@ class Run:
         for replica in self.replicas:
             self.leave(replica)
         self.statuses.append(self.server.end(signal.SIGTERM))
+
+    def start(self):
+        """Starts all: the replicas when there are some messages, and then the clients."""
+        self.server.start()
+        self.listens = [*listening_addresses(self.server.child.pid)]
+        self.writer.start()
+        with Log(self.server.address) as log:
+            wait_until(lambda: log.last() >= FIRST, "no messages are put in")
+        for replica in self.replicas:
+            self.faults.start(replica)
+        for client in self.clients:
+            client.start()
 
     def ask_last(self):
         """Asks each replica some queries when it has all messages; that comes in the end, whatever happened."""
