@@ -24,18 +24,23 @@ class Client:
 
     def ask(self, address, query):
         """The reply of the replica at an address to a query, a line as an object; it raises Away."""
+        return self.ask_all(address, [query])[0]
+
+    def ask_all(self, address, queries):
+        """The replies to some queries, which are asked at once; it raises Away where one of them does not come."""
         try:
             if address != self.address:
                 self.leave()
                 self.socket, self.address = connected(address, self.seconds), address
-            self.socket.sendall(json.dumps(query | {"seen": self.shown}).encode() + b"\n")
-            reply = self.line()
+            lines = (json.dumps(query | {"seen": self.shown}).encode() + b"\n" for query in queries)
+            self.socket.sendall(b"".join(lines))
+            replies = [self.line() for _ in queries]
         except OSError as fault:
             self.leave()
             raise Away(f"{address}: {fault}") from None
         self.last = address
-        self.shown = max(self.shown, json.loads(reply).get("after", 0))
-        return reply
+        self.shown = max(self.shown, *(json.loads(reply).get("after", 0) for reply in replies))
+        return replies
 
     def line(self):
         """The next line that the replica sends."""

@@ -140,9 +140,15 @@ class Faults:
 
     def end_log(self):
         """The log server ends, by a word or by a signal that it cannot refuse, and comes back with what it stored."""
-        self.run.server.end(self.random.choice((signal.SIGTERM, signal.SIGKILL)))
+        server = self.run.server
+        with Log(server.address) as log:
+            before = log.last()
+        server.end(self.random.choice((signal.SIGTERM, signal.SIGKILL)))
         self.wait()
-        self.run.server.start()
+        server.start()
+        with Log(server.address) as log:
+            last = log.last()
+        self.run.fewer += [f"the log has {last} messages, and had {before}"] if last < before else []
 
     def stop_log(self):
         self.stand_still(self.run.server)

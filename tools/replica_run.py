@@ -116,14 +116,14 @@ class Run:
             client.start()
 
     def ask_last(self):
-        """Asks each replica some queries when it has all messages; that comes in the end, whatever happened."""
+        """Asks each replica some queries at once when it has all messages; that comes in the end, whatever happened."""
         self.last = []
         most = len(self.drawn.rides) - 1
         for replica in self.replicas:
             client = Client(LONG_PATIENCE)
             wait_until(lambda of=replica: self.flushed(of) == most, f"{replica.name} has not all messages")
             places = self.random.sample(range(len(self.drawn.queries)), LAST_QUERIES)
-            self.last += [(place, client.ask(replica.address, self.drawn.queries[place])) for place in places]
+            self.last += zip(places, client.ask_all(replica.address, [self.drawn.queries[place] for place in places]))
             client.leave()
 
     def flushed(self, replica):
