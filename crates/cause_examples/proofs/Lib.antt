@@ -1,0 +1,2 @@
+pub mod ComputeChains
+pub mod ComputeBoards

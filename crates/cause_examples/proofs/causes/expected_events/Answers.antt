@@ -1,0 +1,10 @@
+use Rattle.model_examples.proofs.Words.{refl, is_same, is_same_node, is_before, change, wait, events, transfer, effect, time, time_within, local, incoming, cap}
+use Rattle.model_examples.proofs.Compute.{no_overrides}
+use Rattle.cause_examples.proofs.ComputeChains.{why-is}
+use Rattle.cause_laws.specs.Causes.{due, capper, cause_over}
+use Rattle.cause_laws.specs.Chains.{chain_over}
+use Rattle.cause_examples.proofs.causes.expected_events.Goals as goal
+
+pub returns : goal.returns
+unfolding time time_within local incoming cap transfer change wait events effect is_same is_same_node is_before due capper cause_over chain_over
+returns c = record { at_the_schedule = why-is _ _ no_overrides _ _ refl; late = why-is _ _ no_overrides _ _ refl; arrival = why-is _ _ no_overrides _ _ refl; early = why-is _ _ no_overrides _ _ refl }
