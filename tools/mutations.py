@@ -71,8 +71,8 @@ RENAMED = (
 )  # fmt: skip
 HYPHENS = ("-", "-", "--", "--", "-5", "--days", "--days=2", "--workers", "--rides", "--=", "---", "--slack=-5", "")
 VALUES = (
-    None, True, False, 0, 1, 2, 3, -1, 1.0, 1.5, 4294967295, 4294967296, 2**53, 2**64 - 1, 2**64, 10**40, "", "0",
-    "1", "arr", "dep", "A", "B", "B1", "T1", "T2", "R1", "X1", "none", [], {}, [1], ["A"], {"a": 1}, "8:05:00",
+    None, True, False, 0, 1, 2, 3, 100, 101, -1, 1.0, 1.5, 4294967295, 4294967296, 2**53, 2**64 - 1, 2**64, 10**40,
+    "", "0", "1", "arr", "dep", "A", "B", "B1", "T1", "T2", "R1", "X1", "none", [], {}, [1], ["A"], {"a": 1}, "8:05:00",
     "24:00:00", "99:59:59", "100:00:00", "08:60:00", "8:5:00", "08:00:00 ", "00:00:00", "0008:00:00", "00008:00:00",
     "9320:40:31", "9320:40:32", "9999:59:59", "20260105", "20260106", "20260107", "20260230", "00000229", "99991231",
     "2026010", "\0", "\u00e4", "\u2028", "\U0001f682", "\ufeff",
@@ -87,7 +87,7 @@ TEXTS = (
 )  # fmt: skip
 MEMBERS = (
     "v", "type", "trip", "date", "call", "event", "time", "from", "to", "via", "route", "calls", "feeder", "train",
-    "client", "stop", "arr", "dep", "arrives", "rides", "reached", "board", "alight", "V", "more",
+    "client", "stop", "arr", "dep", "arrives", "rides", "reached", "board", "alight", "rows", "V", "more",
 )  # fmt: skip
 ENDS = (
     b"", b"\n", b"\n", b"\n\n", b"\r\n", b" \t\r\n", b"\0\n", b"\n \n", b"}\n", b"{}\n", b"\n[]\n", b"\nnull\n",
@@ -98,7 +98,7 @@ NO_MESSAGES = (
     b'{"client":"c1","date":"20260105","from":"A","time":"08:00:00","to":"D","type":"query","v":2}',
 )  # fmt: skip
 MESSAGES = "forecast", "report", "correct", "withdraw", "cancel", "reroute", "extra", "keep", "drop", "rule"
-TYPES = (*MESSAGES, "query", "claim", "flush", "Flush", "")
+TYPES = (*MESSAGES, "query", "claim", "departures", "why", "flush", "Flush", "")
 LONG = 65_536
 TIME = re.compile("[0-9]+:[0-9]+:[0-9]+")
 

@@ -190,16 +190,17 @@ class Messages:
         self.pairs = [self.pair() for _ in range(5)]
         self.drawn, self.claims = [], []
 
-    def lines(self, number, with_claims=False, with_more_queries=False):
-        """Each line is drawn when the plain program has answered the lines before it."""
+    def lines(self, number, command=None):
+        """Each line is drawn when the plain program has answered the lines before it; some are for a command alone."""
         draws = [self.value] * 12 + [self.choice] * 9 + [lambda: {"type": "flush"}]
         for feature, kinds in (
             ("reroutes", [self.reroute] * 5), ("cancellations", [self.cancel] * 2), ("extras", [self.extra] * 2),
             ("queries", [self.query] * 8), ("corrections", [self.correct] * 4 + [self.withdraw] * 2),
         ):  # fmt: skip
             draws += kinds if feature in SERVED else []
-        draws += [self.claim] * 16 if with_claims else []
-        draws += [self.query] * 8 + [self.far_query] * 16 if with_more_queries else []
+        draws += [self.claim] * 16 if command == "check" else []
+        draws += [self.query] * 8 + [self.far_query] * 16 if command == "plans" else []
+        draws += [self.departures] * 12 + [self.why] * 24 + [self.tie] * 8 if command == "desk" else []
         draws += [self.far_query] * 4 + [self.value_in_time] * 8 + [self.within] * 4 if self.watching else []
         draws += [self.correct] * 4 + [self.withdraw] * 4 if self.watching and "corrections" in SERVED else []
         for _ in range(number):
@@ -384,6 +385,47 @@ class Messages:
         for _ in range(self.pick((0, 0, 0, 1, 1, 2))):
             claim = changed(self.random, claim, self.plain)
         return claim
+
+    def tie(self):
+        """A forecast by which a feeder asks for just the time that a departure has, or a keep of one that does."""
+        times, changes = self.plain.times, self.plain.feed.changes
+        several = [v for v in self.plain.live_events() if v.kind == "dep" and len(self.plain.planned[v]) > 1]
+        arrivals = [u for u in self.plain.live_events() if u.kind == "arr"]
+        if not several:
+            return self.choice()
+        v = self.pick(several)
+        near = [u for u in arrivals if u.train is not v.train and changes[u.stop, v.stop] is not None]
+        asking = [u for u in near if times[u] + changes[u.stop, v.stop] == times[v]]
+        if asking and self.pick(range(3)) == 0:
+            feeder, train = (end.train.name() | {"call": end.label} for end in (self.pick(asking), v))
+            return {"type": "keep", "feeder": feeder, "train": train}
+        u = self.pick(self.pick(([*self.plain.planned[v]], near)))
+        time = max(u.train.base, times[v] - changes[u.stop, v.stop])
+        return self.named(u.name() | {"type": "forecast", "time": u.day_time(time)})
+
+    def departures(self):
+        """The board of any place, most times of that of an event, at about its time."""
+        event = self.event()
+        places = [*self.maker.hubs, *self.maker.stops, *(place for place, *_ in TRAINLESS)]
+        stop = self.pick((*[event.stop] * 3, self.pick(places)))
+        date = self.pick(self.plain.feed.dates)
+        time = self.plain.times.get(event, event.scheduled) + self.pick((0, 0, 1, -1, -60, -900, -3600))
+        time = max(0, time - self.plain.feed.bases[date])
+        rows = self.pick((*[1, 2, 3, 5, 20, 100] * 8, 0, 101))
+        members = {"client": self.pick("abc"), "stop": stop, "date": date, "time": time_text(time), "rows": rows}
+        message = {"type": "departures"} | members
+        other = self.pick((*BAD, *[{}] * 150))
+        return message | other if other.keys() <= message.keys() else message
+
+    def why(self):
+        """The chain of an event, most times of one that is late; most of these are of trains of the pairs."""
+        event = self.event()
+        late = [v for v in self.plain.live_events() if self.plain.times[v] > v.scheduled]
+        held = [v for v in late if v.kind == "dep" and (self.plain.planned[v] or self.plain.overrides[v])]
+        near = [v for v in late if any(v.train is end.train for pair in self.pairs for end in pair)]
+        capped = [v for v in self.plain.live_events() if self.plain.times[v] < v.scheduled]
+        event = self.pick(self.pick((late, held, held, near, near, capped)) or [event])
+        return self.named(event.name() | {"type": "why"})
 
     def ride(self):
         """A departure and a later arrival of a train of the pairs, across a cancelled part where there is one."""

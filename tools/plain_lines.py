@@ -1,7 +1,8 @@
 """The lines of the input as docs/FORMATS.md has them: what a line says, or the word for a bad one.
 
 The places, the date and the time of a query are looked at by tools/plain_program.py,
-which knows the stops and the loaded days, and all that a claim names by tools/plain_certificates.py.
+which knows the stops and the loaded days, and so are those of a board; all that a claim
+names is by tools/plain_certificates.py.
 """
 
 import re
@@ -125,6 +126,10 @@ def label(value):
     return type(value) is int and value < 2**32
 
 
+def row_count(value):
+    return type(value) is int and 1 <= value <= 100
+
+
 def kind(value):
     return value in ("arr", "dep")
 
@@ -163,6 +168,12 @@ CLAIM = TYPES["query"] | {
     "rides": [{"trip": text, "date": text, "board": label, "alight": label}],
     "reached": [{"stop": text, "time": text}],
 }
+# The types that `desk` alone knows.
+DESK = {
+    "departures": {"client": text, "stop": text, "date": text, "time": text, "rows": row_count},
+    "why": EVENT,
+}
+OWN_TYPES = {"check": {"claim": CLAIM}, "desk": DESK}
 # The types that no line of version 1 has.
 OF_VERSION_2 = ("correct", "withdraw")
 
@@ -193,10 +204,10 @@ def check_times(message):
         raise Bad("time")
 
 
-def read_line(line, is_checked=False, long=LONG):
+def read_line(line, command=None, long=LONG):
     """What the bytes of a line say: its type and the members that the type needs; or it raises Bad.
 
-    A line that is checked may be a claim. One of so many bytes is long.
+    Some commands know types of their own. A line of so many bytes is long.
     """
     if len(line) >= long:
         raise Bad("long")
@@ -206,13 +217,13 @@ def read_line(line, is_checked=False, long=LONG):
         raise Bad("utf8") from None
     value = Json(words).whole()
     head = shaped(value, {"v": version, "type": text})
-    types = TYPES | ({"claim": CLAIM} if is_checked else {})
+    types = TYPES | OWN_TYPES.get(command, {})
     if head["type"] not in types or (head["v"] == 1 and head["type"] in OF_VERSION_2):
         raise Bad("shape")
     message = {"type": head["type"]} | shaped(value, types[head["type"]])
     if len(message.get("calls", "..")) < 2:
         raise Bad("shape")
-    if head["type"] not in ("query", "claim", "flush"):
+    if head["type"] not in ("query", "claim", "departures", "flush"):
         check_times(message)
     return message
 

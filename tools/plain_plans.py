@@ -9,6 +9,7 @@ each number all rides of the state are tried.
 import math
 
 from plain_certificates import Checked
+from plain_desk import Desk
 from plain_feed import seconds_of, time_text
 from plain_journeys import Question, shown
 from plain_lines import Bad
@@ -108,5 +109,5 @@ class Planned:
 
 def answering(command, plain):
     """What answers the lines of a command over a plain program."""
-    answers = {"check": Checked, "plans": Planned, "watch": Watching}.get(command)
+    answers = {"check": Checked, "plans": Planned, "watch": Watching, "desk": Desk}.get(command)
     return answers(plain) if answers else plain

@@ -17,7 +17,7 @@ RANGES = {
     "workers": (1, 16),
     "rides": (1, 8),
 }
-COMMANDS = "times", "serve", "check", "plans", "watch", "journal", "restart", "follow", "gen"
+COMMANDS = "times", "serve", "check", "plans", "watch", "journal", "restart", "follow", "desk", "gen"
 # The options whose values are no numbers.
 TEXTS = ("from", "zone")
 USAGE = "usage: traind COMMAND FEED --from DATE or traind gen N"
