@@ -1,6 +1,6 @@
 //! A journal that an input holds.
 
-ghost use Rattle.std.specs.Prelude.{◌≡◌, ◌<◌, ◌^◌, Some};
+ghost use Rattle.std.specs.Prelude.{◌≡◌, ◌≤◌, ◌^◌, Some};
 ghost use Rattle.mt_base.specs.Civil.{IsCivil};
 ghost use Rattle.schedule_build.specs.InStep.{AreInStep};
 
