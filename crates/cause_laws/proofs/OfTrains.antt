@@ -135,7 +135,7 @@ of-train nw st v (Stop k) (none, (e, by, kind, arr)) =
 of-train nw st v (Hold k) (none, (e, by, kind, rest)) = between nw st v k e by kind
 of-train nw st v (Kept k) (none, (e, by, kind, rest)) = between nw st v k e by kind
 
-contains-flat : {X Y : Type 0} (f : X → List Y) (xs : List X) (x : X) (y : Y) → Contains xs x → Contains (f x) y → Contains (flat_map f xs) y
+pub contains-flat : {X Y : Type 0} (f : X → List Y) (xs : List X) (x : X) (y : Y) → Contains xs x → Contains (f x) y → Contains (flat_map f xs) y
 contains-flat f [] x y h k = let l = h.1 in absurd (omega arith)
 contains-flat f (z ∷ zs) x y h k =
     elim (Contains-cases z zs x h) [
@@ -149,7 +149,7 @@ record IsChosen (nw : Network) (choice : Option Override) (u v : Event) (e : Edg
   target : e.to ≡ v.key
   chosen : Contains (transfer nw None u v) e ⊎ (choice ≡ Some Keep)
 
-transfer-ends : (nw : Network) (choice : Option Override) (u v : Event) → All (λ e. (e.from ≡ u.key) × (e.to ≡ v.key)) (transfer nw choice u v)
+pub transfer-ends : (nw : Network) (choice : Option Override) (u v : Event) → All (λ e. (e.from ≡ u.key) × (e.to ≡ v.key)) (transfer nw choice u v)
 unfolding transfer
 transfer-ends nw choice u v = grind (arith, All-cons (λ (e : Edge). (e.from ≡ u.key) × (e.to ≡ v.key)), All-nil (λ (e : Edge). (e.from ≡ u.key) × (e.to ≡ v.key)))
 

@@ -11,7 +11,7 @@ use Rattle.delay_model.specs.declared.state.Edge.{Edge}
 use Rattle.delay_model.specs.declared.state.EdgeKind.{EdgeKind}
 use Rattle.delay_model.specs.declared.state.EdgeKind.TheVariants.{Train, Planned, Kept as KeptEdge}
 use Rattle.delay_model.specs.Events.{events, live_report}
-use Rattle.delay_model.specs.Edges.{edges, transfer_edges}
+use Rattle.delay_model.specs.Edges.{edges, transfer, transfer_edges}
 use Rattle.delay_model.specs.Timing.{incoming, after_key, floor_of, counts, later, event_time}
 use Rattle.cause_laws.specs.declared.causes.Cause.{Cause}
 use Rattle.cause_laws.specs.declared.causes.Cause.TheVariants.{Report, Capped, Schedule, Forecast, Run, Stop, Hold, Kept}
@@ -96,6 +96,10 @@ edges_by_rule nw st = transfer_edges nw (λ _ _. None) (events st)
 abbrev pub holds_by_rule : List Edge → ℕ → Edge → Bool
 holds_by_rule rule time e = list_any (λ g. is_same g.from e.from
     && (is_same g.to e.to && counts g.kind g.to.time time)) rule
+
+-- by the waiting rules alone the departure v would wait for the arrival u until this time
+abbrev pub waits_by_rule : Network → Event → Event → ℕ → Bool
+waits_by_rule nw u v time = list_any (λ g. counts g.kind g.to.time time) (transfer nw None u v)
 
 -- an edge as a cause
 abbrev pub edge_cause : Edge → Bool → Cause

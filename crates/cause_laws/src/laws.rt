@@ -7,6 +7,7 @@ ghost use Rattle.mt_base.specs.declared.keys.Key.{Key as AKey};
 ghost use Rattle.mt_base.specs.declared.keys.Node.{Node as ANode};
 ghost use Rattle.mt_base.specs.Order.{node_of};
 ghost use Rattle.delay_model.specs.declared.state.Event.{Event as AnEvent};
+ghost use Rattle.delay_model.specs.declared.state.Edge.{Edge as AnEdge};
 ghost use Rattle.delay_model.specs.declared.overrides.Override.TheVariants.{Keep};
 ghost use Rattle.delay_model.specs.Overrides.{connection};
 ghost use Rattle.delay_model.specs.Events.{events};
@@ -16,11 +17,20 @@ ghost use Rattle.delay_model.specs.Valid.{IsValid};
 ghost use Rattle.cause_laws.specs.declared.causes.Cause.{Cause as ACause};
 ghost use Rattle.cause_laws.specs.declared.causes.Cause.TheVariants.{Capped, Kept};
 ghost use Rattle.cause_laws.specs.declared.causes.Link.{Link as ALink};
-ghost use Rattle.cause_laws.specs.Causes.{cause, IsExplained, IsOfItsTrain};
+ghost use Rattle.cause_laws.specs.Causes.{cause, edges_by_rule, holds_by_rule, waits_by_rule, IsExplained, IsOfItsTrain};
 ghost use Rattle.cause_laws.specs.Chains.{chain, why, IsChain, EndsPlainly, AreLinked, IsNotCapped, StandsIn, IsCappedIn};
 
 use delay_model::network::Network;
 use delay_model::state::State;
+
+/// Whether the waiting rules alone would hold an edge from an event to another is told by the two
+/// events alone.
+pub fn rules_are_asked_of_two_events(nw: &Network, st: &State)
+    requires { IsValid nw.now st.now }
+    ensures { (u v : AnEvent) (e : AnEdge) (time : ℕ) → Contains (events st.now) u
+        → Contains (events st.now) v → e.from ≡ u.key → e.to ≡ v.key
+        → holds_by_rule (edges_by_rule nw.now st.now) time e ≡ waits_by_rule nw.now u v time }
+{}
 
 /// Each live event has a cause, and the cause says how it comes to its time. What says so is the
 /// cause and no other.
