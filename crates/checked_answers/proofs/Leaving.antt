@@ -10,10 +10,10 @@ use Rattle.delay_model.specs.declared.messages.Refusal.{Refusal}
 use Rattle.information_service.specs.ServiceState.{ServiceState, after_answer, after_line, after_message, after_said}
 use Rattle.message_reader.proofs.ClaimLemmas.{line-bad, lines-same}
 use Rattle.message_reader.specs.Chain.{◌>>=◌, need, unless}
-use Rattle.message_reader.specs.CheckLines.{as_check_line, check_line_of, check_said, claim_said, is_claim, is_claim_in, value_of}
+use Rattle.message_reader.specs.CheckLines.{as_check_line, check_line_of, check_said, claim_said, is_claim, is_claim_in}
 use Rattle.message_reader.specs.Claims.{claim_of}
 use Rattle.message_reader.specs.Fields.{number_at}
-use Rattle.message_reader.specs.Lines.{line_of}
+use Rattle.message_reader.specs.Lines.{line_of, value_of}
 use Rattle.message_reader.specs.Resolved.{resolved}
 use Rattle.message_reader.specs.declared.bad_line.BadLine.TheVariants.{Shape}
 use Rattle.message_reader.specs.declared.bad_line.BadLine.{BadLine}

@@ -20,7 +20,7 @@ use std::alloc::Global;
 use std::str;
 
 /// The word for a departure or an arrival.
-pub(crate) fn event_word(dep: bool) -> &'static str
+pub fn event_word(dep: bool) -> &'static str
     ensures { result.now ≡ event_word dep }
 {
     if dep { "dep" } else { "arr" }
@@ -64,14 +64,14 @@ pub(crate) fn seconds_after(dir: &Directory, day: Day, time: Time) -> u32
 }
 
 /// The seconds from the base of a train's service day to a time.
-pub(crate) fn seconds_on_day(dir: &Directory, train: TrainNo, time: Time) -> u32
+pub fn seconds_on_day(dir: &Directory, train: TrainNo, time: Time) -> u32
     ensures { result ≡ seconds_on_day dir.now train time }
 {
     seconds_after(dir, dir.train_day(train), time)
 }
 
-/// The date of a service day, in eight digits.
-pub(crate) fn date_value(alloc: Global, dir: &Directory, day: Day) -> Result<Value, OutOfMemory>
+/// The date of a service day, in eight digits. `OutOfMemory` where there is no memory.
+pub fn date_value(alloc: Global, dir: &Directory, day: Day) -> Result<Value, OutOfMemory>
     ensures { IfOk result (λ v. view v ≡ string (date_text (date_of_day dir.now day))) }
 {
     let digits = date_text(dir.date(day));
@@ -79,8 +79,9 @@ pub(crate) fn date_value(alloc: Global, dir: &Directory, day: Day) -> Result<Val
     json!(in alloc; text)
 }
 
-/// The time of day so many seconds after the base of a service day.
-pub(crate) fn clock_value(alloc: Global, seconds: u32) -> Result<Value, OutOfMemory>
+/// The time of day so many seconds after the base of a service day. `OutOfMemory` where there is no
+/// memory.
+pub fn clock_value(alloc: Global, seconds: u32) -> Result<Value, OutOfMemory>
     ensures { IfOk result (λ v. view v ≡ string (clock seconds)) }
 {
     let mut digits = Vec::new(alloc);

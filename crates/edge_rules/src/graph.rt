@@ -273,6 +273,28 @@ impl Graph {
         edge_between(&self.opts, from, to)
     }
 
+    /// The edge from one event to another that the waiting rules plan where no dispatcher chose
+    /// anything for the connection.
+    #[tactic(auto, unfolding(delay_model::specs::Edges::transfer))]
+    pub fn edge_by_rule(&self, from: &Event, to: &Event) -> Option<Edge>
+        ensures { option_to_list result ≡ transfer self.now.network None from.now to.now }
+    {
+        if !may_connect(from, to) {
+            return None;
+        }
+        let weight = self.changes.change(from.stop, to.stop)?;
+        let wait = self.waits.wait(from.route, to.route, to.stop);
+        if !is_planned(&self.opts, weight, wait, from, to) {
+            return None;
+        }
+        Some(Edge {
+            from: from.key,
+            to: to.key,
+            weight,
+            kind: EdgeKind::Planned { wait },
+        })
+    }
+
     /// A live event by its name.
     #[inline(always)]
     fn live_event(&self, n: &Node) -> Event

@@ -17,3 +17,4 @@ mod wanted;
 
 pub use edges::Edges;
 pub use graph::Graph;
+pub use rule::{counts, floor};

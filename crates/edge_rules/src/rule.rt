@@ -15,7 +15,7 @@ use train_nodes::{NodeTimes, Steps, Trains};
 
 /// The earliest time of an event by schedule and forecast, in seconds from the base of day 0.
 #[inline(always)]
-pub(crate) fn floor(event: &Event) -> u32
+pub fn floor(event: &Event) -> u32
     ensures value { result ≡ floor_of event.now }
     ensures small { result < 2 ^ 25 }
 {
@@ -27,10 +27,10 @@ pub(crate) fn floor(event: &Event) -> u32
     }
 }
 
-/// Whether an edge counts that asks for this time: along a train, or kept, always; else not past
-/// the schedule and the wait.
+/// Whether an edge counts that asks for this time, in seconds from the base of day 0: along a train,
+/// or kept, always; else not past the schedule and the wait.
 #[inline(always)]
-fn counts(edge: &Edge, asked: u32) -> bool
+pub fn counts(edge: &Edge, asked: u32) -> bool
     ensures { result ≡ counts edge.now.kind edge.now.to.time asked }
 {
     match edge.kind {

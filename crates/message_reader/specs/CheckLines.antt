@@ -12,7 +12,7 @@ use Rattle.message_reader.specs.declared.wire.Line.{Line}
 use Rattle.message_reader.specs.Chain.{◌>>=◌, need, unless}
 use Rattle.message_reader.specs.Claims.{claim_of}
 use Rattle.message_reader.specs.Fields.{text_at, number_at}
-use Rattle.message_reader.specs.Lines.{utf8_of, json_of, said_by_value}
+use Rattle.message_reader.specs.Lines.{value_of, said_by_value}
 use Rattle.message_reader.specs.Wires.{IsLine}
 
 -- whether the type of an object is `claim`
@@ -38,12 +38,6 @@ line_said d = as_check_line (said_by_value d)
 -- what the value of a line says
 unfoldable pub check_said : Names → Data → Result CheckLine BadLine
 check_said names d = if is_claim d then claim_said names d else line_said d
-
--- the value of a line
-unfoldable pub value_of : List ℕ → Result Data BadLine
-value_of bytes = do
-  text ← utf8_of bytes
-  json_of text
 
 -- what the line says, or the first fault that holds
 unfoldable pub check_line_of : Names → List ℕ → Result CheckLine BadLine

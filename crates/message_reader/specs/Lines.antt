@@ -40,6 +40,12 @@ utf8_of bytes = if is_utf8 bytes then Ok bytes else Err Utf8
 abbrev pub json_of : List ℕ → Result Data BadLine
 json_of text = need Json (read text)
 
+-- the value of a line
+unfoldable pub value_of : List ℕ → Result Data BadLine
+value_of bytes = do
+  text ← utf8_of bytes
+  json_of text
+
 -- the object has `v`, the whole number 1 or 2, and `type`, the name of a type of line that this
 -- version has
 unfoldable pub head_of : Data → Result Kind BadLine

@@ -2,14 +2,14 @@
 
 ghost use Rattle.std.specs.Prelude.{◌≡◌, ◌<◌, ◌^◌, IfOk, length};
 ghost use Rattle.serde_json.specs.View.{view};
-ghost use Rattle.message_reader.specs.CheckLines.{is_claim, claim_said, line_said, check_said, value_of, check_line_of, IsCheckLine};
-ghost use Rattle.message_reader.specs.Errors.{Gives, GivesAs, bad_in};
+ghost use Rattle.message_reader.specs.CheckLines.{is_claim, claim_said, line_said, check_said, check_line_of, IsCheckLine};
+ghost use Rattle.message_reader.specs.Errors.{Gives, bad_in};
 ghost use Rattle.message_reader.specs.Messages.{HasFewItems};
 
 use crate::bad_line::{BadLine, LineError};
 use crate::claims::{Claim, read_claim};
 use crate::fields::{number_at, text_at};
-use crate::lines::{json, said, utf8};
+use crate::lines::{read_value, said};
 use crate::wire::Line;
 use schedule_build::Directory;
 use serde_json::Value;
@@ -73,17 +73,6 @@ fn check_said(alloc: Global, value: &Value, dir: &Directory) -> Result<CheckLine
     }
 }
 
-/// The value of a line.
-#[tactic(auto, unfolding(crate::specs::CheckLines::value_of))]
-fn value_in(alloc: Global, bytes: &[u8]) -> Result<Value, LineError>
-    requires few { length bytes.now < 2 ^ 31 }
-    ensures exact { GivesAs bad_in view result (value_of bytes.now) }
-    ensures few { IfOk result (λ value. HasFewItems (view value)) }
-{
-    let text = utf8(bytes)?;
-    json(alloc, text)
-}
-
 /// What a line says to who checks claims, or the first fault that holds: that of `read_line`, or of
 /// a claim `Shape`, and otherwise `Stop` or `Time`. `OutOfMemory` may come at any line.
 #[tactic(auto, unfolding(crate::specs::CheckLines::check_line_of))]
@@ -92,6 +81,6 @@ pub fn read_check_line(alloc: Global, bytes: &[u8], dir: &Directory) -> Result<C
     ensures exact { Gives bad_in result (check_line_of dir.now bytes.now) }
     ensures kept { IfOk result IsCheckLine }
 {
-    let value = value_in(alloc, bytes)?;
+    let value = read_value(alloc, bytes)?;
     check_said(alloc, &value, dir)
 }

@@ -26,15 +26,18 @@ mod wire;
 
 pub use bad_line::{BadLine, LineError};
 pub use check_lines::{CheckLine, read_check_line};
+pub use fields::{departure, label_at, number_at, text_at};
 pub use claims::{Claim, ClaimRide};
 pub use laws::{
     claim_times_are_read_back, claims_are_no_other_lines, claims_are_read_back,
     dates_are_read_back, lines_are_the_same_to_check, messages_are_read_back,
     queries_are_read_back, queries_are_resolved, times_are_read_back,
 };
-pub use lines::read_line;
+pub use lines::{read_line, read_value, said};
+pub use numbers::{node, time_on};
+pub use queries::wire_time;
 pub use resolve_claims::resolve_claim;
 pub use resolve_error::ResolveError;
 pub use resolve_messages::resolve;
-pub use resolve_queries::{AskedQuery, resolve_query};
+pub use resolve_queries::{AskedQuery, resolve_query, stop_or_station};
 pub use wire::{Connect, Line, Wire, WireCall, WireQuery, WireRef, WireTime};

@@ -4,7 +4,7 @@ ghost use Rattle.std.specs.Prelude.{◌≡◌, ◌<◌, ◌^◌, IfOk, length};
 ghost use Rattle.std.specs.Result.{result_map_both};
 ghost use Rattle.serde_json.specs.View.{view};
 ghost use Rattle.message_reader.specs.Errors.{Gives, GivesAs, bad_in};
-ghost use Rattle.message_reader.specs.Lines.{utf8_of, json_of, head_of, message_of, said_by_value, line_of};
+ghost use Rattle.message_reader.specs.Lines.{utf8_of, json_of, value_of, head_of, message_of, said_by_value, line_of};
 ghost use Rattle.message_reader.specs.Messages.{HasFewItems};
 ghost use Rattle.message_reader.specs.Wires.{IsLine};
 
@@ -20,7 +20,7 @@ use serde_json::Value;
 use std::alloc::Global;
 use train_nodes::kinds::ValueKind;
 
-pub(crate) fn utf8(bytes: &[u8]) -> Result<&str, BadLine>
+fn utf8(bytes: &[u8]) -> Result<&str, BadLine>
     ensures exact { result_map_both (λ s. s.now) (λ bad. bad) result ≡ utf8_of bytes.now }
     ensures same { IfOk result (λ s. s.now ≡ bytes.now) }
 {
@@ -30,7 +30,7 @@ pub(crate) fn utf8(bytes: &[u8]) -> Result<&str, BadLine>
     }
 }
 
-pub(crate) fn json(alloc: Global, text: &str) -> Result<Value, LineError>
+fn json(alloc: Global, text: &str) -> Result<Value, LineError>
     requires few { length text.now < 2 ^ 31 }
     ensures exact { GivesAs bad_in view result (json_of text.now) }
     ensures few { IfOk result (λ value. HasFewItems (view value)) }
@@ -40,6 +40,18 @@ pub(crate) fn json(alloc: Global, text: &str) -> Result<Value, LineError>
         Err(e) if e.is_memory() => Err(LineError::OutOfMemory),
         Err(_) => Err(LineError::Bad(BadLine::Json)),
     }
+}
+
+/// The value of a line, or the first fault that holds: `Utf8` or else `Json`. `OutOfMemory` where
+/// there is no memory.
+#[tactic(auto, unfolding(crate::specs::Lines::value_of))]
+pub fn read_value(alloc: Global, bytes: &[u8]) -> Result<Value, LineError>
+    requires few { length bytes.now < 2 ^ 31 }
+    ensures exact { GivesAs bad_in view result (value_of bytes.now) }
+    ensures few { IfOk result (λ value. HasFewItems (view value)) }
+{
+    let text = utf8(bytes)?;
+    json(alloc, text)
 }
 
 #[tactic(auto, unfolding(crate::specs::Lines::head_of))]
@@ -78,8 +90,10 @@ fn message(alloc: Global, kind: Kind, value: &Value) -> Result<Line, LineError>
     Ok(Line::Message(wire))
 }
 
+/// What the value of a line says, or the first fault that holds: `Shape`, or in a message `Time`.
+/// `OutOfMemory` where there is no memory. No message has more new calls than its value has items.
 #[tactic(auto, unfolding(crate::specs::Lines::said_by_value))]
-pub(crate) fn said(alloc: Global, value: &Value) -> Result<Line, LineError>
+pub fn said(alloc: Global, value: &Value) -> Result<Line, LineError>
     requires few { HasFewItems (view value.now) }
     ensures exact { Gives bad_in result (said_by_value (view value.now)) }
     ensures kept { IfOk result IsLine }

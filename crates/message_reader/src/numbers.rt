@@ -49,8 +49,8 @@ pub(crate) fn train_on(dir: &Directory, trip: &Name, date: u32) -> Result<TrainO
     Ok(TrainOnDay { train, day })
 }
 
-/// The time so many seconds after the base of a service day.
-pub(crate) fn time_on(dir: &Directory, day: Day, secs: u32) -> Time
+/// The time so many seconds after the base of a service day, in seconds from the base of day 0.
+pub fn time_on(dir: &Directory, day: Day, secs: u32) -> Time
     requires within { secs ≤ 359999 }
     ensures time { result ≡ base_of dir.now day + secs }
     ensures small { result < 2 ^ 24 }
@@ -70,9 +70,9 @@ pub(crate) fn time_if_any_on(dir: &Directory, day: Day, secs: Option<u32>) -> Op
     }
 }
 
-/// The arrival or the departure of a call.
+/// The arrival or the departure of a call. `Unknown` where its trip or its date is not known.
 #[tactic(auto, unfolding(crate::specs::Resolved::node_named))]
-pub(crate) fn node(dir: &Directory, dep: bool, call: &WireRef) -> Result<Node, Refusal>
+pub fn node(dir: &Directory, dep: bool, call: &WireRef) -> Result<Node, Refusal>
     ensures exact { result ≡ node_named dir.now dep call.now }
     ensures kind { IfOk result (λ n. n.dep ≡ dep) }
 {

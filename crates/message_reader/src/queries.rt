@@ -14,10 +14,10 @@ use mt_base::texts::{date, seconds};
 use serde_json::Value;
 use std::alloc::Global;
 
-/// The date and the time of day of these texts. None where the one is no civil date, or the other
+/// The service day and the time of day of these texts, by names. None where the one is no civil date, or the other
 /// is not H:MM:SS or HH:MM:SS.
 #[tactic(auto, unfolding(crate::specs::Queries::wire_time_of))]
-fn wire_time(day: &str, time: &str) -> Option<WireTime>
+pub fn wire_time(day: &str, time: &str) -> Option<WireTime>
     ensures exact { result ≡ wire_time_of day.now time.now }
     ensures kept { IfSome result IsWireTime }
 {

@@ -23,7 +23,7 @@ pub struct AskedQuery {
 
 /// The stop or station with this id. None where no place has it, and where the place is neither.
 #[tactic(auto, unfolding(crate::specs::ResolvedQueries::stop_or_station_named))]
-fn stop_or_station(dir: &Directory, id: &str) -> Option<StopNo>
+pub fn stop_or_station(dir: &Directory, id: &str) -> Option<StopNo>
     ensures { result ≡ stop_or_station_named dir.now id.now }
 {
     let place = dir.stop(id)?;
