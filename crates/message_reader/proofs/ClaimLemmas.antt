@@ -12,7 +12,7 @@ use Rattle.message_reader.specs.Chain.{◌>>=◌, need, unless}
 use Rattle.message_reader.specs.CheckLines.{is_claim_in, as_check_line, line_said, check_said, check_line_of}
 use Rattle.message_reader.specs.Fields.{text_at, number_at}
 use Rattle.message_reader.specs.Kinds.{kind_of, has_version}
-use Rattle.message_reader.specs.Lines.{utf8_of, json_of, head_of, message_of, said_by_value, line_of}
+use Rattle.message_reader.specs.Lines.{value_of, utf8_of, json_of, head_of, message_of, said_by_value, line_of}
 
 -- ---- what is no claim
 

@@ -11,7 +11,7 @@ ghost use Rattle.message_reader.specs.declared.wire.WireTime.{WireTime as ATime}
 ghost use Rattle.message_reader.specs.declared.wire.Line.TheVariants.{Message, Query};
 ghost use Rattle.mt_base.specs.Texts.{seconds_of, date_of};
 ghost use Rattle.message_reader.specs.CheckLines.{is_claim_in, as_check_line, check_said, check_line_of};
-ghost use Rattle.message_reader.specs.Lines.{said_by_value, line_of};
+ghost use Rattle.message_reader.specs.Lines.{value_of, said_by_value, line_of};
 ghost use Rattle.message_reader.specs.ResolvedQueries.{stop_or_station_named, query_resolved};
 ghost use Rattle.message_reader.specs.Spelled.{time_text, date_text, object_of, query_object, IsVersion, CanBeSaidIn, HasLabels};
 ghost use Rattle.message_reader.specs.Claims.{claim_time};

@@ -1,0 +1,6 @@
+//! The next departures of a station, as they are now.
+#![tactic(auto)]
+
+pub mod board;
+
+pub use board::board;

@@ -1,0 +1,7 @@
+//! Why an event is when it is, as the timetable is now.
+#![tactic(auto)]
+
+mod cause;
+pub mod why;
+
+pub use why::why;
