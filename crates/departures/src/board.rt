@@ -14,8 +14,7 @@ use timetable::Timetable;
 use train_nodes::Trains;
 
 /// Where a train goes from a departure: the stop of the last call that it reaches from there.
-fn goes_to(trains: &Trains, from: &Key) -> StopNo
-{
+fn goes_to(trains: &Trains, from: &Key) -> StopNo {
     let train = from.train;
     let mut label = from.label;
     let mut to = trains.stop(train, label);
@@ -33,8 +32,7 @@ fn goes_to(trains: &Trains, from: &Key) -> StopNo
 }
 
 /// The row of a departure as a scan comes to it.
-fn row_of(trains: &Trains, order: &DepartureOrder, d: &Leaving) -> Option<BoardRow>
-{
+fn row_of(trains: &Trains, order: &DepartureOrder, d: &Leaving) -> Option<BoardRow> {
     let event = order.departure(d.number)?.key;
     Some(BoardRow {
         event,

@@ -5,7 +5,9 @@ ghost use Rattle.serde_json.specs.View.{view};
 ghost use Rattle.message_reader.specs.Errors.{Gives, bad_in};
 ghost use Rattle.desk_lines.specs.Questions.{departures_of, event_of, rows_in, AreWireDepartures};
 
-use message_reader::{BadLine, LineError, WireRef, WireTime, departure, label_at, number_at, text_at, wire_time};
+use message_reader::{
+    BadLine, LineError, WireRef, WireTime, departure, label_at, number_at, text_at, wire_time,
+};
 use mt_base::names::Name;
 use mt_base::texts::date;
 use serde_json::Value;

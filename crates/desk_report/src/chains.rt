@@ -52,8 +52,7 @@ fn push_link(
     text: &mut Vec<u8>,
     dir: &Directory,
     link: &Link,
-) -> Result<(), OutOfMemory>
-{
+) -> Result<(), OutOfMemory> {
     let object = link_value(alloc, dir, link)?.to_string(alloc)?;
     text.extend_from_slice(object.as_bytes())
 }

@@ -17,10 +17,8 @@ fn origin(cause: &Cause) -> Option<Key> {
     match cause {
         Cause::Report | Cause::Schedule | Cause::Forecast => None,
         Cause::Capped { by } => Some(*by),
-        Cause::Run { from }
-        | Cause::Stop { from }
-        | Cause::Hold { from }
-        | Cause::Kept { from } => Some(*from),
+        Cause::Run { from } | Cause::Stop { from } | Cause::Hold { from } | Cause::Kept { from } =>
+            Some(*from),
     }
 }
 

@@ -26,8 +26,8 @@ mod wire;
 
 pub use bad_line::{BadLine, LineError};
 pub use check_lines::{CheckLine, read_check_line};
-pub use fields::{departure, label_at, number_at, text_at};
 pub use claims::{Claim, ClaimRide};
+pub use fields::{departure, label_at, number_at, text_at};
 pub use laws::{
     claim_times_are_read_back, claims_are_no_other_lines, claims_are_read_back,
     dates_are_read_back, lines_are_the_same_to_check, messages_are_read_back,
