@@ -3,7 +3,7 @@ use Rattle.std.specs.Prelude.{[], ◌∷◌, true, Some, codes, fold}
 use Rattle.clap.specs.Words.{App, Rule, Text, new_app, new_rule, with_rule}
 use Rattle.clap.specs.Simple.{on_top}
 use Rattle.command_words.specs.declared.words.Command.{Command}
-use Rattle.command_words.specs.declared.words.Command.TheVariants.{Times, Serve, Check, Plans, Watch, Journal, Restart, Follow}
+use Rattle.command_words.specs.declared.words.Command.TheVariants.{Times, Serve, Check, Plans, Watch, Desk, Journal, Restart, Follow}
 
 -- the word `FEED`: the folder of the feed
 abbrev pub feed_rule : Rule
@@ -54,6 +54,7 @@ app_for Serve name = command_app name
 app_for Check name = command_app name
 app_for Plans name = plans_app name
 app_for Watch name = command_app name
+app_for Desk name = command_app name
 app_for Journal name = command_app name
 app_for Restart name = command_app name
 app_for Follow name = command_app name

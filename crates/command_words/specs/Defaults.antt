@@ -3,7 +3,7 @@ use Rattle.std.specs.Prelude.{◌≡◌, List, [], ◌∷◌, None, Some, codes}
 use Rattle.clap.specs.Words.{Text}
 use Rattle.service_zones.specs.Zones.{utc}
 use Rattle.command_words.specs.declared.words.Command.{Command}
-use Rattle.command_words.specs.declared.words.Command.TheVariants.{Times, Serve, Check, Plans, Watch, Journal, Restart, Follow}
+use Rattle.command_words.specs.declared.words.Command.TheVariants.{Times, Serve, Check, Plans, Watch, Desk, Journal, Restart, Follow}
 use Rattle.command_words.specs.GenWords.{default_options}
 use Rattle.command_words.specs.Words.{Asked, asked_of}
 
@@ -32,6 +32,7 @@ DefaultsAreAsked =
     × (asked_of (words_without_options (codes "check")) ≡ Some (asked_by_default Check))
     × (asked_of (words_without_options (codes "plans")) ≡ Some (asked_by_default Plans))
     × (asked_of (words_without_options (codes "watch")) ≡ Some (asked_by_default Watch))
+    × (asked_of (words_without_options (codes "desk")) ≡ Some (asked_by_default Desk))
     × (asked_of (words_without_options (codes "journal")) ≡ Some (asked_by_default Journal))
     × (asked_of (words_without_options (codes "restart")) ≡ Some (asked_by_default Restart))
     × (asked_of (words_without_options (codes "follow")) ≡ Some (asked_by_default Follow))

@@ -12,7 +12,7 @@ use Rattle.service_zones.specs.Zones.{ZoneRules, utc}
 use Rattle.service_zones.specs.ZoneTexts.{zone_of}
 use Rattle.command_words.specs.Commands.{app_for}
 use Rattle.command_words.specs.declared.words.Command.{Command}
-use Rattle.command_words.specs.declared.words.Command.TheVariants.{Times, Serve, Check, Plans, Watch, Journal, Restart, Follow}
+use Rattle.command_words.specs.declared.words.Command.TheVariants.{Times, Serve, Check, Plans, Watch, Desk, Journal, Restart, Follow}
 
 -- the command, the folder of the feed, the first service day as the number YYYYMMDD, how many
 -- service days there are, the options of the timetable, how many workers answer queries, up to how
@@ -86,9 +86,10 @@ command_of name = if bytes_eq name (codes "times") then Some Times
     else (if bytes_eq name (codes "check") then Some Check
     else (if bytes_eq name (codes "plans") then Some Plans
     else (if bytes_eq name (codes "watch") then Some Watch
+    else (if bytes_eq name (codes "desk") then Some Desk
     else (if bytes_eq name (codes "journal") then Some Journal
     else (if bytes_eq name (codes "restart") then Some Restart
-    else (if bytes_eq name (codes "follow") then Some Follow else None)))))))
+    else (if bytes_eq name (codes "follow") then Some Follow else None))))))))
 
 -- what the values of a command's arguments ask for
 abbrev pub values_ask : Command → List Row → Option Asked

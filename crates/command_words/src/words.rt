@@ -36,6 +36,10 @@ pub enum Command {
     /// reply to an accepted message it tells of each watched journey whose standing changes.
     Watch,
 
+    /// Answers each line at once, and questions for the next departures of a station and for what
+    /// decides the time of an event.
+    Desk,
+
     /// Writes the journal of the messages that are accepted, and no replies.
     Journal,
 
@@ -130,6 +134,7 @@ impl Command {
             "check" => Some(Command::Check),
             "plans" => Some(Command::Plans),
             "watch" => Some(Command::Watch),
+            "desk" => Some(Command::Desk),
             "journal" => Some(Command::Journal),
             "restart" => Some(Command::Restart),
             "follow" => Some(Command::Follow),

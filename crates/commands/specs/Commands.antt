@@ -5,8 +5,10 @@ use Rattle.std.specs.declared.option.Option.{Option}
 use Rattle.checked_answers.specs.CheckedLines.{checked_output}
 use Rattle.command_words.specs.declared.words.Command.{Command}
 use Rattle.command_words.specs.declared.words.Command.TheVariants.{Times, Serve, Check, Plans}
-use Rattle.command_words.specs.declared.words.Command.TheVariants.{Watch, Journal, Restart, Follow}
+use Rattle.command_words.specs.declared.words.Command.TheVariants.{Watch, Desk, Journal, Restart}
+use Rattle.command_words.specs.declared.words.Command.TheVariants.{Follow}
 use Rattle.command_words.specs.Words.{command_of}
+use Rattle.desk_answers.specs.DeskOutput.{desk_output}
 use Rattle.gtfs_tables.specs.Feeds.{Files}
 use Rattle.information_service.specs.TimesOutput.{times_output as replies_output}
 use Rattle.journal_answers.specs.JournaledLines.{journal_output}
@@ -36,15 +38,16 @@ pub data Work : Type 1 where
 
 -- `times` and `serve` begin with the service that was loaded. The others answer line by line:
 -- `check` with certificates and judged claims, `plans` with all best plans, `watch` with what
--- becomes of the journeys that it showed, `journal` with the lines of a journal, and `restart`,
--- which begins behind the messages of a journal, with what `times` writes. `follow` follows a
--- journal
+-- becomes of the journeys that it showed, `desk` with the departures of stations and with what
+-- decides the times of events, `journal` with the lines of a journal, and `restart`, which begins
+-- behind the messages of a journal, with what `times` writes. `follow` follows a journal
 abbrev pub work_of : Command → Work
 work_of Times = answers (record { Beginning = _; task = service_task times_output })
 work_of Serve = answers (record { Beginning = _; task = service_task served_output })
 work_of Check = answers (record { Beginning = _; task = line_task nothing_behind checked_output })
 work_of Plans = answers (record { Beginning = _; task = line_task plans_behind planned_output })
 work_of Watch = answers (record { Beginning = _; task = line_task watch_behind watched_output })
+work_of Desk = answers (record { Beginning = _; task = line_task nothing_behind desk_output })
 work_of Journal = answers (record { Beginning = _; task = line_task header_behind journal_output })
 work_of Restart = answers (record { Beginning = _; task = line_task journal_behind replies_output })
 work_of Follow = follows

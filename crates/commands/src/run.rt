@@ -20,6 +20,7 @@ use crate::status::{Status, Stop, run_of};
 use crate::telling::tell;
 use checked_answers::CheckLines;
 use command_words::{Command, is_gen, read_words};
+use desk_answers::DeskLines;
 use information_service::{AnswerLines, WriteReplies, answer_input, write_output};
 use journal_answers::{HeaderText, JournalLines};
 use journey_watch::Watch;
@@ -233,15 +234,16 @@ fn command_for(words: &[String]) -> Command
 /// feed and answers the input window after window, and queries beside the messages; the gate is
 /// called after each message and before each query.
 ///
-/// `check`, `plans`, `watch`, `journal` and `restart` do what `run_lines` does. By the times after
-/// the messages of the lines before it, `check` answers a query with what shows that its answer is
-/// right, and a claim by whether what comes with it shows that it is right; `plans` answers a query
-/// with all best plans by arrival and number of rides, up to as many rides as the words ask for;
-/// and `watch` watches the journey that it shows to a query from then on, up to 10,000 of them, and
-/// behind the reply to an accepted message tells of each whose standing changes. `journal` writes a
-/// header, and behind it the line of each message that is accepted. `restart` takes the messages of
-/// the journal in the feed's folder first, and then does what `times` does, with numbers of
-/// messages that go on from those of the journal.
+/// `check`, `plans`, `watch`, `desk`, `journal` and `restart` do what `run_lines` does. By the times
+/// after the messages of the lines before it, `check` answers a query with what shows that its
+/// answer is right, and a claim by whether what comes with it shows that it is right; `plans`
+/// answers a query with all best plans by arrival and number of rides, up to as many rides as the
+/// words ask for; `watch` watches the journey that it shows to a query from then on, up to 10,000 of
+/// them, and behind the reply to an accepted message tells of each whose standing changes; and
+/// `desk` answers questions for the next departures of a station, and for what decides the time of
+/// an event. `journal` writes a header, and behind it the line of each message that is accepted.
+/// `restart` takes the messages of the journal in the feed's folder first, and then does what
+/// `times` does, with numbers of messages that go on from those of the journal.
 ///
 /// For `follow` it reads the journal that the input holds, each line as it comes, and at the end of
 /// the input writes the table of all times behind it. Each of these stops where `budget` bytes of
@@ -299,6 +301,9 @@ pub fn traind_within<
             alloc, words, feed, input, out, err, budget,
         ),
         Command::Watch => run_lines::<WatchLines, LoadWatch, Watch, F, S, K, E>(
+            alloc, words, feed, input, out, err, budget,
+        ),
+        Command::Desk => run_lines::<DeskLines, LoadNothing, (), F, S, K, E>(
             alloc, words, feed, input, out, err, budget,
         ),
         Command::Journal => run_lines::<JournalLines, LoadHeader, HeaderText, F, S, K, E>(

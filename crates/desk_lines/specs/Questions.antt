@@ -1,5 +1,5 @@
 -- What the object of a question says, and what it asks by number.
-use Rattle.std.specs.Prelude.{ℕ, ◌+◌, ◌≤◌, Bool, ◌&&◌, nat_le, if◌then◌else◌, IfSome, Some, None, option_and_then, Result, Ok, codes}
+use Rattle.std.specs.Prelude.{ℕ, ◌+◌, ◌≤◌, ◌&&◌, nat_le, if◌then◌else◌, IfSome, Some, None, Result, Ok, codes}
 use Rattle.std.specs.declared.option.Option.{Option}
 use Rattle.mt_base.specs.Texts.{date_of}
 use Rattle.serde_json.specs.Data.{Data}

@@ -8,4 +8,4 @@ use Rattle.command_words.proofs.laws.defaults_are_asked.Goals as goal
 
 pub returns : goal.returns
 unfolding asked_of command_asked command_of command_app plans_app clap_on_literals date_of eight_digits digits_after
-returns c = (refl, refl, refl, refl, refl, refl, refl, refl)
+returns c = (refl, refl, refl, refl, refl, refl, refl, refl, refl)

@@ -4,7 +4,7 @@ use Rattle.clap.specs.Words.{App, Text, fault_of, found_of, is_simple, is_simple
 use Rattle.clap.proofs.OnLiterals.{clap_on_literals}
 use Rattle.command_words.specs.Commands.{app_for, command_app, plans_app}
 use Rattle.command_words.specs.declared.words.Command.{Command}
-use Rattle.command_words.specs.declared.words.Command.TheVariants.{Times, Serve, Check, Plans, Watch, Journal, Restart, Follow}
+use Rattle.command_words.specs.declared.words.Command.TheVariants.{Times, Serve, Check, Plans, Watch, Desk, Journal, Restart, Follow}
 use Rattle.command_words.proofs.words.command_matches.Goals as goal
 
 simple : (command : Command) (name : Text) → is_simple (app_for command name) ≡ true
@@ -14,6 +14,7 @@ simple Serve name = refl
 simple Check name = refl
 simple Plans name = refl
 simple Watch name = refl
+simple Desk name = refl
 simple Journal name = refl
 simple Restart name = refl
 simple Follow name = refl
@@ -25,6 +26,7 @@ free Serve name = refl
 free Check name = refl
 free Plans name = refl
 free Watch name = refl
+free Desk name = refl
 free Journal name = refl
 free Restart name = refl
 free Follow name = refl

@@ -1,5 +1,5 @@
 use Rattle.command_words.specs.declared.words.Command.TheVariants.{Times, Serve, Check, Plans}
-use Rattle.command_words.specs.declared.words.Command.TheVariants.{Watch, Journal, Restart, Follow}
+use Rattle.command_words.specs.declared.words.Command.TheVariants.{Watch, Desk, Journal, Restart, Follow}
 use Rattle.commands.proofs.Works.{by-command}
 use Rattle.commands.proofs.run.traind_within.Goals as goal
 
@@ -17,6 +17,9 @@ returns-in-Plans-clause-contract g c = λ gen. by-command _ _ _ _ _ _ _ _ _ _ _ 
 
 pub returns-in-Watch-clause-contract : goal.returns-in-Watch-clause-contract
 returns-in-Watch-clause-contract g c = λ gen. by-command _ _ _ _ _ _ _ _ _ _ _ _ _ c.command_for.result Watch c.command_for.ensures c.in-Watch.is c.run_lines-in-Watch.ensures.contract
+
+pub returns-in-Desk-clause-contract : goal.returns-in-Desk-clause-contract
+returns-in-Desk-clause-contract g c = λ gen. by-command _ _ _ _ _ _ _ _ _ _ _ _ _ c.command_for.result Desk c.command_for.ensures c.in-Desk.is c.run_lines-in-Desk.ensures.contract
 
 pub returns-in-Journal-clause-contract : goal.returns-in-Journal-clause-contract
 returns-in-Journal-clause-contract g c = λ gen. by-command _ _ _ _ _ _ _ _ _ _ _ _ _ c.command_for.result Journal c.command_for.ensures c.in-Journal.is c.run_lines-in-Journal.ensures.contract

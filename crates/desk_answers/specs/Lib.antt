@@ -1,0 +1,2 @@
+pub mod DeskOutput
+pub mod Questions
