@@ -2,5 +2,3 @@
 #![tactic(auto)]
 
 pub mod board;
-
-pub use board::board;
