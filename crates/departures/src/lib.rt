@@ -1,6 +1,6 @@
 //! The next departures of a station, as they are now.
 #![tactic(auto)]
 
-pub mod board;
+mod boards;
 
-pub use board::board;
+pub use boards::board;

@@ -1,0 +1,3 @@
+pub mod CallLemmas
+pub mod RowLemmas
+pub mod ShownLemmas

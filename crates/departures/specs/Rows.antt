@@ -1,0 +1,36 @@
+-- The rows of a board, of departures as a scan comes to them.
+use Rattle.std.specs.Prelude.{ℕ, Bool, ◌&&◌, if◌then◌else◌, Option, None, nat_eq, nat_lt, length}
+use Rattle.std.specs.Option.{option_map}
+use Rattle.mt_base.specs.declared.keys.Key.{Key}
+use Rattle.delay_model.specs.declared.network.Network.{Network}
+use Rattle.delay_model.specs.declared.state.State.{State}
+use Rattle.delay_model.specs.Changes.{station}
+use Rattle.delay_model.specs.Cuts.{after}
+use Rattle.delay_model.specs.Effect.{is_call}
+use Rattle.delay_model.specs.Events.{calls_of}
+use Rattle.dep_order.specs.declared.departure.Departure.{Departure}
+use Rattle.dep_order.specs.declared.departure.Leaving.{Leaving}
+use Rattle.dep_order.specs.Departing.{held}
+use Rattle.dep_order.specs.Ordered.{Ordered}
+use Rattle.timetable.specs.Departures.{stop_of}
+use Rattle.board_laws.specs.declared.rows.BoardRow.{BoardRow}
+use Rattle.board_laws.specs.Boards.{goes_to}
+
+-- the stop of the last call that a train reaches from its departure of this key
+abbrev pub goes_from : State → Key → ℕ
+goes_from st k = goes_to (stop_of st k) (after (is_call k.label) (calls_of st k.train))
+
+-- the stop is one of this station. The number past all stops, where nobody may board, is of none
+abbrev pub is_of_station : Network → ℕ → ℕ → Bool
+is_of_station nw here stop = nat_lt stop (length nw.stops) && nat_eq here (station nw.stops stop)
+
+-- the row of a departure, as a scan comes to it
+abbrev pub row_by : State → Leaving → Departure → BoardRow
+row_by st x d =
+    record { event = d.key; time = x.time; stop = x.stop; to = goes_from st d.key }
+
+-- the row of the departure of a number, where passengers may board it at this station
+abbrev pub row_at : Network → State → Ordered → ℕ → Leaving → Option BoardRow
+row_at nw st o here x =
+    if is_of_station nw here x.stop then option_map (row_by st x) (held o.entries x.number)
+    else None
