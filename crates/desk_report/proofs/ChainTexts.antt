@@ -20,7 +20,8 @@ unfolding link_objects
 link-passed names later links i l done less is =
     let rest : List ℕ = items_text true (link_objects names (drop (i + 1) links)) in
     let left : drop i links ≡ l ∷ drop (i + 1) links = drop_more links i l less ∙ ap (λ (x : Link). x ∷ drop (i + 1) links) (sym is) in
-    joined done (comma_if later) (compact_text (link_object names l)) rest ∙ ap (λ (ls : List Link). done ++ items_text later (link_objects names ls)) (sym left)
+    joined done (comma_if later) (compact_text (link_object names l)) rest
+    ∙ ap (λ (ls : List Link). done ++ items_text later (link_objects names ls)) (sym left)
 
 -- behind the last link stands the bracket
 pub links-passed : (names : Names) (later : Bool) (links : List Link) (i : ℕ) (done : List ℕ) → length links ≤ i
@@ -38,7 +39,8 @@ end-joined a p b ls c r e f = simp append_assoc
 
 -- the text of the reply with a chain
 pub because-line : (names : Names) (line after : ℕ) (links : List Link)
-    → ((((codes "{\"after\":" ++ decimal after) ++ codes ",\"because\":[") ++ items_text false (link_objects names links)) ++ (codes ",\"line\":" ++ decimal line))
+    → ((((codes "{\"after\":" ++ decimal after) ++ codes ",\"because\":[") ++ items_text false (link_objects names links))
+    ++ (codes ",\"line\":" ++ decimal line))
     ++ codes "}\n" ≡ text_of_because names line after links
 unfolding serde_json_on_literals text_of_because
 because-line names line after links =
