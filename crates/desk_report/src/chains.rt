@@ -1,9 +1,10 @@
 //! Replies with the chain of events that decides the time of an event, written link by link, since a
 //! chain may be long.
 
-ghost use Rattle.std.specs.Prelude.{◌≡◌, IfOk};
+ghost use Rattle.std.specs.Prelude.{◌≡◌, ◌++◌, false, decimal, string_bytes, IfOk, OnOk};
 ghost use Rattle.serde_json.specs.View.{view};
-ghost use Rattle.desk_report.specs.Chains.{cause_word, link_object, text_of_because};
+ghost use Rattle.serde_json.specs.Written.{comma_if, compact_text, items_text};
+ghost use Rattle.desk_report.specs.Chains.{cause_word, link_object, link_objects, text_of_because};
 
 use cause_laws::causes::{Cause, Link};
 use delay_report::{clock_value, date_value, event_word, seconds_on_day};
@@ -46,15 +47,62 @@ fn link_value(alloc: Global, dir: &Directory, link: &Link) -> Result<Value, OutO
     })
 }
 
-/// Appends a link to those that are written.
+/// The text of the object for a link, without blanks.
+fn link_text(alloc: Global, dir: &Directory, link: &Link) -> Result<String, OutOfMemory>
+    ensures { IfOk result (λ s. string_bytes s ≡ compact_text (link_object dir.now link.now)) }
+{
+    let text = link_value(alloc, dir, link)?.to_string(alloc)?;
+    Ok(text)
+}
+
+/// A comma, where something stands before.
+fn comma_if(later: bool) -> &'static [u8]
+    ensures { result.now ≡ comma_if later }
+{
+    if later { b"," } else { b"" }
+}
+
+/// Appends a link, behind a comma where it is not the first one.
 fn push_link(
     alloc: Global,
     text: &mut Vec<u8>,
     dir: &Directory,
+    later: bool,
     link: &Link,
-) -> Result<(), OutOfMemory> {
-    let object = link_value(alloc, dir, link)?.to_string(alloc)?;
+) -> Result<(), OutOfMemory>
+    ensures { OnOk result (text.new.items
+        ≡ text.old.items ++ (comma_if later ++ compact_text (link_object dir.now link.now))) }
+{
+    let object = link_text(alloc, dir, link)?;
+    text.extend_from_slice(comma_if(later))?;
     text.extend_from_slice(object.as_bytes())
+}
+
+/// Appends the links with commas between them, and the bracket that closes their list.
+fn push_links(
+    alloc: Global,
+    text: &mut Vec<u8>,
+    dir: &Directory,
+    links: &[Link],
+) -> Result<(), OutOfMemory>
+    ensures { OnOk result (text.new.items
+        ≡ text.old.items ++ items_text false (link_objects dir.now links.now)) }
+{
+    let mut later = false;
+    for link in links {
+        push_link(alloc, text, dir, later, link)?;
+        later = true;
+    }
+    text.push(b']')?;
+    Ok(())
+}
+
+/// Appends a text and a number.
+fn push_number(text: &mut Vec<u8>, before: &[u8], number: u64) -> Result<(), OutOfMemory>
+    ensures { OnOk result (text.new.items ≡ text.old.items ++ (before.now ++ decimal number)) }
+{
+    text.extend_from_slice(before)?;
+    text.extend_from_slice(Buffer::new().format(number).as_bytes())
 }
 
 /// The bytes of the reply to the question, in the line of a number, why an event is when it is in
@@ -70,19 +118,10 @@ pub fn because_text(
     ensures { IfOk result (λ b. b.items ≡ text_of_because dir.now line after links.now) }
 {
     let mut text = Vec::new(alloc);
-    text.extend_from_slice(b"{\"after\":")?;
-    text.extend_from_slice(Buffer::new().format(after).as_bytes())?;
+    push_number(&mut text, b"{\"after\":", after)?;
     text.extend_from_slice(b",\"because\":[")?;
-    let mut first = true;
-    for link in links {
-        if !first {
-            text.push(b',')?;
-        }
-        first = false;
-        push_link(alloc, &mut text, dir, link)?;
-    }
-    text.extend_from_slice(b"],\"line\":")?;
-    text.extend_from_slice(Buffer::new().format(line).as_bytes())?;
+    push_links(alloc, &mut text, dir, links)?;
+    push_number(&mut text, b",\"line\":", line)?;
     text.extend_from_slice(b"}\n")?;
     Ok(text)
 }

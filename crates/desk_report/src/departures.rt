@@ -32,6 +32,7 @@ fn row_value(alloc: Global, dir: &Directory, row: &BoardRow) -> Result<Value, Ou
 }
 
 /// The list of the objects for these departures.
+#[tactic(auto, using(crate::proofs::DepartureTexts::rows_listed))]
 fn row_values(alloc: Global, dir: &Directory, rows: &[BoardRow]) -> Result<Value, OutOfMemory>
     ensures { IfOk result (λ v. view v ≡ array (row_objects dir.now rows.now)) }
 {
@@ -59,7 +60,7 @@ fn departures_value(
 /// The bytes of the reply to the question, in the line of a number, for the next departures of a
 /// station in the timetable after so many accepted messages: a JSON object without blanks, and an
 /// LF. `OutOfMemory` where there is no memory.
-#[tactic(auto, unfolding(crate::specs::Departures::text_of_departures))]
+#[tactic(auto, using(crate::proofs::DepartureTexts::rows_are_whole), unfolding(crate::specs::Departures::text_of_departures))]
 pub fn departures_text(
     alloc: Global,
     line: u64,

@@ -1,0 +1,2 @@
+mod ChainTexts
+mod DepartureTexts
