@@ -1,26 +1,27 @@
 -- What `desk` writes is the same over networks that are alike.
-use Rattle.std.proofs.Common.{◌≡◌, ◌∙◌, ap, refl, sym, arith, ℕ, List, Bool, Result, Ok, Err}
-use Rattle.board_laws.specs.Boards.{board, is_shown, row_of, rows_along, rows_from}
+use Rattle.std.proofs.Common.{◌≡◌, ◌∙◌, [], ◌∷◌, ◌+◌, ap, refl, sym, arith, ℕ, List, Option, Result, Ok, Err}
+use Rattle.board_laws.specs.Boards.{board, is_shown, rows_along, rows_from}
 use Rattle.cause_laws.specs.Causes.{edges_by_rule}
-use Rattle.cause_laws.specs.Chains.{chain, why}
-use Rattle.delay_model.specs.Edges.{edges}
+use Rattle.cause_laws.specs.Chains.{why}
+use Rattle.delay_model.specs.Edges.{edges, transfer}
 use Rattle.delay_model.specs.Timing.{event_time}
 use Rattle.delay_model.specs.declared.messages.Refusal.{Refusal}
 use Rattle.delay_model.specs.declared.network.Network.{Network}
+use Rattle.delay_model.specs.declared.overrides.Override.{Override}
 use Rattle.delay_model.specs.declared.state.Call.{Call}
+use Rattle.delay_model.specs.declared.state.Event.{Event}
 use Rattle.delay_model.specs.declared.state.State.{State}
 use Rattle.delay_model.specs.declared.state.Train.{Train}
 use Rattle.desk_lines.specs.Questions.{departures_resolved}
 use Rattle.desk_lines.specs.declared.lines.DeskLine.{DeskLine}
 use Rattle.desk_lines.specs.declared.lines.DeskLine.TheVariants as desks
 use Rattle.desk_lines.specs.declared.resolved.AskedDepartures.{AskedDepartures}
-use Rattle.information_service.proofs.Networks.{edges-same, reply-same, times-same, transfer-same}
+use Rattle.information_service.proofs.Networks.{reply-same, times-same}
 use Rattle.information_service.proofs.TimesAlike.{line-keeps, line-over}
 use Rattle.information_service.specs.Networks.{IsSame, IsWrittenAlike, over}
 use Rattle.information_service.specs.ServiceState.{ServiceState}
 use Rattle.message_reader.specs.Resolved.{node_named}
 use Rattle.message_reader.specs.declared.bad_line.BadLine.{BadLine}
-use Rattle.mt_base.specs.declared.keys.Key.{Key}
 use Rattle.mt_base.specs.declared.keys.Node.{Node}
 use Rattle.desk_answers.specs.DeskOutput.{IsReplyText, desk_output, desk_said_by}
 use Rattle.desk_answers.specs.Questions.{chain_text, departures_text, event_text}
@@ -42,13 +43,22 @@ module _ (a b : Network) (h : IsSame a b) (st : State) where
   unfolding board
   board-same place since n = grind (arith, from-same place since 0 st.trains)
 
-  -- the same chains
-  rule-same : edges_by_rule b st ≡ edges_by_rule a st
-  rule-same = grind (arith, transfer-same a b h)
+  -- the same edges
+  transfer-same : (choice : Option Override) (u v : Event) → transfer b choice u v ≡ transfer a choice u v
+  unfolding transfer
+  transfer-same choice u v = grind (arith, h.change, h.opts, h.wait)
 
+  edges-same : edges b st ≡ edges a st
+  unfolding edges
+  edges-same = grind (arith, h.opts, transfer-same)
+
+  rule-same : edges_by_rule b st ≡ edges_by_rule a st
+  rule-same = grind (arith, transfer-same)
+
+  -- the same chains
   why-same : (n : Node) → why b st n ≡ why a st n
   unfolding why
-  why-same n = grind (arith, edges-same a b h st, rule-same, times-same a b h st)
+  why-same n = grind (arith, edges-same, rule-same, times-same a b h st)
 
 module _ (nw : Network) (t : ServiceState) (same : IsSame nw t.network) where
   departures-same : (line : ℕ) (asked : Result AskedDepartures BadLine) → departures_text (over nw t) line asked ≡ departures_text t line asked

@@ -1,6 +1,7 @@
 //! Questions about departures and about the time of an event, and the texts of their replies.
 
-ghost use Rattle.std.specs.Prelude.{◌≡◌, IfOk};
+ghost use Rattle.std.specs.Prelude.{◌≡◌, ◌<◌, IfOk};
+ghost use Rattle.cause_laws.specs.Chains.{why};
 ghost use Rattle.message_reader.specs.Resolved.{node_named};
 ghost use Rattle.desk_lines.specs.Questions.{departures_resolved, AreWireDepartures};
 ghost use Rattle.desk_answers.specs.Questions.{board_text, departures_text, event_text, why_text};
@@ -20,7 +21,7 @@ use mt_base::keys::Node;
 use mt_base::memory::OutOfMemory;
 use std::alloc::Global;
 use std::marker::Brand;
-use std::sync::ledger::Blank;
+use std::sync::ledger::{Blank, Ledger};
 use timetable::Timetable;
 use train_nodes::Steps;
 
@@ -48,7 +49,26 @@ impl AskTimetable<AskedDepartures, Vec<BoardRow>> for FindDepartures {
     }
 }
 
-/// Finds what decides the time of an event. The steps that it counts are not used.
+/// The chain that decides the time of an event. The steps that it counts are not used.
+fn chain_of<L: Ledger>(
+    alloc: Global,
+    timetable: &Timetable,
+    event: &Node,
+    blank: Blank,
+) -> Result<Vec<Link>, OutOfMemory>
+    // the blank has the name and the parts of the ledger
+    requires name { blank.name ≡ L.name }
+    requires parts { blank.parts ≡ L.parts }
+    requires some { 0 < blank.parts }
+
+    ensures { IfOk result (λ links.
+        links.items ≡ why timetable.now.network timetable.now.state event.now) }
+{
+    let mut steps = Steps::<L>::open(blank);
+    why(alloc, timetable, *event, &mut steps)
+}
+
+/// Finds what decides the time of an event.
 pub(crate) struct FindCauses;
 
 impl AskTimetable<Node, Vec<Link>> for FindCauses {
@@ -62,8 +82,7 @@ impl AskTimetable<Node, Vec<Link>> for FindCauses {
         _scratch: &mut Scratch,
         question: &Node,
     ) -> Result<Vec<Link>, OutOfMemory> {
-        let mut steps = Steps::<Brand>::open(Blank::new(1));
-        why(alloc, timetable, *question, &mut steps)
+        chain_of::<Brand>(alloc, timetable, question, Blank::new(1))
     }
 }
 

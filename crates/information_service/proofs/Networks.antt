@@ -16,11 +16,11 @@ use Rattle.message_reader.specs.declared.wire.Line.TheVariants.{Query as Asks}
 use Rattle.information_service.specs.Networks.{IsSame}
 use Rattle.information_service.specs.Output.{IsReplyToQuery}
 
-pub transfer-same : (a b : Network) → IsSame a b → (choice : Option Override) (u v : Event) → transfer b choice u v ≡ transfer a choice u v
+transfer-same : (a b : Network) → IsSame a b → (choice : Option Override) (u v : Event) → transfer b choice u v ≡ transfer a choice u v
 unfolding transfer
 transfer-same a b h choice u v = grind (arith, h.change, h.opts, h.wait)
 
-pub edges-same : (a b : Network) → IsSame a b → (st : State) → edges b st ≡ edges a st
+edges-same : (a b : Network) → IsSame a b → (st : State) → edges b st ≡ edges a st
 unfolding edges
 edges-same a b h st = grind (arith, h.opts, transfer-same a b h)
 
