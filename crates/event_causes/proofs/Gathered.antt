@@ -1,8 +1,7 @@
 -- What the edges to an event ask for, and which of them is named.
 use Rattle.std.proofs.Common.{◌≡◌, ℕ, ◌+◌, Bool, true, false, cond, List, [], ◌∷◌, Option, Some, None, refl, sym, ◌∙◌, ap, arith, ◌⊎◌, inl, inr}
-use Rattle.std.specs.List.{All, Contains, fold}
+use Rattle.std.specs.List.{Contains, fold}
 use Rattle.std.proofs.lemmas.Bool.{cases_Bool}
-use Rattle.mt_base.specs.declared.keys.Key.{Key}
 use Rattle.delay_model.specs.declared.network.Network.{Network}
 use Rattle.delay_model.specs.declared.state.State.{State}
 use Rattle.delay_model.specs.declared.state.Event.{Event}
@@ -16,7 +15,8 @@ use Rattle.event_causes.specs.declared.cause.Due.{Due}
 use Rattle.event_causes.specs.Asking.{by_rule, first_of, with_asked, with_edge}
 
 -- the time is the latest that is asked for
-pub gathered-time : (nw : Network) (st : State) (v : Event) (time : ℕ) (es : List Edge) (d : Due) → (fold (with_edge nw st v time) d es).time ≡ fold (later (event_time nw st)) d.time es
+pub gathered-time : (nw : Network) (st : State) (v : Event) (time : ℕ) (es : List Edge) (d : Due)
+    → (fold (with_edge nw st v time) d es).time ≡ fold (later (event_time nw st)) d.time es
 gathered-time nw st v time [] d = refl
 gathered-time nw st v time (e ∷ es) d = gathered-time nw st v time es (with_edge nw st v time d e)
 
@@ -38,31 +38,41 @@ named_step ruled asks o e = cond (asks e) (Some (first_of (record { edge = e; by
 
 module _ (ruled asks : Edge → Bool) where
   -- the same cases over other edges that are the same
-  same-cases : (P Q : Edge → Type 0) (o : Option Candidate) → ((d : Edge) → P d → Q d) → ((d : Edge) → Q d → P d) → NamedCases ruled asks P o → NamedCases ruled asks Q o
+  same-cases : (P Q : Edge → Type 0) (o : Option Candidate) → ((d : Edge) → P d → Q d) → ((d : Edge) → Q d → P d) → NamedCases ruled asks P o
+      → NamedCases ruled asks Q o
   same-cases P Q o to back (inl none) = inl (none.0, λ d h asking. none.1 d (back d h) asking)
   same-cases P Q o to back (inr (c, is, h)) =
       inr (c, is, record { there = to c.edge h.there; asking = h.asking; by_rule = h.by_rule; first = λ d there asking. h.first d (back d there) asking })
 
   -- an edge that asks nothing of the time changes nothing
-  step-silent : (P : Edge → Type 0) (o : Option Candidate) (e : Edge) → asks e ≡ false → NamedCases ruled asks P o → NamedCases ruled asks (λ d. P d ⊎ (d ≡ e)) o
+  step-silent : (P : Edge → Type 0) (o : Option Candidate) (e : Edge) → asks e ≡ false → NamedCases ruled asks P o
+      → NamedCases ruled asks (λ d. P d ⊎ (d ≡ e)) o
   step-silent P o e silent (inl none) =
-      inl (none.0, λ d h asking. elim h [
-        | inl before ↦ none.1 d before asking
-        | inr same ↦ let a : asks d ≡ asks e = ap asks same in absurd (cc)
-      ])
-  step-silent P o e silent (inr (c, is, h)) =
-      inr (c, is, record {
-        there = inl h.there;
-        asking = h.asking;
-        by_rule = h.by_rule;
-        first = λ d there asking. elim there [
-          | inl before ↦ h.first d before asking
+      inl (
+        none.0,
+        λ d h asking. elim h [
+          | inl before ↦ none.1 d before asking
           | inr same ↦ let a : asks d ≡ asks e = ap asks same in absurd (cc)
-        ];
-      })
+        ],
+      )
+  step-silent P o e silent (inr (c, is, h)) =
+      inr (
+        c,
+        is,
+        record {
+          there = inl h.there;
+          asking = h.asking;
+          by_rule = h.by_rule;
+          first = λ d there asking. elim there [
+            | inl before ↦ h.first d before asking
+            | inr same ↦ let a : asks d ≡ asks e = ap asks same in absurd (cc)
+          ];
+        },
+      )
 
   -- the first that asks is named
-  step-first : (P : Edge → Type 0) (e : Edge) → asks e ≡ true → ((d : Edge) → P d → asks d ≡ true → ⊥) → IsNamedOf ruled asks (λ d. P d ⊎ (d ≡ e)) (record { edge = e; by_rule = ruled e })
+  step-first : (P : Edge → Type 0) (e : Edge) → asks e ≡ true → ((d : Edge) → P d → asks d ≡ true → ⊥)
+      → IsNamedOf ruled asks (λ d. P d ⊎ (d ≡ e)) (record { edge = e; by_rule = ruled e })
   step-first P e asking none =
       record {
         there = inr refl;
@@ -75,7 +85,8 @@ module _ (ruled asks : Edge → Bool) where
       }
 
   -- of one more that asks and one that is named, the one that goes first is named
-  step-next : (P : Edge → Type 0) (e : Edge) (c : Candidate) → asks e ≡ true → IsNamedOf ruled asks P c → IsNamedOf ruled asks (λ d. P d ⊎ (d ≡ e)) (first_of (record { edge = e; by_rule = ruled e }) (Some c))
+  step-next : (P : Edge → Type 0) (e : Edge) (c : Candidate) → asks e ≡ true → IsNamedOf ruled asks P c
+      → IsNamedOf ruled asks (λ d. P d ⊎ (d ≡ e)) (first_of (record { edge = e; by_rule = ruled e }) (Some c))
   step-next P e c asking h =
       elim (cases_Bool (goes_first ruled e c.edge)) [
         | inl hit ↦ rw (h.by_rule, hit) (record {
@@ -98,7 +109,8 @@ module _ (ruled asks : Edge → Bool) where
         })
       ]
 
-  one-step : (P : Edge → Type 0) (o : Option Candidate) (e : Edge) → NamedCases ruled asks P o → NamedCases ruled asks (λ d. P d ⊎ (d ≡ e)) (named_step ruled asks o e)
+  one-step : (P : Edge → Type 0) (o : Option Candidate) (e : Edge) → NamedCases ruled asks P o
+      → NamedCases ruled asks (λ d. P d ⊎ (d ≡ e)) (named_step ruled asks o e)
   one-step P o e h =
       elim (cases_Bool (asks e)) [
         | inr silent ↦ rw silent (step-silent P o e silent h)
@@ -122,7 +134,8 @@ module _ (ruled asks : Edge → Bool) where
       ]
 
   -- over edges one after another
-  all-steps : (es : List Edge) (P : Edge → Type 0) (o : Option Candidate) → NamedCases ruled asks P o → NamedCases ruled asks (λ d. P d ⊎ Contains es d) (fold (named_step ruled asks) o es)
+  all-steps : (es : List Edge) (P : Edge → Type 0) (o : Option Candidate) → NamedCases ruled asks P o
+      → NamedCases ruled asks (λ d. P d ⊎ Contains es d) (fold (named_step ruled asks) o es)
   all-steps [] P o h = same-cases P (λ d. P d ⊎ Contains [] d) o (λ d p. inl p) (λ d q. elim q [
     | inl p ↦ p
     | inr there ↦ let l = there.1 in absurd (omega arith)
@@ -130,7 +143,8 @@ module _ (ruled asks : Edge → Bool) where
   all-steps (e ∷ es) P o h =
       let Q : Edge → Type 0 = λ d. P d ⊎ (d ≡ e) in
       let next = named_step ruled asks o e in
-      same-cases (λ d. Q d ⊎ Contains es d) (λ d. P d ⊎ Contains (e ∷ es) d) (fold (named_step ruled asks) next es) (among-cons P e es) (cons-among P e es) (all-steps es Q next (one-step P o e h))
+      same-cases (λ d. Q d ⊎ Contains es d) (λ d. P d ⊎ Contains (e ∷ es) d) (fold (named_step ruled asks) next es) (among-cons P e es) (cons-among P e es)
+      (all-steps es Q next (one-step P o e h))
 
   -- over all edges
   pub all-named : (es : List Edge) → NamedCases ruled asks (Contains es) (fold (named_step ruled asks) None es)
@@ -141,11 +155,14 @@ module _ (ruled asks : Edge → Bool) where
       ]) (λ d there. inr there) (all-steps es (λ d. ⊥) None (inl (refl, λ d none asking. none)))
 
 -- the candidate that is named is that of the steps
-pub gathered-named : (nw : Network) (st : State) (v : Event) (time : ℕ) (es : List Edge) (d : Due) → (fold (with_edge nw st v time) d es).named ≡ fold (named_step (by_rule nw st v time) (asks_for (event_time nw st) time)) d.named es
+pub gathered-named : (nw : Network) (st : State) (v : Event) (time : ℕ) (es : List Edge) (d : Due)
+    → (fold (with_edge nw st v time) d es).named ≡ fold (named_step (by_rule nw st v time) (asks_for (event_time nw st) time)) d.named es
 gathered-named nw st v time [] d = refl
 gathered-named nw st v time (e ∷ es) d = gathered-named nw st v time es (with_edge nw st v time d e)
 
 -- after one more edge, whose time was read, the edges that are left ask what they did before
-pub one-more : (nw : Network) (st : State) (v : Event) (time from : ℕ) (d next all : Due) (e : Edge) (es : List Edge) → from ≡ event_time nw st e.from → next ≡ with_asked (by_rule nw st v time e) time (from + e.weight) d e → fold (with_edge nw st v time) d (e ∷ es) ≡ all → fold (with_edge nw st v time) next es ≡ all
+pub one-more : (nw : Network) (st : State) (v : Event) (time from : ℕ) (d next all : Due) (e : Edge) (es : List Edge) → from ≡ event_time nw st e.from
+    → next ≡ with_asked (by_rule nw st v time e) time (from + e.weight) d e → fold (with_edge nw st v time) d (e ∷ es) ≡ all
+    → fold (with_edge nw st v time) next es ≡ all
 one-more nw st v time from d next all e es read is h =
     ap (λ x. fold (with_edge nw st v time) x es) (is ∙ ap (λ x. with_asked (by_rule nw st v time e) time (x + e.weight) d e) read) ∙ h

@@ -1,9 +1,7 @@
 -- A chain is told link by link.
-use Rattle.std.proofs.Common.{◌≡◌, ◌∷◌, ℕ, Bool, true, false, List, [], Option, Some, None, refl, sym, ◌∙◌, ap, subst, arith, inl, inr}
+use Rattle.std.proofs.Common.{◌≡◌, ◌≤◌, ◌+◌, ◌++◌, ◌∷◌, append_assoc, arith, ℕ, true, List, [], Option, Some, None, refl, sym, ◌∙◌, ap, subst, inl, inr}
 use Rattle.std.proofs.lemmas.Bool.{cases_Bool}
-use Rattle.std.specs.List.{Contains}
-use Rattle.std.specs.Option.{option_map}
-use Rattle.mt_base.specs.declared.keys.Key.{Key}
+use Rattle.std.specs.Option.{option_map, option_to_list}
 use Rattle.mt_base.specs.declared.keys.Node.{Node}
 use Rattle.mt_base.specs.Order.{node_of}
 use Rattle.delay_model.specs.declared.network.Network.{Network}
@@ -13,7 +11,6 @@ use Rattle.delay_model.specs.Events.{events, event_named, is_live}
 use Rattle.delay_model.specs.Edges.{edges}
 use Rattle.delay_model.specs.Timing.{event_time}
 use Rattle.delay_model.specs.Valid.{IsValid}
-use Rattle.delay_model.proofs.Apart.{events-unique}
 use Rattle.delay_model.proofs.Solve.{valid-graph}
 use Rattle.edge_rules.proofs.Neighbours.{named-there}
 use Rattle.train_nodes.specs.Calls.{has_event}
@@ -27,7 +24,7 @@ use Rattle.cause_laws.specs.Chains.{IsChain, chain, origin, why}
 use Rattle.cause_laws.proofs.Chained.{rest-cases, state-chain}
 use Rattle.cause_laws.proofs.InStates.{state-named, state-nameless, state-unique}
 use Rattle.event_causes.specs.Asking.{TakesPlace}
-use Rattle.event_causes.specs.Following.{links_from, why_after}
+use Rattle.event_causes.specs.Following.{links_from, reads_of, why_after}
 use Rattle.event_causes.proofs.Decided.{live-timed}
 
 -- the live event of a name that has a time
@@ -61,7 +58,8 @@ pub timed-there : (nw : Network) (st : State) → IsValid nw st → (n : Node) (
 timed-there nw st valid n time h = let r = timed nw st valid n time h in named-there st n r.event r.found
 
 -- the event that is found by the name takes place then
-pub found-takes_place : (nw : Network) (st : State) → IsValid nw st → (n : Node) (time : ℕ) (v : Event) → Some time ≡ live_time nw st n → event_named st n ≡ Some v → TakesPlace nw st v time
+pub found-takes_place : (nw : Network) (st : State) → IsValid nw st → (n : Node) (time : ℕ) (v : Event) → Some time ≡ live_time nw st n
+    → event_named st n ≡ Some v → TakesPlace nw st v time
 found-takes_place nw st valid n time v h found =
     let r = timed nw st valid n time h in
     let is = r.found in
@@ -72,13 +70,15 @@ found-takes_place nw st valid n time v h found =
 pub untimed : (nw : Network) (st : State) → IsValid nw st → (n : Node) → None ≡ live_time nw st n → why nw st n ≡ []
 untimed nw st valid n h =
     state-nameless nw st n (λ v there live name.
-    let at : live_time nw st n ≡ Some (event_time nw st v.key) = subst (λ n. live_time nw st n ≡ Some (event_time nw st v.key)) name (live-timed nw st valid v there live) in
+    let at : live_time nw st n ≡ Some (event_time nw st v.key) = subst (λ n. live_time nw st n ≡ Some (event_time nw st v.key)) name
+    (live-timed nw st valid v there live) in
     absurd (cc))
 
 link-agree : (l m : Link) → l.event ≡ m.event → l.time ≡ m.time → l.cause ≡ m.cause → l ≡ m
 link-agree l m p q r = λ i. record { event = p i; time = q i; cause = r i }
 
-first-by : (nw : Network) (st : State) → IsValid nw st → (v : Event) (c : Cause) → cause nw st v ≡ Some c → (ls : List Link) → IsChain nw st v ls → ls ≡ record { event = v.key; time = event_time nw st v.key; cause = c } ∷ why_after nw st (origin c)
+first-by : (nw : Network) (st : State) → IsValid nw st → (v : Event) (c : Cause) → cause nw st v ≡ Some c → (ls : List Link) → IsChain nw st v ls
+    → ls ≡ record { event = v.key; time = event_time nw st v.key; cause = c } ∷ why_after nw st (origin c)
 first-by nw st valid v c is [] h = absurd h
 first-by nw st valid v c is (l ∷ ls) h =
     let t = event_time nw st in
@@ -97,7 +97,8 @@ first-by nw st valid v c is (l ∷ ls) h =
     λ i. same i ∷ (rest ∙ ap (λ c. why_after nw st (origin c)) own) i
 
 -- the chain of a name begins with the event of the name, and goes on with what its cause names
-pub first-is : (nw : Network) (st : State) → IsValid nw st → (n : Node) (time : ℕ) (v : Event) (c : Cause) → Some time ≡ live_time nw st n → event_named st n ≡ Some v → cause nw st v ≡ Some c → why nw st n ≡ record { event = v.key; time = time; cause = c } ∷ why_after nw st (origin c)
+pub first-is : (nw : Network) (st : State) → IsValid nw st → (n : Node) (time : ℕ) (v : Event) (c : Cause) → Some time ≡ live_time nw st n
+    → event_named st n ≡ Some v → cause nw st v ≡ Some c → why nw st n ≡ record { event = v.key; time = time; cause = c } ∷ why_after nw st (origin c)
 first-is nw st valid n time v c h found is =
     let r = timed nw st valid n time h in
     let named = r.found in
@@ -106,5 +107,26 @@ first-is nw st valid n time v c h found is =
     let own : cause nw st u ≡ Some c = ap (cause nw st) same ∙ is in
     let name : why nw st n ≡ chain nw st u = ap (why nw st) (sym r.name) ∙ state-named nw st valid u r.takes_place.there r.live in
     let first = first-by nw st valid u c own (chain nw st u) (state-chain nw st valid u r.takes_place.there) in
-    let link = link-agree (record { event = u.key; time = event_time nw st u.key; cause = c }) (record { event = v.key; time = time; cause = c }) (ap (λ (e : Event). e.key) same) r.takes_place.at refl in
+    let link = link-agree (record { event = u.key; time = event_time nw st u.key; cause = c }) (record { event = v.key; time = time; cause = c })
+    (ap (λ (e : Event). e.key) same) r.takes_place.at refl in
     name ∙ first ∙ ap (λ l. l ∷ why_after nw st (origin c)) link
+
+reads-append : (nw : Network) (st : State) (ls ms : List Link)
+    → reads_of nw st (ls ++ ms) ≡ reads_of nw st ls + reads_of nw st ms
+reads-append nw st [] ms = omega arith
+reads-append nw st (l ∷ ls) ms = let rest = reads-append nw st ls ms in omega arith
+
+-- with one more link, the links so far and those that are still to come are the same chain, and what is read for it is counted
+pub one-more-link : (nw : Network) (st : State) (ls more : List Link) (l : Link) (next : Option Link) (all : List Link) (old steps now : ℕ)
+    → more ≡ ls ++ l ∷ [] → why_after nw st (origin l.cause) ≡ links_from nw st next
+    → ls ++ l ∷ why_after nw st (origin l.cause) ≡ all
+    → steps ≤ old + reads_of nw st (ls ++ l ∷ []) → now ≤ steps + reads_of nw st (option_to_list next)
+    → (more ++ links_from nw st next ≡ all) × (now ≤ old + reads_of nw st (more ++ option_to_list next))
+one-more-link nw st ls more l next all old steps now is rest whole before after =
+    let sums = reads-append nw st more (option_to_list next) in
+    let same = ap (reads_of nw st) is in (
+      ap (λ xs. xs ++ links_from nw st next) is
+          ∙ append_assoc ls (l ∷ []) (links_from nw st next)
+          ∙ ap (λ xs. ls ++ l ∷ xs) (sym rest) ∙ whole,
+      omega arith,
+    )

@@ -1,10 +1,11 @@
 //! What decides the time of one event.
 
-ghost use Rattle.std.specs.Prelude.{◌≡◌, Some, None, All, IsTrue, fold, length};
+ghost use Rattle.std.specs.Prelude.{◌≡◌, ◌+◌, ◌≤◌, Some, None, All, IsTrue, fold, length};
 ghost use Rattle.std.specs.Option.{option_map};
 ghost use Rattle.mt_base.specs.Order.{node_of};
 ghost use Rattle.delay_model.specs.Events.{events, event_named};
-ghost use Rattle.delay_model.specs.Timing.{floor_of};
+ghost use Rattle.delay_model.specs.Edges.{edges};
+ghost use Rattle.delay_model.specs.Timing.{floor_of, incoming};
 ghost use Rattle.train_nodes.specs.Calls.{has_event};
 ghost use Rattle.cause_laws.specs.declared.causes.Cause.TheVariants.{Capped};
 ghost use Rattle.cause_laws.specs.Causes.{by_cap, capper, cause, floor_cause, is_along};
@@ -126,8 +127,9 @@ fn asked_by<L: Ledger>(
     steps: &mut Steps<L>,
 ) -> Due
     requires { All (AsksInTime t.now.network t.now.state) edges }
-    ensures { result ≡ fold (with_edge t.now.network t.now.state at.now time)
+    ensures due { result ≡ fold (with_edge t.now.network t.now.state at.now time)
         (record { time = floor_of at.now; named = None }) edges.entry }
+    ensures cost { steps.new ≡ steps.old + length edges.entry }
 {
     let graph = t.graph();
     let mut due = Due {
@@ -209,15 +211,13 @@ fn due_cause(at: &Event, time: Time, due: &Due) -> Cause
     }
 }
 
-/// What decides the time of a live event, which takes place at this time.
-pub(crate) fn cause<L: Ledger>(
-    t: &Timetable,
-    at: &Event,
-    time: Time,
-    steps: &mut Steps<L>,
-) -> Cause
+/// What decides the time of a live event, which takes place at this time. At most so many steps are
+/// taken as edges lead to it.
+pub(crate) fn cause<L: Ledger>(t: &Timetable, at: &Event, time: Time, steps: &mut Steps<L>) -> Cause
     requires { TakesPlace t.now.network t.now.state at.now time }
-    ensures { cause t.now.network t.now.state at.now ≡ Some result }
+    ensures cause { cause t.now.network t.now.state at.now ≡ Some result }
+    ensures cost { steps.new ≤ steps.old
+        + length (incoming (edges t.now.network t.now.state) at.now.key) }
 {
     if at.report.is_some() {
         return Cause::Report;

@@ -1,8 +1,9 @@
 //! The chain of events that decides the time of an event.
 
-ghost use Rattle.std.specs.Prelude.{◌≡◌, IfOk};
+ghost use Rattle.std.specs.Prelude.{◌≡◌, ◌+◌, ◌≤◌, IfOk};
+ghost use Rattle.std.specs.Option.{option_to_list};
 ghost use Rattle.cause_laws.specs.Chains.{origin, why};
-ghost use Rattle.event_causes.specs.Following.{links_from, why_after};
+ghost use Rattle.event_causes.specs.Following.{links_from, reads_of, why_after};
 
 use crate::cause::cause;
 use cause_laws::causes::{Cause, Link};
@@ -20,16 +21,17 @@ fn origin(cause: &Cause) -> Option<Key>
     match cause {
         Cause::Report | Cause::Schedule | Cause::Forecast => None,
         Cause::Capped { by } => Some(*by),
-        Cause::Run { from }
-        | Cause::Stop { from }
-        | Cause::Hold { from }
-        | Cause::Kept { from } => Some(*from),
+        Cause::Run { from } | Cause::Stop { from } | Cause::Hold { from } | Cause::Kept { from } =>
+            Some(*from),
     }
 }
 
 /// The first link of the chain of the live event of a name; none where no live event has it.
 fn first_link<L: Ledger>(t: &Timetable, n: &Node, steps: &mut Steps<L>) -> Option<Link>
-    ensures { why t.now.network t.now.state n.now ≡ links_from t.now.network t.now.state result }
+    ensures link { why t.now.network t.now.state n.now
+        ≡ links_from t.now.network t.now.state result }
+    ensures cost { steps.new ≤ steps.old
+        + reads_of t.now.network t.now.state (option_to_list result) }
 {
     t.state_is_valid();
     let time = t.time(*n, steps)?;
@@ -44,8 +46,10 @@ fn first_link<L: Ledger>(t: &Timetable, n: &Node, steps: &mut Steps<L>) -> Optio
 
 /// The link after this one; none at the end of the chain.
 fn next_link<L: Ledger>(t: &Timetable, link: &Link, steps: &mut Steps<L>) -> Option<Link>
-    ensures { why_after t.now.network t.now.state (origin link.now.cause)
+    ensures link { why_after t.now.network t.now.state (origin link.now.cause)
         ≡ links_from t.now.network t.now.state result }
+    ensures cost { steps.new ≤ steps.old
+        + reads_of t.now.network t.now.state (option_to_list result) }
 {
     match origin(&link.cause) {
         None => None,
@@ -61,7 +65,9 @@ pub fn why<L: Ledger>(
     n: Node,
     steps: &mut Steps<L>,
 ) -> Result<Vec<Link>, OutOfMemory>
-    ensures { IfOk result (λ links. links.items ≡ why t.now.network t.now.state n) }
+    ensures chain { IfOk result (λ links. links.items ≡ why t.now.network t.now.state n) }
+    ensures cost { IfOk result (λ links. steps.new ≤ steps.old
+        + reads_of t.now.network t.now.state links.items) }
 {
     let mut links = Vec::new(alloc);
     let mut next = first_link(t, &n, steps);

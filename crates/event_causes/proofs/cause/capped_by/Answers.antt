@@ -11,16 +11,19 @@ pub next_report-requires : goal.next_report-requires
 next_report-requires c = rw c.node.ensures (named-there c.args.trains.now (node_of c.args.at.now.key) c.args.at.now c.requires)
 
 pub returns-in_err-report : goal.returns-in_err-report
-returns-in_err-report c = ap (option_map Capped) c.from_residual.ensures ∙ cap-none c.args.trains.now c.args.at.now c.args.due c.requires (rw c.node.ensures at c.in_err-report.ensures)
+returns-in_err-report c = ap (option_map Capped) c.from_residual.ensures
+    ∙ cap-none c.args.trains.now c.args.at.now c.args.due c.requires (rw c.node.ensures at c.in_err-report.ensures)
 
 pub returns-then-seconds-due : goal.returns-then-seconds-due
 returns-then-seconds-due c =
-    let before : nat_lt c.in_ok-report.report c.args.due ≡ true = lt-ltb c.in_ok-report.report c.args.due (rw c.seconds.ensures.value at c.if-seconds-due.true) in
+    let before : nat_lt c.in_ok-report.report c.args.due ≡ true = lt-ltb c.in_ok-report.report c.args.due
+    (rw c.seconds.ensures.value at c.if-seconds-due.true) in
     let all = cap-some c.args.trains.now c.args.at.now c.args.due c.in_ok-report.report c.requires (rw c.node.ensures at c.in_ok-report.ensures) in
     ap (option_map Capped) c.next_reported.ensures ∙ rw before at all
 
 pub returns-else-seconds-due : goal.returns-else-seconds-due
 returns-else-seconds-due c =
-    let before : nat_lt c.in_ok-report.report c.args.due ≡ false = le-ltb c.in_ok-report.report c.args.due (rw c.seconds.ensures.value at c.if-seconds-due.false) in
+    let before : nat_lt c.in_ok-report.report c.args.due ≡ false = le-ltb c.in_ok-report.report c.args.due
+    (rw c.seconds.ensures.value at c.if-seconds-due.false) in
     let all = cap-some c.args.trains.now c.args.at.now c.args.due c.in_ok-report.report c.requires (rw c.node.ensures at c.in_ok-report.ensures) in
     rw before at all
