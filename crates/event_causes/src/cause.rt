@@ -144,7 +144,7 @@ fn asked_by<L: Ledger>(
     due
 }
 
-/// The first of a train's live events behind one that is reported.
+/// The first live event behind this one along its train that is reported.
 fn next_reported(trains: &Trains, at: &Event) -> Option<Key>
     requires { event_named trains.now (node_of at.now.key) ≡ Some at.now }
     ensures { result ≡ option_map (λ u. u.key) (capper (events trains.now) at.now) }

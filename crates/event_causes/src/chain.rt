@@ -58,7 +58,8 @@ fn next_link<L: Ledger>(t: &Timetable, link: &Link, steps: &mut Steps<L>) -> Opt
 }
 
 /// The chain that decides the time of the live event of a name, from the event back; no link where
-/// no live event has the name. `OutOfMemory` where there is no memory.
+/// no live event has the name. For each link at most the time of its event is read, and the times of
+/// the events from which edges lead to it. `OutOfMemory` where there is no memory.
 pub fn why<L: Ledger>(
     alloc: Global,
     t: &Timetable,
