@@ -59,7 +59,7 @@ floor-by false s (Some f) x h = inr (refl, ap Some h, λ departure. absurd (cc))
 pub floor-is : (v : Event) (x : ℕ) → floor_of v ≡ x → FloorCases (floor_cause v) v.key.dep v.key.time v.forecast x
 floor-is v x h = floor-by v.key.dep v.key.time v.forecast x h
 
-edge-explains : (es : List Event) (gs rule : List Edge) (t : Key → ℕ) (v : Event) (e : Edge) → v.report ≡ None → IsDecidedBy gs rule t v e.from e → Explains es gs rule t v (edge_cause e (holds_by_rule rule (t v.key) e))
+pub edge-explains : (es : List Event) (gs rule : List Edge) (t : Key → ℕ) (v : Event) (e : Edge) → v.report ≡ None → IsDecidedBy gs rule t v e.from e → Explains es gs rule t v (edge_cause e (holds_by_rule rule (t v.key) e))
 edge-explains es gs rule t v e none by =
     let hit = holds_by_rule rule (t v.key) e in
     cond_both (is_along e.kind) (cond e.from.dep (Run e.from) (Stop e.from)) (cond hit (Hold e.from) (Kept e.from)) (Explains es gs rule t v)

@@ -144,15 +144,15 @@ trans-by true false false cd dx cx h k f = absurd (cc)
 trans-by false false false cd dx cx h k f = f h k
 
 module _ (ruled : Edge → Bool) where
-  first-itself : (e : Edge) → goes_first ruled e e ≡ false
+  pub first-itself : (e : Edge) → goes_first ruled e e ≡ false
   first-itself e = itself-by (is_along e.kind) _ (between-itself (ruled e) (is_before e.from e.from) (before-itself e.from))
 
-  first-asym : (d e : Edge) → goes_first ruled d e ≡ true → goes_first ruled e d ≡ false
+  pub first-asym : (d e : Edge) → goes_first ruled d e ≡ true → goes_first ruled e d ≡ false
   first-asym d e h =
       asym-by (is_along e.kind) (is_along d.kind) _ _ h (λ k.
       between-asym (ruled d) (ruled e) (is_before d.from e.from) (is_before e.from d.from) k (before-asymmetric d.from e.from))
 
-  first-trans : (c d x : Edge) → goes_first ruled c d ≡ false → goes_first ruled d x ≡ false → goes_first ruled c x ≡ false
+  pub first-trans : (c d x : Edge) → goes_first ruled c d ≡ false → goes_first ruled d x ≡ false → goes_first ruled c x ≡ false
   first-trans c d x h k =
       trans-by (is_along c.kind) (is_along d.kind) (is_along x.kind) _ _ _ h k
       (λ l m. between-trans (ruled c) (ruled d) (ruled x) (is_before c.from d.from) (is_before d.from x.from) (is_before c.from x.from) l m

@@ -2,6 +2,6 @@
 #![tactic(auto)]
 
 mod cause;
-pub mod why;
+pub mod chain;
 
-pub use why::why;
+pub use chain::why;

@@ -1,0 +1,5 @@
+mod Cappers
+mod Ruled
+mod Gathered
+mod Decided
+mod LinkByLink
