@@ -4,7 +4,8 @@ ghost use Rattle.std.specs.Prelude.{◌≡◌, IfOk, IsTrue};
 ghost use Rattle.board_laws.specs.Boards.{board};
 ghost use Rattle.train_nodes.specs.Calls.{has_call};
 ghost use Rattle.timetable.specs.Onward.{IsDepartureOrder};
-ghost use Rattle.departures.specs.Rows.{goes_from, is_of_station, row_at};
+ghost use Rattle.delay_model.specs.Changes.{station};
+ghost use Rattle.departures.specs.Rows.{AreStopsOf, goes_from, is_of_station, row_at};
 
 use board_laws::rows::BoardRow;
 use dep_order::{DepartureOrder, Leaving};
@@ -37,22 +38,64 @@ fn goes_to(trains: &Trains, from: &Key) -> StopNo
     to
 }
 
-/// Whether a stop is one of a station. The number past all stops is of none.
-fn is_of_station(t: &Timetable, station: StopNo, stop: StopNo) -> bool
-    ensures { result ≡ is_of_station t.now.network station stop }
+/// A station, and the numbers between which its stops lie, both included: none lies between them
+/// where the first is past the last.
+#[derive(Clone, Copy)]
+struct StationStops {
+    station: StopNo,
+    first: u32,
+    last: u32,
+}
+
+/// The station of a place and between which numbers its stops lie, by one pass over all stops.
+fn stops_of_station(t: &Timetable, place: StopNo) -> StationStops
+    ensures of_place { result.station ≡ station t.now.network.stops place }
+    ensures stops { AreStopsOf t.now.network result }
 {
     let changes = t.graph().changes();
-    stop.get() < changes.stops() && station == changes.station(stop)
+    let station = changes.station(place);
+    let mut first = u32::MAX;
+    let mut last = 0;
+    for number in 0..changes.stops() {
+        if station == changes.station(StopNo::new(number)) {
+            first = first.min(number);
+            last = number;
+        }
+    }
+    StationStops {
+        station,
+        first,
+        last,
+    }
+}
+
+/// Whether a stop is one of a station. The number past all stops is of none. The station of a stop
+/// is looked up only where the stop lies between those of the station.
+#[inline(always)]
+fn is_of_station(t: &Timetable, here: &StationStops, stop: StopNo) -> bool
+    requires { AreStopsOf t.now.network here.now }
+    ensures { result ≡ is_of_station t.now.network here.now.station stop }
+{
+    here.first <= stop.get()
+        && stop.get() <= here.last
+        && here.station == t.graph().changes().station(stop)
 }
 
 /// The row of a departure as a scan of the order comes to it. None where passengers may not board
 /// it at the station.
-fn row_at(t: &Timetable, order: &DepartureOrder, station: StopNo, d: &Leaving) -> Option<BoardRow>
-    requires { IsDepartureOrder t.now.network t.now.state order.now }
-    ensures { result ≡ row_at t.now.network t.now.state order.now station d.now }
+#[inline(always)]
+fn row_at(
+    t: &Timetable,
+    order: &DepartureOrder,
+    here: &StationStops,
+    d: &Leaving,
+) -> Option<BoardRow>
+    requires order { IsDepartureOrder t.now.network t.now.state order.now }
+    requires stops { AreStopsOf t.now.network here.now }
+    ensures { result ≡ row_at t.now.network t.now.state order.now here.now.station d.now }
 {
     t.state_is_valid();
-    if !is_of_station(t, station, d.stop) {
+    if !is_of_station(t, here, d.stop) {
         return None;
     }
     let event = order.departure(d.number)?.key;
@@ -80,13 +123,13 @@ pub fn board(
     t.calls_are_at_stops();
     let order = t.departures();
     order.departures_are_in_order();
-    let station = t.graph().changes().station(place);
+    let here = stops_of_station(t, place);
     let mut rows = Vec::new(alloc);
     for d in order.departures_from(since) {
         if rows.len() == most as usize {
             return Ok(rows);
         }
-        if let Some(row) = row_at(t, order, station, &d) {
+        if let Some(row) = row_at(t, order, &here, &d) {
             rows.push(row)?;
         }
     }

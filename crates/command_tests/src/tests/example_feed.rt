@@ -218,3 +218,17 @@ pub(super) const FLUSH: &str = r#"{"v":1,"type":"flush"}"#;
 
 /// How the program is called, as the error stream has it.
 pub(super) const USAGE: &str = "traind: usage: traind COMMAND FEED --from DATE or traind gen N\n";
+
+/// Asks why T2 arrives when it does, what departs next from the station B, and why T2 departs from
+/// its last call, which it does not.
+pub(super) const QUESTIONS: &str =
+    r#"{"v":1,"type":"why","trip":"T2","date":"20260105","call":1,"event":"arr"}
+{"v":1,"type":"departures","client":"c1","stop":"B","date":"20260105","time":"08:33:00","rows":2}
+{"v":1,"type":"why","trip":"T2","date":"20260105","call":1,"event":"dep"}"#;
+
+/// The replies to the forecast of T1 and to these questions, where T2 waits for T1.
+pub(super) const DESK_REPLIES: &str = r#"{"accepted":1,"changed":5,"line":1}
+{"after":1,"because":[{"by":"run","call":1,"date":"20260105","event":"arr","time":"09:13:00","trip":"T2"},{"by":"hold","call":0,"date":"20260105","event":"dep","time":"08:39:00","trip":"T2"},{"by":"forecast","call":1,"date":"20260105","event":"arr","time":"08:36:00","trip":"T1"}],"line":2}
+{"after":1,"departures":[{"call":1,"date":"20260105","scheduled":"08:32:00","stop":"B1","time":"08:37:00","to":"C","trip":"T1"},{"call":0,"date":"20260105","scheduled":"08:36:00","stop":"B2","time":"08:39:00","to":"D","trip":"T2"}],"line":3}
+{"line":4,"refused":"Unknown"}
+"#;

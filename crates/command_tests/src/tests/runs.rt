@@ -1,10 +1,10 @@
 //! Runs of each command, one by one, with all that each must write.
 
 use crate::tests::example_feed::{
-    ACCEPTED, BACKWARDS, BACKWARDS_REPLY, CANCEL, CLAIM, CLAIM_REPLIES, EARLIER, EXTRA,
-    EXTRA_REPLIES, FLUSH, FORECAST, HEADER, KEEP, MISSED, NO_TRAIN, ON_TIME, PLANS_REPLIES, QUERY,
-    QUERY_REPLIES, REPLIES, REPORT, SHORT_QUERIES, SHORT_REPLIES, T1, T1_LATE, T1_MISSED, T2,
-    T2_HELD, USAGE, WATCH_REPLIES, X1,
+    ACCEPTED, BACKWARDS, BACKWARDS_REPLY, CANCEL, CLAIM, CLAIM_REPLIES, DESK_REPLIES, EARLIER,
+    EXTRA, EXTRA_REPLIES, FLUSH, FORECAST, HEADER, HELD, KEEP, MISSED, NO_TRAIN, ON_TIME,
+    PLANS_REPLIES, QUERY, QUERY_REPLIES, QUESTIONS, REPLIES, REPORT, SHORT_QUERIES, SHORT_REPLIES,
+    T1, T1_LATE, T1_MISSED, T2, T2_HELD, USAGE, WATCH_REPLIES, WITH_RULES, X1,
 };
 use crate::tests::{CASE, Case, Ended, bytes_of, is_end, is_next, run, words_of};
 use commands::{Status, traind};
@@ -168,6 +168,19 @@ const WATCH_RUNS: [Run; 1] = [Run {
     },
     input: &[QUERY, "\n", MISSED, "\n", QUERY, "\n", ON_TIME],
     out: &[WATCH_REPLIES],
+    ..WELL
+}];
+
+/// A run of `desk` on the feed in which T2 waits for T1.
+const DESK_RUNS: [Run; 1] = [Run {
+    shows: "why a train is late that waits for another, and what departs from their station",
+    case: Case {
+        words: "desk feed --from 20260105 --slack 0",
+        tables: &WITH_RULES,
+        ..CASE
+    },
+    input: &[HELD, "\n", QUESTIONS],
+    out: &[DESK_REPLIES],
     ..WELL
 }];
 
@@ -414,6 +427,12 @@ fn plans_are_shown(rt: HostRuntime) -> Result<(), Fail> {
 #[test]
 fn journeys_are_watched(rt: HostRuntime) -> Result<(), Fail> {
     assert_eq!(rt; first_wrong(&rt, rt.alloc(), &WATCH_RUNS)?, None);
+    Ok(())
+}
+
+#[test]
+fn questions_are_answered(rt: HostRuntime) -> Result<(), Fail> {
+    assert_eq!(rt; first_wrong(&rt, rt.alloc(), &DESK_RUNS)?, None);
     Ok(())
 }
 
