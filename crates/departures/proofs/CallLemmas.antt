@@ -1,12 +1,10 @@
 -- Where a train goes, along its calls.
-use Rattle.std.proofs.Common.{◌≡◌, inl, inr, ℕ, suc, ◌<◌, Bool, true, false, cond, List, [], ◌∷◌}
+use Rattle.std.proofs.Common.{◌≡◌, ℕ, suc, ◌<◌, Bool, true, false, cond, List, [], ◌∷◌}
 use Rattle.std.proofs.Common.{◌++◌, Option, Some, None, is_some, find, length, slice_get, refl, sym, ◌∙◌, ap, subst, arith}
-use Rattle.std.proofs.Math.Logic.{◌≢◌}
 use Rattle.std.specs.List.{All}
 use Rattle.std.specs.Option.{option_map, option_map_or}
-use Rattle.std.proofs.lemmas.Bool.{cases_Bool, eqb-true, eq-eqb, ne_eqb}
 use Rattle.std.proofs.lemmas.List.{append_assoc}
-use Rattle.std.proofs.lemmas.List.Elements.{All-contains, All-get_or, Contains-append_right}
+use Rattle.std.proofs.lemmas.List.Elements.{All-get_or}
 use Rattle.std.proofs.lemmas.Option.{get_or_from_slice_get, none-some, same_Some, slice_get_within}
 use Rattle.delay_model.specs.declared.state.Call.{Call}
 use Rattle.delay_model.specs.declared.state.Train.{Train}
@@ -17,36 +15,12 @@ use Rattle.delay_model.specs.Events.{calls_of, is_live}
 use Rattle.delay_model.specs.Valid.{HasDistinctLabels}
 use Rattle.train_nodes.specs.Calls.{call_named, has_call, label_after, values_of}
 use Rattle.train_nodes.proofs.EventLemmas.{live-named}
+use Rattle.journey_laws.proofs.RideLemmas.{is-at, labelled}
 use Rattle.board_laws.specs.Boards.{goes_to}
 
 -- the calls of a train after the one with a label
 abbrev pub calls_behind : State → ℕ → ℕ → List Call
 calls_behind st train label = after (is_call label) (calls_of st train)
-
--- a call is found by its label where no two have one label, and what stands after it too
-pub labelled : (earlier : List Call) (c : Call) (cs : List Call) → HasDistinctLabels (earlier ++ c ∷ cs)
-    → (find (is_call c.label) (earlier ++ c ∷ cs) ≡ Some c) × (after (is_call c.label) (earlier ++ c ∷ cs) ≡ cs)
-labelled [] c cs distinct = let own = eq-eqb c.label c.label refl in (rw own refl, rw own refl)
-labelled (b ∷ earlier) c cs distinct =
-    let there = Contains-append_right earlier (c ∷ cs) c (0, omega arith, refl) in
-    let apart = ne_eqb b.label c.label (All-contains (λ (d : Call). b.label ≢ d.label) (earlier ++ c ∷ cs) c distinct.0 there) in
-    let rest = labelled earlier c cs distinct.1 in
-    (rw apart rest.0, rw apart rest.1)
-
--- what is found by a label stands before what is after it
-pub record IsAt (label : ℕ) (cs : List Call) (c : Call) : Type 0 where
-  pub earlier : List Call
-  pub split : cs ≡ earlier ++ c ∷ after (is_call label) cs
-  pub named : c.label ≡ label
-
-pub is-at : (label : ℕ) (cs : List Call) (c : Call) → find (is_call label) cs ≡ Some c → IsAt label cs c
-is-at label [] c found = absurd (none-some c found)
-is-at label (d ∷ ds) c found = elim (cases_Bool (is_call label d)) [
-  | inl here ↦ record { earlier = []; split = grind (arith, here, found); named = grind (arith, here, found, eqb-true d.label label here) }
-  | inr apart ↦
-      let at = is-at label ds c (rw apart at found) in
-      record { earlier = d ∷ at.earlier; split = rw apart (ap (λ es. d ∷ es) at.split); named = at.named }
-]
 
 -- the labels of a train's calls differ
 pub own-labels : (st : State) → All (λ (t : Train). HasDistinctLabels t.calls) st.trains → (train : ℕ) → HasDistinctLabels (calls_of st train)

@@ -36,7 +36,7 @@ use Rattle.board_laws.specs.declared.rows.BoardRow.{BoardRow}
 use Rattle.board_laws.specs.Boards.{IsRow, goes_to}
 use Rattle.board_laws.proofs.RowLemmas.{reaches-one, row-is, shown-by}
 use Rattle.departures.specs.Rows.{goes_from, is_of_station}
-use Rattle.departures.proofs.CallLemmas.{is-at, labelled}
+use Rattle.journey_laws.proofs.RideLemmas.{is-at, labelled}
 
 -- the row of a departure
 abbrev pub shown_row : State → Departure → BoardRow
