@@ -9,8 +9,8 @@ are late, and these are sent first. A feed of a size is made as there.
 
 On each feed it asks for boards of 20 rows, or as many as it is told, at times over the day: of
 the station with the most departures, of that with the fewest, at its time of day and from the
-first second on, and of stations drawn evenly; and why events are when they are, drawn evenly
-among the arrivals of the day and among the trains that the messages name. A round has a run
+first second on, and of stations drawn evenly; and, twenty times as often, why events are when
+they are, the last arrivals of trains drawn evenly among all and among those that the messages name. A round has a run
 on the messages alone and one on each kind of question behind them. It prints the seconds of
 the run on the messages, and the milliseconds of a question of each kind without those, each
 the median of five rounds. Seconds are those of a clock, or with --cpu those of all processors.
@@ -35,6 +35,8 @@ from plans import MADE, MAKER, SIZES, made_feed, options_of  # noqa: E402
 from times import DATE, PROGRAM  # noqa: E402
 
 QUESTIONS, ROUNDS, ROWS = 1_000, 5, 20
+# So many times as many events are asked about, since a chain takes so little.
+MORE = 20
 
 
 def read_words():
@@ -89,8 +91,8 @@ class Questions:
         """The questions of each kind, by its name."""
         first, last = self.stations[0], self.stations[-1]
         trips = [*self.labels]
-        drawn = [self.random.choice(trips) for _ in range(self.number)]
-        named = [self.random.choice(self.named) for _ in range(self.number)] if self.named else []
+        drawn = [self.random.choice(trips) for _ in range(MORE * self.number)]
+        named = [self.random.choice(self.named) for _ in range(MORE * self.number)] if self.named else []
         return {
             "most departures": self.over_the_day(lambda: last),
             "fewest departures": self.over_the_day(lambda: first),
