@@ -1,9 +1,5 @@
 -- Whether some element of a list passes a test.
-use Rattle.waiting_rules.proofs.Words.{◌≡◌, Bool, true, false, ◌&&◌, ◌||◌, List, [], ◌∷◌, map, refl, sym, ◌∙◌, ap, inl, inr, list_any, cases_Bool}
-
-pub any-map : {X Y : Type 0} (f : X → Y) (p : Y → Bool) (xs : List X) → list_any (λ x. p (f x)) xs ≡ list_any p (map f xs)
-any-map f p [] = refl
-any-map f p (x ∷ xs) = ap (λ b. p (f x) || b) (any-map f p xs)
+use Rattle.waiting_rules.proofs.Words.{◌≡◌, Bool, true, false, ◌&&◌, ◌||◌, List, [], ◌∷◌, refl, sym, ◌∙◌, ap, inl, inr, list_any, cases_Bool}
 
 pub none-false : {X : Type 0} (xs : List X) → list_any (λ (x : X). false) xs ≡ false
 none-false [] = refl

@@ -1,5 +1,5 @@
 -- Flags of locations, and the trains that wait.
-use Rattle.waiting_rules.proofs.Words.{All, map, ◌≡◌, ◌<◌, ℕ, zero, suc, Bool, true, false, List, [], ◌∷◌, ◌++◌, length, Option, Some, None, get_or, nat_eq, cond, ◌&&◌, ◌||◌, refl, sym, ◌∙◌, ap, arith, is_at, list_any, option_map_or, list_any-append, RuleRow, is_empty_or, Connecting, Part, Scope, ArePartsOf, IsPartOf, has_wait, makes_wait, connecting_cmp, connecting_of, is_connecting, all_connecting, names_stop, flag_at, HasWaiting, in_waiting, station_in, some_waits}
+use Rattle.waiting_rules.proofs.Words.{◌≡◌, ◌<◌, ℕ, zero, suc, Bool, true, false, List, [], ◌∷◌, ◌++◌, length, Option, Some, None, get_or, nat_eq, cond, ◌&&◌, ◌||◌, refl, sym, ◌∙◌, ap, arith, is_at, list_any, option_map_or, list_any-append, RuleRow, is_empty_or, Connecting, waits_among, has_wait, makes_wait, connecting_cmp, connecting_of, is_connecting, all_connecting, names_stop, flag_at, HasWaiting, in_waiting, station_in, some_waits}
 use Rattle.std.proofs.Common.{is_none}
 use Rattle.std.specs.BTreeSet.{BTreeSet}
 use Rattle.waiting_rules.specs.Waiting.{names_none, AreFlags, HasFlags}
@@ -14,17 +14,10 @@ some-wait rules route stop station =
     any-swapped has_wait is_connecting (all_connecting route stop station) rules
     ∙ ap (λ t. list_any t rules) (λ i rule. has_wait rule && six-connecting route stop station rule i)
 
-waits-each : (rules : List RuleRow) (places : List (Scope × ℕ)) (parts : List Part) → All (IsPartOf rules places) parts → list_any (λ (p : Part). p.waits) parts ≡ list_any (λ (c : Connecting). list_any (λ rule. has_wait rule && is_connecting c rule) rules) (map (λ (p : Part). p.connecting) parts)
-waits-each rules places [] h = refl
-waits-each rules places (p ∷ ps) h =
-    (λ i. (h 0 p (omega arith)).waits i || waits-each rules places ps (λ k d l. h (suc k) d (omega arith)) i)
-
--- some of the parts of a stop and its station wait where some rule with a wait above 0 fits
-pub some-parts : (parents : List (Option ℕ)) (rules : List RuleRow) (places : List (Scope × ℕ)) (route stop station : ℕ) (all : List Connecting) (parts : List Part) (r : Bool) → ArePartsOf all rules places parts → station ≡ station_in parents stop → all ≡ all_connecting route stop station → r ≡ list_any (λ (p : Part). p.waits) parts → r ≡ some_waits (record { parents = parents; rules = rules }) route stop
-some-parts parents rules places route stop station all parts r h at six is =
-    is ∙ waits-each rules places parts h.each
-    ∙ ap (list_any (λ (c : Connecting). list_any (λ rule. has_wait rule && is_connecting c rule) rules)) (h.connecting ∙ six)
-    ∙ some-wait rules route stop station
+-- some of the trains at a stop and its station wait where some rule with a wait above 0 fits
+pub some-trains : (parents : List (Option ℕ)) (rules : List RuleRow) (route stop station : ℕ) (r : Bool) → station ≡ station_in parents stop → r ≡ list_any (waits_among rules) (all_connecting route stop station) → r ≡ some_waits (record { parents = parents; rules = rules }) route stop
+some-trains parents rules route stop station r at is =
+    is ∙ some-wait rules route stop station
     ∙ ap (λ t. list_any (λ rule. has_wait rule && makes_wait route stop t rule) rules) at
 
 by-field : (w r : Bool) (field : Option ℕ) (stop station : ℕ) → (w && (r && (is_empty_or field stop || is_empty_or field station))) ≡ true → ((w && is_none field) || ((w && option_map_or (λ n. nat_eq n stop) field false) || (w && option_map_or (λ n. nat_eq n station) field false))) ≡ true

@@ -2,8 +2,10 @@ pub mod Words
 pub mod Firsts
 pub mod Anys
 pub mod Orders
+pub mod Ranges
 pub mod PlaceLemmas
 pub mod PartLemmas
+pub mod RouteLemmas
 pub mod FitLemmas
 pub mod BoundLemmas
 pub mod FlagLemmas

@@ -1,5 +1,5 @@
 -- What is kept of waiting rules, so that the first one that fits is found.
-use Rattle.std.specs.Prelude.{◌≡◌, ℕ, ◌≤◌, Bool, List, length, slice_range, Option}
+use Rattle.std.specs.Prelude.{◌≡◌, ℕ, ◌≤◌, Bool, List, All, length, slice_range, Option}
 use Rattle.std.specs.BTreeMap.{is_at}
 use Rattle.std.specs.List.{position, list_any}
 use Rattle.std.specs.List.Sorted.{IsStrictlySortedBy}
@@ -32,14 +32,20 @@ pub record AreFirst (rules : List RuleRow) (first_rules : List (Scope × ℕ)) :
 abbrev pub scope : Connecting → Option ℕ → Scope
 scope connecting feeder = record { connecting = connecting; feeder = feeder }
 
--- the part has the places of all scopes with its trains
-pub record IsPart (places : List (Scope × ℕ)) (part : Part) : Type 0 where
+-- the part is within so many places
+pub record IsWithin (count : ℕ) (part : Part) : Type 0 where
   pub order : part.start ≤ part.end
-  pub within : part.end ≤ length places
-  pub all : (feeder : Option ℕ) → place_of (slice_range places part.start part.end)
-      (scope part.connecting feeder) ≡ place_of places (scope part.connecting feeder)
+  pub within : part.end ≤ count
 
--- the rule has the scope of some part with this field for the feeder's route
-abbrev pub is_in : List Part → Option ℕ → RuleRow → Bool
-is_in parts feeder rule =
-    list_any (λ part. has_scope (scope part.connecting feeder) rule) parts
+-- the part has the places of all scopes with these trains, and no others
+pub record IsPart (places : List (Scope × ℕ)) (connecting : Connecting) (part : Part) : Type 0 where
+  pub bound : IsWithin (length places) part
+  pub trains : All (λ place. place.0.connecting ≡ connecting)
+      (slice_range places part.start part.end)
+  pub all : (feeder : Option ℕ) → place_of (slice_range places part.start part.end)
+      (scope connecting feeder) ≡ place_of places (scope connecting feeder)
+
+-- the rule has the scope of some of the trains with this field for the feeder's route
+abbrev pub is_in : List Connecting → Option ℕ → RuleRow → Bool
+is_in trains feeder rule =
+    list_any (λ connecting. has_scope (scope connecting feeder) rule) trains

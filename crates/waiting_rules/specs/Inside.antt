@@ -9,8 +9,8 @@ use Rattle.waiting_rules.specs.declared.waits.Waits.TheInside.{Inside}
 
 -- no rule has a wait above 86,400 seconds, and what is kept is that of the rules of the file
 pub record IsConsistent (a : Inside) : Type 0 where
-  pub longest : All (λ (rule : RuleRow). rule.max_wait ≤ 86400) a.rules.items
-  pub first_rules : AreFirst a.rules.items a.first_rules.items
-  pub bounds : HasBounds a.rules.items a.first_rules.items a.bounds
-  pub flags : HasFlags a.parents.items a.rules.items a.flags.items
-  pub greatest : a.longest_wait ≡ longest_wait a.rules.items
+  pub longest : All (λ (rule : RuleRow). rule.max_wait ≤ 86400) a.rows.rules.items
+  pub first_rules : AreFirst a.rows.rules.items a.rows.first_rules.items
+  pub bounds : HasBounds a.rows.rules.items a.rows.first_rules.items a.bounds
+  pub flags : HasFlags a.rows.parents.items a.rows.rules.items a.flags.items
+  pub greatest : a.longest_wait ≡ longest_wait a.rows.rules.items

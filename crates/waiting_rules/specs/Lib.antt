@@ -6,3 +6,4 @@ pub mod Waiting
 pub mod Bounded
 pub mod Inside
 pub mod InsideClass
+pub mod InsideRoutes

@@ -1,5 +1,5 @@
 -- What waiting rules are for, by the fields that they give.
-use Rattle.std.specs.Prelude.{ℕ, Bool, List, [], ◌∷◌, Some, None}
+use Rattle.std.specs.Prelude.{ℕ, ◌+◌, Bool, List, Option, [], ◌∷◌, Some, None}
 use Rattle.std.specs.declared.cmp.Ordering.{Ordering}
 use Rattle.std.specs.BTreeMap.{is_at}
 use Rattle.std.specs.Option.{option_cmp}
@@ -15,6 +15,16 @@ connecting_of rule = record { route = rule.connecting; stop = rule.stop }
 -- what a rule is for
 abbrev pub scope_of : RuleRow → Scope
 scope_of rule = record { connecting = connecting_of rule; feeder = rule.feeder }
+
+-- trains by these fields
+abbrev pub trains : Option ℕ → Option ℕ → Connecting
+trains route stop = record { route = route; stop = stop }
+
+-- the row of the rules with this field for the route: the first for all routes, and for each route
+-- the one behind its number
+abbrev pub row_of : Option ℕ → ℕ
+row_of None = 0
+row_of (Some route) = route + 1
 
 -- trains in the order of their routes and then of stops, an empty field before any other
 abbrev pub connecting_cmp : Connecting → Connecting → Ordering

@@ -1,6 +1,7 @@
 //! The first rule of each scope.
 
-ghost use Rattle.std.specs.Prelude.{◌≡◌, ◌<◌, ◌^◌, List, [], ◌∷◌, ◌++◌, IfOk, OnOk, length};
+ghost use Rattle.std.specs.Prelude.{◌≡◌, ◌<◌, ◌≤◌, ◌+◌, ◌^◌, List, [], ◌∷◌, ◌++◌, length};
+ghost use Rattle.std.specs.Prelude.{IfOk, OnOk};
 ghost use Rattle.mt_base.specs.declared.tables.RuleRow.{RuleRow as ARule};
 ghost use Rattle.waiting_rules.specs.Indexed.{HasPlaces, AreFirst, AreSorted};
 
@@ -16,7 +17,8 @@ pub(crate) fn first_rules(
     rules: &[RuleRow],
 ) -> Result<Vec<(Scope, u32)>, OutOfMemory>
     requires { length rules.now < 2 ^ 32 }
-    ensures { IfOk result (λ v. AreFirst rules.now v.items) }
+    ensures first { IfOk result (λ v. AreFirst rules.now v.items) }
+    ensures few { IfOk result (λ v. length v.items < 2 ^ 32) }
 {
     let places = places(alloc, rules)?;
     in_order(alloc, places)
@@ -33,7 +35,8 @@ fn in_order(alloc: Global, places: BTreeMap<Scope, u32>) -> Result<Vec<(Scope, u
 /// The place of the first rule of each scope.
 fn places(alloc: Global, rules: &[RuleRow]) -> Result<BTreeMap<Scope, u32>, OutOfMemory>
     requires { length rules.now < 2 ^ 32 }
-    ensures { IfOk result (λ m. HasPlaces rules.now m.entries) }
+    ensures places { IfOk result (λ m. HasPlaces rules.now m.entries) }
+    ensures few { IfOk result (λ m. length m.entries ≤ length rules.now) }
 {
     let mut places = BTreeMap::new(alloc);
     for (place, rule) in rules.iter().enumerate() {
@@ -48,9 +51,10 @@ fn add_place(
     rule: &RuleRow,
     place: u32,
 ) -> Result<(), OutOfMemory>
-    ensures { OnOk result ((rules : List ARule) → place ≡ length rules
+    ensures places { OnOk result ((rules : List ARule) → place ≡ length rules
         → HasPlaces rules places.old.entries
         → HasPlaces (rules ++ rule.now ∷ []) places.new.entries) }
+    ensures few { OnOk result (length places.new.entries ≤ length places.old.entries + 1) }
 {
     let scope = Scope {
         connecting: Connecting {

@@ -5,6 +5,7 @@ mod bounds;
 mod classes;
 mod first_rules;
 mod parts;
+mod routes;
 mod scopes;
 mod stations;
 mod waiting;

@@ -1,22 +1,17 @@
 //! The part of the first rules that makes the same trains wait.
 
-ghost use Rattle.std.specs.Prelude.{◌≡◌, min, unwrap_or};
-ghost use Rattle.std.specs.Map.{lookup};
-ghost use Rattle.std.specs.BTreeMap.{is_at};
-ghost use Rattle.waiting_rules.specs.Scopes.{scope_cmp};
-ghost use Rattle.waiting_rules.specs.Indexed.{AreSorted, IsPart, scope};
+ghost use Rattle.std.specs.Prelude.{◌≡◌, ◌≤◌, All, length, min, unwrap_or};
+ghost use Rattle.waiting_rules.specs.declared.scopes.Connecting.{Connecting as AConnecting};
+ghost use Rattle.waiting_rules.specs.Indexed.{AreSorted, IsPart, place_of, scope};
 
-use crate::scopes::{Connecting, Scope};
+use crate::scopes::Scope;
 use mt_base::numbers::RouteNo;
 
 /// Where the first rules for the same connecting route and stop stand among all.
 #[derive(Clone, Copy, Debug)]
 pub(crate) struct Part {
-    pub(crate) connecting: Connecting,
-    pub(crate) start: usize,
-    pub(crate) end: usize,
-    /// Whether some rule of the file for these has a wait above 0.
-    pub(crate) waits: bool,
+    pub(crate) start: u32,
+    pub(crate) end: u32,
 }
 
 /// The earlier of a place and that of the first rule of a part that gives this field for the
@@ -27,30 +22,27 @@ pub(crate) fn earlier(
     feeder: &Option<RouteNo>,
     place: usize,
 ) -> usize
-    requires sorted { AreSorted rules.now }
-    requires part { IsPart rules.now part.now }
-    ensures { result ≡ min place (unwrap_or
-        (lookup (is_at (scope_cmp (scope part.now.connecting feeder.now))) rules.now) place) }
+    requires order { part.now.start ≤ part.now.end }
+    requires within { part.now.end ≤ length rules.now }
+    ensures { (connecting : AConnecting) → AreSorted rules.now
+        → IsPart rules.now connecting part.now
+        → result ≡ min place
+        (unwrap_or (place_of rules.now (scope connecting feeder.now)) place) }
 {
-    if part.start == part.end {
-        return place;
-    }
-    let scope = Scope {
-        connecting: part.connecting,
-        feeder: *feeder,
-    };
-    match search(&rules[part.start..part.end], &scope) {
+    match search(&rules[part.start as usize..part.end as usize], feeder) {
         Some(first) => place.min(first as usize),
         None => place,
     }
 }
 
-/// The place in the file of the rule of a scope. None exactly where there is none.
-fn search(rules: &[(Scope, u32)], scope: &Scope) -> Option<u32>
-    requires { AreSorted rules.now }
-    ensures { result ≡ lookup (is_at (scope_cmp scope.now)) rules.now }
+/// The place in the file of the rule with this field for the feeder's route, among rules that make
+/// the same trains wait. None exactly where there is none.
+fn search(rules: &[(Scope, u32)], feeder: &Option<RouteNo>) -> Option<u32>
+    ensures { (connecting : AConnecting) → AreSorted rules.now
+        → All (λ rule. rule.0.connecting ≡ connecting) rules.now
+        → result ≡ place_of rules.now (scope connecting feeder.now) }
 {
-    match rules.binary_search_by(|rule| rule.0.cmp(scope)) {
+    match rules.binary_search_by(|rule| rule.0.feeder.cmp(feeder)) {
         Ok(at) => Some(rules[at].1),
         Err(_) => None,
     }

@@ -1,7 +1,7 @@
 //! What a waiting rule is for.
 
-ghost use Rattle.std.specs.Prelude.{◌≡◌};
-ghost use Rattle.waiting_rules.specs.Scopes.{all_connecting};
+ghost use Rattle.std.specs.Prelude.{◌≡◌, ◌≤◌, ◌^◌};
+ghost use Rattle.waiting_rules.specs.Scopes.{row_of};
 
 use mt_base::numbers::{RouteNo, StopNo};
 
@@ -21,34 +21,14 @@ pub(crate) struct Scope {
     pub(crate) feeder: Option<RouteNo>,
 }
 
-/// The fields of the rules that make trains of a route wait at a stop or its station.
-pub(crate) fn all_connecting(route: RouteNo, stop: StopNo, station: StopNo) -> [Connecting; 6]
-    ensures { result ≡ all_connecting route stop station }
+/// The row of the rules with this field for the connecting route: the first for all routes, and
+/// for each route the one behind its number.
+pub(crate) fn row_of(route: &Option<RouteNo>) -> usize
+    ensures row { result ≡ row_of route.now }
+    ensures small { result ≤ 2 ^ 32 }
 {
-    [
-        Connecting {
-            route: Some(route),
-            stop: Some(stop),
-        },
-        Connecting {
-            route: Some(route),
-            stop: Some(station),
-        },
-        Connecting {
-            route: Some(route),
-            stop: None,
-        },
-        Connecting {
-            route: None,
-            stop: Some(stop),
-        },
-        Connecting {
-            route: None,
-            stop: Some(station),
-        },
-        Connecting {
-            route: None,
-            stop: None,
-        },
-    ]
+    match route {
+        Some(route) => route.get() as usize + 1,
+        None => 0,
+    }
 }

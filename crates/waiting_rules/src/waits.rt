@@ -9,10 +9,9 @@ ghost use Rattle.waiting_rules.specs.Rules.{longest_wait};
 ghost use Rattle.waiting_rules.specs.WaitTable.{parent_station, wait_table, some_waits, may_wait};
 ghost use Rattle.waiting_rules.specs.WaitTable.{station_in};
 
-use crate::bounds::{Bounds, all_bounds};
-use crate::classes::{WaitClass, parts, some_wait};
+use crate::classes::{Rows, WaitClass, parts};
 use crate::first_rules::first_rules;
-use crate::scopes::{Connecting, Scope, all_connecting};
+use crate::routes::RouteBounds;
 use crate::stations::{parents, station};
 use crate::waiting::{flag_at, flags};
 use feed_tables::FeedTables;
@@ -20,19 +19,15 @@ use mt_base::memory::OutOfMemory;
 use mt_base::numbers::{RouteNo, StopNo};
 use mt_base::tables::RuleRow;
 use std::alloc::Global;
-use std::collections::BTreeMap;
 use std::marker::Model;
 
 /// How long trains wait for late feeders. It is seen as the parent stations of the locations and
 /// the rows of `waiting_rules.txt`.
 #[derive(Drop)]
 pub struct Waits {
-    parents: Vec<Option<StopNo>>,
-    rules: Vec<RuleRow>,
-    /// The first rule of each scope with its place in the file, in the order of scopes.
-    first_rules: Vec<(Scope, u32)>,
-    /// Where those that make the same trains wait start and end.
-    bounds: BTreeMap<Connecting, Bounds>,
+    rows: Rows,
+    /// Where the first rules that make the same trains wait start and end.
+    bounds: RouteBounds,
     /// Whether a rule with a wait above 0 names each location or its station, or no stop.
     flags: Vec<bool>,
     /// The longest wait of any rule in seconds.
@@ -44,7 +39,7 @@ impl Model for Waits {
 
     ghost Value = { WaitTable };
 
-    ghost view = { λ a. record { parents = a.parents.items; rules = a.rules.items } };
+    ghost view = { λ a. record { parents = a.rows.parents.items; rules = a.rows.rules.items } };
 
     ghost use Rattle.waiting_rules.specs.Inside.{IsConsistent};
 
@@ -61,12 +56,14 @@ impl Waits {
         let rules = Vec::from_slice(alloc, tables.rules.as_slice())?;
         let first_rules = first_rules(alloc, rules.as_slice())?;
         Ok(Waits {
-            bounds: all_bounds(alloc, rules.as_slice(), first_rules.as_slice())?,
+            bounds: RouteBounds::build(alloc, rules.as_slice(), first_rules.as_slice())?,
             flags: flags(alloc, parents.as_slice(), rules.as_slice())?,
             longest_wait: longest_wait(rules.as_slice()),
-            parents,
-            rules,
-            first_rules,
+            rows: Rows {
+                parents,
+                rules,
+                first_rules,
+            },
         })
     }
 
@@ -74,12 +71,14 @@ impl Waits {
     pub fn copy(&self) -> Result<Waits, OutOfMemory>
         ensures { IfOk result (λ copy. copy ≡ self.now) }
     {
-        let alloc = *self.rules.allocator();
+        let alloc = *self.flags.allocator();
         Ok(Waits {
-            parents: Vec::from_slice(alloc, self.parents.as_slice())?,
-            rules: Vec::from_slice(alloc, self.rules.as_slice())?,
-            first_rules: Vec::from_slice(alloc, self.first_rules.as_slice())?,
-            bounds: self.bounds.clone()?,
+            rows: Rows {
+                parents: Vec::from_slice(alloc, self.rows.parents.as_slice())?,
+                rules: Vec::from_slice(alloc, self.rows.rules.as_slice())?,
+                first_rules: Vec::from_slice(alloc, self.rows.first_rules.as_slice())?,
+            },
+            bounds: self.bounds.copy()?,
             flags: Vec::from_slice(alloc, self.flags.as_slice())?,
             longest_wait: self.longest_wait,
         })
@@ -89,7 +88,7 @@ impl Waits {
     pub fn is_empty(&self) -> bool
         ensures { result ≡ nat_eq (length self.now.rules) 0 }
     {
-        self.rules.is_empty()
+        self.rows.rules.is_empty()
     }
 
     /// The longest wait of any rule in seconds, 0 without rules.
@@ -128,20 +127,12 @@ impl Waits {
         if !flag_at(self.flags.as_slice(), stop) {
             return None;
         }
-        let station = station(self.parents.as_slice(), stop);
-        let all = all_connecting(connecting, stop, station);
-        let parts = parts(&self.bounds, &all);
-        if !some_wait(&parts) {
+        let station = station(self.rows.parents.as_slice(), stop);
+        let (parts, waits) = parts(&self.bounds, connecting, stop, station);
+        if !waits {
             return None;
         }
-        Some(WaitClass::new(
-            self.parents.as_slice(),
-            self.rules.as_slice(),
-            self.first_rules.as_slice(),
-            connecting,
-            stop,
-            parts,
-        ))
+        Some(WaitClass::new(&self.rows, connecting, stop, parts))
     }
 
     /// How many seconds a train of the route `connecting` waits at `stop` for a late train of the
@@ -163,7 +154,7 @@ impl Waits {
         ensures { All (λ (rule : ARule). rule.max_wait ≤ 86400) self.now.rules }
     {
         // A field is named, so that the check knows what holds of the rules.
-        let _ = &self.rules;
+        let _ = &self.rows;
     }
 }
 

@@ -9,6 +9,6 @@ returns-clause-part c =
     let trains = c.args.connecting.now in
     let start = c.partition_point-start in
     let end = c.partition_point-end in
-    part-is es trains start.result end.result c.args.waits start.ensures.bound end.ensures.bound
-    (IsPartitionPoint-from_clause (λ e. is_lt (connecting_cmp e.0.connecting trains)) es start.result start.ensures.partitioned (start-parted es trains c.requires) (λ a r f h. search rules))
-    (IsPartitionPoint-from_clause (λ e. is_le (connecting_cmp e.0.connecting trains)) es end.result end.ensures.partitioned (end-parted es trains c.requires) (λ a r f h. search rules))
+    part-is es trains start.result end.result start.ensures.bound end.ensures.bound
+    (IsPartitionPoint-from_clause (λ e. is_lt (connecting_cmp e.0.connecting trains)) es start.result start.ensures.partitioned (start-parted es trains c.requires.sorted) (λ a r f h. search rules))
+    (IsPartitionPoint-from_clause (λ e. is_le (connecting_cmp e.0.connecting trains)) es end.result end.ensures.partitioned (end-parted es trains c.requires.sorted) (λ a r f h. search rules))

@@ -12,4 +12,7 @@ loop-place-preserved c =
     let more : take (i + 1) all ≡ take i all ++ rule ∷ [] =
     ap (λ n. take n all) (add-one i) ∙ take-suc all i rule c.loop-place-test.true ∙ ap (λ r. take i all ++ r ∷ []) (sym c.index-rules-place.is)
     in
-    rw more (c.in_ok-add_place.ensures (take i all) (sym (length-take-le i all (omega arith))) c.loop-place.invariant)
+    record {
+      places = rw more (c.in_ok-add_place.ensures.places (take i all) (sym (length-take-le i all (omega arith))) c.loop-place.invariant.places);
+      few = omega (arith, c.in_ok-add_place.ensures.few, c.loop-place.invariant.few);
+    }

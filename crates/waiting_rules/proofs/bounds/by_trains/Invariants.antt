@@ -1,5 +1,5 @@
 use Rattle.waiting_rules.proofs.Words.{take, HasSome}
-use Rattle.waiting_rules.proofs.bounds.all_bounds.Given as goal
+use Rattle.waiting_rules.proofs.bounds.by_trains.Given as goal
 
 -- the bounds are those of the rules so far
 abbrev pub invariant-loop-rule : goal.invariant-loop-rule
