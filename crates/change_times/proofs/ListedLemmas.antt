@@ -1,5 +1,5 @@
 -- The lists of changes.
-use Rattle.change_times.proofs.Words.{◌≡◌, ℕ, ◌<◌, ◌≤◌, List, [], Bool, true, false, Option, None, Some, All, IsTrue, IfSome, length, get_or, refl, sym, subst, ap, arith, inl, inr, cases_lt, All-contains, if◌then◌else◌, Contains, filter_map, IsStrictlyIncreasing, option_map, option_map_or, Platform, StopRow, is_platform, station, station_by, is_stop, is_looked_at, change, Change, Direction, Onward, Back, Nearby, ChangeTables, change_at, listed, near, links_in, AreOf, IsKept}
+use Rattle.change_times.proofs.Words.{◌≡◌, ℕ, ◌<◌, ◌≤◌, List, [], Bool, true, false, Option, None, Some, All, IsTrue, IfSome, length, get_or, refl, sym, subst, ap, arith, inl, inr, cases_lt, All-contains, if◌then◌else◌, Contains, filter_map, IsStrictlyIncreasing, option_map, option_map_or, Platform, StopRow, is_platform, station, station_by, is_stop, is_looked_at, change, Change, Direction, Onward, Back, Nearby, ChangeTables, change_at, listed, has_default, near, links_in, AreOf, IsKept}
 use Rattle.std.proofs.lemmas.Bool.{cond_both}
 use Rattle.std.proofs.lemmas.Option.{slice_get-get_or}
 use Rattle.std.specs.Prelude.{unwrap_or}
@@ -45,7 +45,7 @@ listed-joins t Back b a c e =
     (stop-within t a given.0, change-joins t a b given.1.0 given.1.1)
 
 -- what is listed of a location stands near it
-listed-near : (t : ChangeTables) (nearby : Nearby) (direction : Direction) (place other : ℕ) → AreOf t nearby → other < length t.stops → AreJoined t (from_in direction place other) (to_in direction place other) → Contains (near nearby.members (links_in direction nearby) place (station t.stops place)) other
+listed-near : (t : ChangeTables) (nearby : Nearby) (direction : Direction) (place other : ℕ) → AreOf t nearby → other < length t.stops → AreJoined t (from_in direction place other) (to_in direction place other) → Contains (near nearby.members (links_in direction nearby) place (station t.stops place) (has_default t direction place (station t.stops place))) other
 listed-near t nearby Onward a b h l e = near-onward t nearby a b h l e
 listed-near t nearby Back b a h l e = near-back t nearby a b h l e
 
@@ -56,12 +56,12 @@ change-past t Back b a l =
     ap (λ stop. if stop then option_map (λ s. record { stop = a; seconds = s }) (change t.stops t.transfers t.default a b) else None) (no-stop t a l)
 
 -- the changes among the locations near a location are all changes
-pub listed-is : (t : ChangeTables) (nearby : Nearby) (direction : Direction) (place : ℕ) (all : List ℕ) → AreOf t nearby → IsStrictlyIncreasing all → All (Contains all) (near nearby.members (links_in direction nearby) place (station t.stops place)) → filter_map (change_at t direction place) all ≡ listed t direction place
+pub listed-is : (t : ChangeTables) (nearby : Nearby) (direction : Direction) (place : ℕ) (all : List ℕ) → AreOf t nearby → IsStrictlyIncreasing all → All (Contains all) (near nearby.members (links_in direction nearby) place (station t.stops place) (has_default t direction place (station t.stops place))) → filter_map (change_at t direction place) all ≡ listed t direction place
 unfolding listed
 listed-is t nearby direction place all h order contains =
     walk-same (change_at t direction place) (length t.stops) all order
     (λ other c e. let joined = listed-joins t direction place other c e in
-    All-contains (Contains all) (near nearby.members (links_in direction nearby) place (station t.stops place)) other contains (listed-near t nearby direction place other h joined.0 joined.1))
+    All-contains (Contains all) (near nearby.members (links_in direction nearby) place (station t.stops place) (has_default t direction place (station t.stops place))) other contains (listed-near t nearby direction place other h joined.0 joined.1))
     (λ other l. change-past t direction place other l)
 
 station-past : (t : ChangeTables) (a : ℕ) → length t.stops ≤ a → station t.stops a ≡ a
@@ -87,15 +87,15 @@ end-within t a x l m (inr e) = let s = station-past t a l in omega (arith, l, m,
 -- no change joins what is no location
 past-joined : (t : ChangeTables) (a b : ℕ) → IsKept t → length t.stops ≤ a → b < length t.stops → AreJoined t a b → ⊥
 past-joined t a b h l m (inl e) =
-    let s = station-past t a l in let w = station-within t b h m in omega (arith, l, e, s, w)
+    let s = station-past t a l in let w = station-within t b h m in omega (arith, l, e.same, s, w)
 past-joined t a b h l m (inr r) =
-    end-within t a r.0.from_stop l (row-within t.stops r.0 (All-contains (λ row. IsTrue (is_looked_at t.stops row)) t.transfers r.0 h.rows r.1)).0 r.2
+    end-within t a r.0.from_stop l (row-within t.stops r.0 (All-contains (λ row. IsTrue (is_looked_at t.stops row)) t.transfers r.0 h.rows r.1)).0 r.3
 
 joined-past : (t : ChangeTables) (a b : ℕ) → IsKept t → length t.stops ≤ b → a < length t.stops → AreJoined t a b → ⊥
 joined-past t a b h l m (inl e) =
-    let s = station-past t b l in let w = station-within t a h m in omega (arith, l, e, s, w)
+    let s = station-past t b l in let w = station-within t a h m in omega (arith, l, e.same, s, w)
 joined-past t a b h l m (inr r) =
-    end-within t b r.0.to_stop l (row-within t.stops r.0 (All-contains (λ row. IsTrue (is_looked_at t.stops row)) t.transfers r.0 h.rows r.1)).1 r.3
+    end-within t b r.0.to_stop l (row-within t.stops r.0 (All-contains (λ row. IsTrue (is_looked_at t.stops row)) t.transfers r.0 h.rows r.1)).1 r.4
 
 not-joined : (t : ChangeTables) (direction : Direction) (place other : ℕ) → IsKept t → length t.stops ≤ place → other < length t.stops → AreJoined t (from_in direction place other) (to_in direction place other) → ⊥
 not-joined t Onward a b h l m j = past-joined t a b h l m j

@@ -3,7 +3,7 @@ pub use Rattle.change_times.specs.ChangeTables.{ChangeTables, HaveSameChanges, w
 pub use Rattle.change_times.specs.Cuts.{cut}
 pub use Rattle.change_times.specs.Listed.{change_at}
 unfoldable pub use Rattle.change_times.specs.Listed.{listed}
-pub use Rattle.change_times.specs.Near.{AreOf, HaveMembers, HaveRows, link_of, links_in, member, near, other_of, with_members}
+pub use Rattle.change_times.specs.Near.{AreOf, HaveMembers, HaveRows, allows, has_default, link_of, links_in, member, near, other_of, own_members, with_members}
 unfoldable pub use Rattle.change_times.specs.Reach.{pairs, reached, reached_back}
 pub use Rattle.change_times.specs.Stored.{HaveOwnPairs, HaveStarts, IsByPair, IsKept, from_of, is_from, is_same_pair, is_to, place_of, to_of}
 unfoldable pub use Rattle.change_times.specs.Stored.{HaveSameFirsts}

@@ -1,9 +1,10 @@
 //! The locations that a change may join to a location.
 
 ghost use Rattle.std.specs.Prelude.{◌≡◌, ◌++◌, ◌<◌, ◌^◌, IfOk, OnOk, All, map, length};
-ghost use Rattle.std.specs.List.{Contains, flat_map};
+ghost use Rattle.std.specs.List.{Contains, filter, flat_map};
 ghost use Rattle.std.specs.List.Sorted.{IsStrictlyIncreasing};
-ghost use Rattle.change_times.specs.Near.{other_of, with_members, near, link_of, links_in, HaveMembers, HaveRows, AreOf};
+ghost use Rattle.change_times.specs.Near.{other_of, with_members, own_members, near, link_of};
+ghost use Rattle.change_times.specs.Near.{allows, links_in, HaveMembers, HaveRows, AreOf};
 
 use crate::links::{Link, Links};
 use crate::places::Places;
@@ -20,7 +21,8 @@ pub(crate) enum Direction {
     Back,
 }
 
-/// Which locations changes may join: those of one station, and those between which a row leads.
+/// Which locations changes may join: those of one station, and those between which a row leads by
+/// which a change is possible.
 #[derive(Drop)]
 pub(crate) struct Nearby {
     members: Links,
@@ -79,6 +81,35 @@ fn push_others(all: &mut Vec<StopNo>, links: &[Link]) -> Result<(), OutOfMemory>
     Ok(())
 }
 
+/// Puts the locations of a station behind the others, if these are looked at.
+fn push_own(
+    all: &mut Vec<StopNo>,
+    members: &Links,
+    at: StopNo,
+    own: bool,
+) -> Result<(), OutOfMemory>
+    ensures { OnOk result (all.new.items ≡ all.old.items ++ own_members members.now at own) }
+{
+    if own {
+        push_others(all, members.of(at))
+    } else {
+        Ok(())
+    }
+}
+
+/// The rows by which a change is possible.
+fn allowing(alloc: Global, rows: &[TransferRow]) -> Result<Vec<TransferRow>, OutOfMemory>
+    ensures { IfOk result (λ kept. kept.items ≡ filter allows rows.now) }
+{
+    let mut kept = Vec::new(alloc);
+    for row in rows {
+        if row.kind != 3 {
+            kept.push(*row)?;
+        }
+    }
+    Ok(kept)
+}
+
 fn push_linked(all: &mut Vec<StopNo>, members: &Links, links: &[Link]) -> Result<(), OutOfMemory>
     ensures { OnOk result (all.new.items ≡ all.old.items ++ flat_map
         (with_members members.now) links.now) }
@@ -95,12 +126,14 @@ impl Nearby {
     pub(crate) fn build(alloc: Global, table: &Table) -> Result<Nearby, OutOfMemory>
         ensures { IfOk result (AreOf table.now) }
     {
+        let rows = allowing(alloc, table.rows())?;
         Ok(Nearby {
             members: members(alloc, table.places())?,
-            onward: links(alloc, Direction::Onward, table.rows())?,
-            back: links(alloc, Direction::Back, table.rows())?,
+            onward: links(alloc, Direction::Onward, rows.as_slice())?,
+            back: links(alloc, Direction::Back, rows.as_slice())?,
         })
     }
+
     /// The pairs of this direction.
     fn links(&self, direction: Direction) -> &Links
         ensures { result.now ≡ links_in direction self.now }
@@ -112,21 +145,22 @@ impl Nearby {
     }
 
     /// Fills `all` with the locations that are near a location, of which `at` is the station: by
-    /// number, each once.
+    /// number, each once. Those of the station that no row names are among them if `own`.
     pub(crate) fn find(
         &self,
         all: &mut Vec<StopNo>,
         direction: Direction,
         place: StopNo,
         at: StopNo,
+        own: bool,
     ) -> Result<(), OutOfMemory>
         ensures order { OnOk result (IsStrictlyIncreasing all.new.items) }
         ensures near { OnOk result (All (Contains all.new.items)
-            (near self.now.members (links_in direction self.now) place at)) }
+            (near self.now.members (links_in direction self.now) place at own)) }
     {
         let links = self.links(direction);
         all.clear();
-        push_others(all, self.members.of(at))?;
+        push_own(all, &self.members, at, own)?;
         push_linked(all, &self.members, links.of(place))?;
         push_linked(all, &self.members, links.of(at))?;
         all.sort_unstable();

@@ -4,7 +4,7 @@ ghost use Rattle.std.specs.Prelude.{◌≡◌, ℕ, ◌++◌, [], ◌<◌, ◌�
 ghost use Rattle.std.specs.List.{filter_map};
 ghost use Rattle.delay_model.specs.Changes.{is_stop_or_station};
 ghost use Rattle.change_times.specs.Listed.{change_at, listed};
-ghost use Rattle.change_times.specs.Near.{AreOf};
+ghost use Rattle.change_times.specs.Near.{AreOf, has_default, station_row};
 ghost use Rattle.change_times.specs.Reach.{pairs, reached_back};
 
 use crate::change::Change;
@@ -14,6 +14,7 @@ use crate::near::{Direction, Nearby};
 use crate::table::Table;
 use mt_base::memory::OutOfMemory;
 use mt_base::numbers::StopNo;
+use mt_base::tables::TransferRow;
 use std::alloc::Global;
 
 /// How many pairs of a stop or station and a stop may have a change.
@@ -53,6 +54,29 @@ fn push_changes(
     Ok(())
 }
 
+/// The first row from a location to its station, or the other way round.
+fn station_row(
+    table: &Table,
+    direction: Direction,
+    place: StopNo,
+    at: StopNo,
+) -> Option<TransferRow>
+    ensures { result ≡ station_row table.now direction place at }
+{
+    match direction {
+        Direction::Onward => table.row(place, at),
+        Direction::Back => table.row(at, place),
+    }
+}
+
+/// Whether the default decides on changes between a location and those of its station that no row
+/// names: then all of them are looked at.
+fn has_default(table: &Table, direction: Direction, place: StopNo, at: StopNo) -> bool
+    ensures { result ≡ has_default table.now direction place at }
+{
+    station_row(table, direction, place, at).is_none() && table.row(at, at).is_none()
+}
+
 /// Fills `list` with the changes from or to a location, by the number of the other, and `near` with
 /// the locations near it.
 fn fill(
@@ -66,7 +90,9 @@ fn fill(
     requires { AreOf table.now nearby.now }
     ensures { OnOk result (list.new.items ≡ listed table.now direction place) }
 {
-    nearby.find(near, direction, place, table.places().station(place))?;
+    let at = table.places().station(place);
+    let own = has_default(table, direction, place, at);
+    nearby.find(near, direction, place, at, own)?;
     list.clear();
     push_changes(list, table, direction, place, near.as_slice())
 }

@@ -2,7 +2,7 @@
 
 ghost use Rattle.std.specs.Prelude.{◌≡◌, IfOk};
 ghost use Rattle.std.specs.List.{filter};
-ghost use Rattle.delay_model.specs.Changes.{is_looked_at, deciding_row, change_by, change};
+ghost use Rattle.delay_model.specs.Changes.{is_looked_at, first_row, deciding_row, change_by, change};
 ghost use Rattle.change_times.specs.ChangeTables.{tables_of, HaveSameChanges};
 ghost use Rattle.change_times.specs.Stored.{IsKept};
 
@@ -80,6 +80,13 @@ impl Table {
         ensures { result.now ≡ self.now.transfers }
     {
         self.transfers.rows()
+    }
+
+    /// The first row that leads from `a` to `b`.
+    pub(crate) fn row(&self, a: StopNo, b: StopNo) -> Option<TransferRow>
+        ensures { result ≡ first_row self.now.stops self.now.transfers a b }
+    {
+        first_to(self.transfers.from(a), b)
     }
 
     /// The row that decides on a change from `a` to `b`.
