@@ -1,16 +1,16 @@
 -- A key put into a list of keys that ascend, and the first taken off it.
-use Rattle.std.proofs.Common.{All, ◌≡◌, ◌≤◌, ◌<◌, ◌||◌, [], ◌∷◌, ◌++◌, true, false, List, Bool, ℕ, zero, suc, refl, sym, arith, length, get_or, inl, inr, IfSome, Option, None, Some}
+use Rattle.std.proofs.Common.{◌≡◌, ◌≤◌, ◌<◌, ◌||◌, [], ◌∷◌, true, false, List, Bool, ℕ, zero, suc, refl, sym, arith, length, get_or, inl, inr}
 use Rattle.std.specs.List.{insert}
-use Rattle.std.specs.Option.{option_to_list}
-use Rattle.std.specs.List.Sorted.{IsPartitionPoint, IsPartitionedBy}
-use Rattle.std.proofs.lemmas.Bool.{cases_Bool, cases_lt, or_parts}
+use Rattle.std.specs.List.Sorted.{IsPartitionedBy}
+use Rattle.std.proofs.lemmas.Bool.{cases_lt, or_parts}
 use Rattle.std.proofs.lemmas.List.Elements.{All-cons}
 use Rattle.std.proofs.lemmas.List.Kept.{AllPairs-cons}
-use Rattle.std.proofs.lemmas.List.Folds.{list_any_at, list_any_none}
+use Rattle.std.proofs.lemmas.List.Folds.{list_any_none}
 use Rattle.std.proofs.lemmas.List.Sorted.{All-permutation, IsPermutation-insert, list_any-IsPermutation}
 use Rattle.mt_base.specs.declared.keys.Key.{Key}
 use Rattle.mt_base.specs.Order.{is_before, is_same}
 use Rattle.mt_base.proofs.KeyLemmas.{before-trans, before-itself, keys_total, exact_keys, same-is, same-itself}
+use Rattle.rank_order.specs.InOrder.{IsPlace}
 use Rattle.rank_order.specs.Marked.{Ascends, has_key}
 
 abbrev pub RisesTo : Key → Key → Type 0
@@ -21,15 +21,12 @@ not-then true h = absurd (h refl)
 not-then false h = refl
 
 -- of two keys that are not one, one is before the other
-higher : (a b : Key) → is_before a b ≡ false → is_same a b ≡ false → is_before b a ≡ true
+pub higher : (a b : Key) → is_before a b ≡ false → is_same a b ≡ false → is_before b a ≡ true
 unfolding is_before
 higher a b h n = grind (arith, keys_total.antisymm a b, exact_keys a b, same-itself b)
 
 -- a key is put before the first that is not before it
 module _ (k : Key) where
-  abbrev pub IsPlace : List Key → ℕ → Type 0
-  IsPlace ks place = IsPartitionPoint (λ q. is_before q k ≡ true) (λ q. is_before q k ≡ false) ks place
-
   pub ascends-parted : (ks : List Key) → Ascends ks → IsPartitionedBy (λ q. is_before q k) ks
   ascends-parted ks up i j d le l sooner =
       elim (cases_lt i j) [
@@ -37,7 +34,7 @@ module _ (k : Key) where
         | inr not ↦ let same : i ≡ j = omega arith in rw same sooner
       ]
 
-  pub insert-ascends : (ks : List Key) (place : ℕ) → Ascends ks → place ≤ length ks → IsPlace ks place → has_key ks k ≡ false → Ascends (insert ks place k)
+  pub insert-ascends : (ks : List Key) (place : ℕ) → Ascends ks → place ≤ length ks → IsPlace k ks place → has_key ks k ≡ false → Ascends (insert ks place k)
   insert-ascends [] zero up l at none = λ i j d less m. absurd (omega arith)
   insert-ascends [] (suc place) up l at none = absurd (omega arith)
   insert-ascends (x ∷ xs) zero up l at none =
@@ -51,7 +48,7 @@ module _ (k : Key) where
       (All-cons (RisesTo x) k xs (at.0 0 x (omega arith) (omega arith)) (λ j d m. up 0 (suc j) d (omega arith) (omega arith)))) tail
 
   -- where the first that is not before it is not it, it is not there
-  pub none-there : (ks : List Key) (place : ℕ) → Ascends ks → IsPlace ks place → (place < length ks → (d : Key) → is_same (get_or ks place d) k ≡ false) → has_key ks k ≡ false
+  pub none-there : (ks : List Key) (place : ℕ) → Ascends ks → IsPlace k ks place → (place < length ks → (d : Key) → is_same (get_or ks place d) k ≡ false) → has_key ks k ≡ false
   none-there ks place up at other =
       list_any_none (λ q. is_same q k) ks (λ i d l.
       not-then _ (λ same.
@@ -69,27 +66,3 @@ module _ (k : Key) where
 pub insert-marks : (ks : List Key) (place : ℕ) (k q : Key) → has_key (insert ks place k) q ≡ (is_same k q || has_key ks q)
 insert-marks ks place k q =
     sym (list_any-IsPermutation (λ a. is_same a q) (k ∷ ks) (insert ks place k) (IsPermutation-insert ks place k))
-
--- what is marked already
-pub marked-again : (ks : List Key) (place : ℕ) (d k q : Key) → place < length ks → is_same (get_or ks place d) k ≡ true → has_key ks q ≡ (is_same k q || has_key ks q)
-marked-again ks place d k q l same =
-    let e = same-is (get_or ks place d) k same in
-    elim (cases_Bool (is_same k q)) [
-      | inl own ↦ rw (list_any_at (λ a. is_same a q) ks place d l (rw e own), own) refl
-      | inr other ↦ rw other refl
-    ]
-
--- what is left where the first is taken off
-pub left-ascends : (ks left : List Key) (taken : Option Key) → Ascends ks → ks ≡ option_to_list taken ++ left → Ascends left
-left-ascends ks left None up e = rw e at up
-left-ascends ks left (Some k) up e = let whole = rw e at up in λ i j d l m. whole (suc i) (suc j) d (omega arith) (omega arith)
-
--- what is taken off the front is before the others
-pub least-taken : (ks left : List Key) (taken : Option Key) → Ascends ks → ks ≡ option_to_list taken ++ left → IfSome taken (λ k. All (λ q. is_before k q ≡ true) left)
-least-taken ks left None up e = tt
-least-taken ks left (Some k) up e = let whole = rw e at up in λ j d l. whole 0 (suc j) d (omega arith) (omega arith)
-
--- no more are left than there were
-pub fewer-left : (ks left : List Key) (taken : Option Key) → ks ≡ option_to_list taken ++ left → length left ≤ length ks
-fewer-left ks left None e = rw e (omega arith)
-fewer-left ks left (Some k) e = rw e (omega arith)

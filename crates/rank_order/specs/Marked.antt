@@ -12,9 +12,12 @@ pub record Marked : Type 0 where
   pub keys : List Key
   pub room : ℕ
 
+abbrev pub keys_code : Coded (List Key)
+keys_code = coded_list key_row.coded
+
 abbrev pub marked_code : Coded Marked
 marked_code =
-    code_by (List Key × ℕ) (coded× (coded_list key_row.coded) coded_ℕ) (λ m. (m.keys, m.room))
+    code_by (List Key × ℕ) (coded× keys_code coded_ℕ) (λ m. (m.keys, m.room))
     (λ p. record { keys = p.0; room = p.1 }) (λ _. refl)
 
 -- one of these keys is this one

@@ -1,14 +1,15 @@
 //! Marked events.
 
-ghost use Rattle.std.specs.Prelude.{◌≡◌, ◌≤◌, ◌<◌, ◌||◌, [], ◌∷◌, ◌++◌, false, true, Bool, All, filter, IfSome, IfNone, IfOk, length};
+ghost use Rattle.std.specs.Prelude.{◌≡◌, ◌≤◌, ◌<◌, ◌||◌, ℕ, [], ◌∷◌, ◌++◌, false, true, Bool, All, filter, IfSome, IfNone, IfOk, length};
 ghost use Rattle.std.specs.Fn.{ComputesKey};
-ghost use Rattle.std.specs.Option.{option_to_list};
 ghost use Rattle.std.specs.VecDeque.{deque_capacity};
 ghost use Rattle.mt_base.specs.declared.keys.Key.{Key as AKey};
 ghost use Rattle.mt_base.specs.Order.{is_before, is_same};
-ghost use Rattle.rank_order.specs.Marked.{Ascends, is_marked};
+ghost use Rattle.rank_order.specs.Marked.{Ascends, has_key, is_marked};
+ghost use Rattle.rank_order.specs.InOrder.{in_order, IsPlace};
 
-use core::mem::replace_with;
+use crate::gathering::{gather, take_lesser};
+use crate::late_marks::LateMarks;
 use mt_base::keys::Key;
 use mt_base::memory::OutOfMemory;
 use std::alloc::Global;
@@ -22,6 +23,10 @@ pub struct Marks {
     /// The least key first. A mark is put in by moving the marks before it or those after it,
     /// whichever are fewer, and the least is taken without moving any.
     keys: VecDeque<Key>,
+    /// Marks for which more than a few keys would have had to be moved.
+    late: LateMarks,
+    /// No keys: where late marks are gathered, all keys are put in order here.
+    spare: VecDeque<Key>,
     /// How many can be marked at once: so many are sure to fit.
     room: u32,
 }
@@ -40,30 +45,58 @@ impl Model for Marks {
     ghost invariant = { IsStored };
 }
 
-/// Puts a queue without keys back to the start of its memory. A queue moves on through its memory
-/// with each key that is put at its end and each that is taken off its front; put back, it touches
-/// no more of it than for the keys that were put in since it was last without keys.
-fn begin_again(keys: &mut VecDeque<Key>)
-    requires { keys.old.items ≡ [] }
-    ensures items { keys.new.items ≡ [] }
-    ensures capacity { deque_capacity keys.new ≡ deque_capacity keys.old }
+/// How many keys may have to be moved for one that is put among the others.
+const FEW: usize = 64;
+
+/// The place among keys in order at which a key has to be put. There is none where it is there.
+fn free_place(keys: &VecDeque<Key>, k: &Key) -> Option<usize>
+    requires ascends { Ascends keys.now.items }
+    ensures there { IfNone result (has_key keys.now.items k.now ≡ true) }
+    ensures none { IfSome result (λ _. has_key keys.now.items k.now ≡ false) }
+    ensures bound { IfSome result (λ place. place ≤ length keys.now.items) }
+    ensures place { IfSome result (λ place. IsPlace k.now keys.now.items place) }
 {
-    replace_with(keys, (), |keys, _nothing| {
-        (VecDeque::from_vec(keys.into_vec()), ())
-    })
+    let place = keys.partition_point(|q| q.is_before(k));
+    if place == keys.len() {
+        return Some(place);
+    }
+    if keys[place].is_same(k) {
+        return None;
+    }
+    Some(place)
 }
 
-/// Takes the first key off, and puts the queue back to the start of its memory if it was the last.
-fn take_first(keys: &mut VecDeque<Key>) -> Option<Key>
-    ensures items { keys.old.items ≡ option_to_list result ++ keys.new.items }
-    ensures none { IfNone result (keys.old.items ≡ []) }
-    ensures capacity { deque_capacity keys.new ≡ deque_capacity keys.old }
+/// Sets a late mark if its place among so many keys is far from both ends and there is room, and
+/// answers whether it did.
+fn set_far(late: &mut LateMarks, place: usize, len: usize, k: &Key) -> bool
+    requires { place ≤ len }
+    ensures set { result ≡ true → (q : AKey) → has_key late.new q
+        ≡ (is_same k.now q || has_key late.old q) }
+    ensures unset { result ≡ false → late.new ≡ late.old }
 {
-    let first = keys.pop_front();
-    if keys.is_empty() {
-        begin_again(keys);
+    if place.min(len - place) <= FEW {
+        return false;
     }
-    first
+    late.set(k)
+}
+
+/// Gathers the late marks if there is no room for another.
+fn gather_if_full(keys: &mut VecDeque<Key>, late: &mut LateMarks, spare: &mut VecDeque<Key>)
+    requires ascends { Ascends keys.old.items }
+    requires spare { spare.old.items ≡ [] }
+    requires room { length (in_order (keys.old.items ++ late.old)) ≤ deque_capacity spare.old }
+    ensures ascends { Ascends keys.new.items }
+    ensures keys { in_order (keys.new.items ++ late.new)
+        ≡ in_order (keys.old.items ++ late.old) }
+    ensures spare { spare.new.items ≡ [] }
+    ensures capacity { (n : ℕ) → n ≤ deque_capacity keys.old → n ≤ deque_capacity spare.old
+        → n ≤ deque_capacity keys.new }
+    ensures spare_capacity { (n : ℕ) → n ≤ deque_capacity keys.old
+        → n ≤ deque_capacity spare.old → n ≤ deque_capacity spare.new }
+{
+    if late.is_full() {
+        gather(keys, late, spare);
+    }
 }
 
 impl Marks {
@@ -73,6 +106,8 @@ impl Marks {
     {
         Ok(Marks {
             keys: VecDeque::with_capacity(alloc, room as usize)?,
+            late: LateMarks::build(alloc, (room / 8) as usize + FEW)?,
+            spare: VecDeque::with_capacity(alloc, room as usize)?,
             room,
         })
     }
@@ -87,6 +122,8 @@ impl Marks {
         keys.extend_from_slice(second)?;
         Ok(Marks {
             keys: VecDeque::from_vec(keys),
+            late: self.late.copy(alloc)?,
+            spare: VecDeque::with_capacity(alloc, self.room as usize)?,
             room: self.room,
         })
     }
@@ -106,12 +143,15 @@ impl Marks {
         ensures marked { (q : AKey) → is_marked self.new q
             ≡ (is_same k.now q || is_marked self.old q) }
     {
-        let place = self.keys.partition_point(|q| q.is_before(k));
-        if place < self.keys.len() && self.keys[place].is_same(k) {
+        let Some(place) = free_place(&self.keys, k) else {
+            return;
+        };
+        if set_far(&mut self.late, place, self.keys.len(), k) {
             return;
         }
         // There is room, so that it succeeds.
         let _ = self.keys.insert(place, *k);
+        gather_if_full(&mut self.keys, &mut self.late, &mut self.spare);
     }
 
     /// Takes out the least marked key. There is none exactly where no event is marked.
@@ -122,7 +162,7 @@ impl Marks {
         ensures taken { IfSome result (λ k. self.old.keys ≡ k ∷ self.new.keys) }
         ensures least { IfSome result (λ k. All (λ q. is_before k q ≡ true) self.new.keys) }
     {
-        take_first(&mut self.keys)
+        take_lesser(&mut self.keys, &mut self.late)
     }
 
     /// Takes the marks off that do not pass a test.
@@ -132,6 +172,7 @@ impl Marks {
         ensures keys { (p : AKey → Bool) → ComputesKey F.FnMut p passes → self.new.keys
             ≡ filter p self.old.keys }
     {
+        gather(&mut self.keys, &mut self.late, &mut self.spare);
         self.keys.retain(passes);
     }
 }
