@@ -1,5 +1,7 @@
 -- The search from both ends of a bucket for the two departures between which another belongs.
 use Rattle.dep_order.proofs.Words.{◌≡◌, ◌≢◌, ◌<◌, ℕ, Some, true, false, sym, ◌∙◌, ap, subst, length, refl, Bucket, Cold, Departure, Hot, Lists, cold_part, hot_part, AreKept, IsNewKey, IsNextIn, IsPreviousIn, IsReached, bucket_count, bucket_of, entries_of, leaves_after, leaves_before, nobody, slot_at, stored_in}
+use Rattle.dep_order.specs.Gaps.{IsBeside, IsBetween, IsFollowed}
+use Rattle.dep_order.specs.declared.gap.Ends.{Ends}
 use Rattle.dep_order.proofs.OrderLemmas.{after-strict, before-strict}
 use Rattle.dep_order.proofs.ReachLemmas.{bucket-empty, gap-beside, gap-empty, left, left-falls, reach-first, reach-gap, reach-held, reach-next, reach-some}
 use Rattle.dep_order.proofs.StoredLemmas.{IsBucket, nobody-none, read, within}
@@ -102,3 +104,39 @@ module _ (l : Lists) (b : ℕ) (d : Departure) (k : AreKept l) (new : IsNewKey (
       let after : (slot_at l.slots n).after ≡ t.after = ap (λ (t : Hot). t.after) (sym hot) in
       let before : (slot_at l.slots p).before ≡ c.before = ap (λ (c : Cold). c.before) (sym cold) in
       (subst IsFront after x.0, subst (λ n. n ≢ nobody) after x.1, subst IsBack before x.2, subst (λ n. n ≢ nobody) before x.3, subst (λ m. left leaves_before (entries_of l) m < left leaves_before (entries_of l) n) after x.4)
+
+  -- one from which the walk back went on comes after the departure
+  pub followed-at : (p : ℕ) (f : Departure) → f ≡ stored_in (slot_at l.slots p) → IsBack p → p ≢ nobody → leaves_before f d ≡ false → IsFollowed l d b
+  followed-at p f its back last g =
+      let e = reach-held leaves_after after-strict (bucket_of (bucket_count l)) (entries_of l) b (leaves_after d) p back last in
+      let y = read l p e.0 k e.1 in
+      let late = ap (leaves_after d) (sym y.departure ∙ sym its) ∙ g in
+      record { number = p; later = e.0; there = e.1; mine = e.2; is = before-strict.either e.0 d (new p e.0 e.1) late }
+
+-- a walk that begins behind a departure that comes before another
+pub guided-at : (l : Lists) (d : Departure) (ends : Ends) (n : ℕ) (t : Hot) → AreKept l → IsBetween l d ends → IsFollowed l d ends.bucket → IsBeside l d ends.bucket n → t ≡ hot_part (slot_at l.slots n) → IsBetween l d (record ends { front = t.after })
+guided-at l d ends n t k between followed beside its =
+    let by = bucket_of (bucket_count l) in
+    let es = entries_of l in
+    let e = beside.sooner in
+    let x = read l n e k beside.there in
+    let own : (slot_at l.slots n).after ≡ t.after = ap (λ (t : Hot). t.after) (sym its) in
+    let next = subst (λ m. IsNextIn l ends.bucket (Some e) m) own (subst (λ c. IsNextIn l c (Some e) (slot_at l.slots n).after) beside.mine x.next) in
+    let reached : IsReached leaves_before by es ends.bucket (leaves_before d) t.after = record {
+      ends = next.ends;
+      mine = λ f at. (next.there f at).0;
+      rest = λ j f at mine h. next.rest j f at mine (before-strict.trans e d f beside.is h);
+    } in
+    record {
+      forward = reached;
+      front_is = reach-some leaves_before before-strict by es ends.bucket (leaves_before d) t.after followed.number followed.later (nobody-none l k) reached followed.there followed.mine followed.is;
+      backward = between.backward;
+      back_is = between.back_is;
+    }
+
+pub beside-within : (l : Lists) (d : Departure) (b n : ℕ) → IsBeside l d b n → n < length l.slots
+beside-within l d b n x = within l n x.sooner x.there
+
+pub front-read : (l : Lists) (d : Departure) (ends : Ends) → IsBetween l d ends → ends.front < length l.slots
+front-read l d ends x =
+    let f = reach-held leaves_before before-strict (bucket_of (bucket_count l)) (entries_of l) ends.bucket (leaves_before d) ends.front x.forward x.front_is in within l ends.front f.0 f.1

@@ -1,5 +1,5 @@
 -- What departures by number and the numbers of their calls tell together.
-use Rattle.dep_order.proofs.Words.{◌≡◌, ◌<◌, ◌≤◌, ◌+◌, ℕ, inl, inr, List, [], ◌∷◌, Option, None, Some, true, false, nat_eq, ◌&&◌, refl, sym, ◌∙◌, ap, arith, nat_tests, cases_Bool, cases_eq, length, length-set, set, slice_get_within, All, get_or, Departure, Key, Onward, blank_onward, HaveDistinctCalls, IsNewCall, IsNewKey, departures_in_order, held, is_of_call, number_of}
+use Rattle.dep_order.proofs.Words.{◌≡◌, ◌<◌, ◌≤◌, ◌+◌, ℕ, inl, inr, List, Option, None, Some, true, false, nat_eq, ◌&&◌, refl, sym, ◌∙◌, ap, arith, nat_tests, cases_Bool, cases_eq, length, length-set, set, slice_get_within, All, get_or, Departure, Key, Onward, blank_onward, HaveDistinctCalls, IsNewCall, IsNewKey, departures_in_order, held, is_of_call, number_of}
 use Rattle.std.specs.Prelude.{if◌then◌else◌}
 use Rattle.dep_order.specs.declared.order.DepartureOrder.TheInside.{Inside}
 use Rattle.dep_order.specs.CallNumbering.{StoredNumbers, number_at}

@@ -3,10 +3,7 @@ use Rattle.dep_order.proofs.Words.{◌≡◌, ◌≢◌, ◌+◌, ◌<◌, ◌�
 use Rattle.std.proofs.lemmas.List.Sums.{sum_by-cons}
 use Rattle.dep_order.proofs.OrderLemmas.{IsStrict, before-strict}
 use Rattle.dep_order.proofs.LinkLemmas.{some-or-none}
-
--- how many departures pass a test
-abbrev pub count_of : (Departure → Bool) → List (Option Departure) → ℕ
-count_of passes es = count_by (λ (o : Option Departure). option_map_or passes o false) es
+pub use Rattle.dep_order.specs.Linked.{count_of, left}
 
 count-cons : {X : Type 0} (p : X → Bool) (x : X) (xs : List X) → count_by p (x ∷ xs) ≡ cond (p x) 1 0 + count_by p xs
 count-cons p x xs = sum_by-cons (λ x. cond (p x) 1 0) x xs
@@ -24,10 +21,6 @@ pub held-get : (es : List (Option Departure)) (i : ℕ) (d : Departure) → held
 held-get [] i d h = absurd (cc)
 held-get (e ∷ es) zero d h = ap Some h
 held-get (e ∷ es) (suc i) d h = held-get es i d h
-
--- those that come after a number, and itself
-abbrev pub left : (Departure → Departure → Bool) → List (Option Departure) → ℕ → ℕ
-left lt es number = option_map_or (λ a. suc (count_of (lt a) es)) (held es number) 0
 
 past-both : (lt : Departure → Departure → Bool) → IsStrict lt → (a f : Departure) → lt a f ≡ true → (o : Option Departure) → option_map_or (lt f) o false ≡ true → option_map_or (lt a) o false ≡ true
 past-both lt strict a f h None k = k

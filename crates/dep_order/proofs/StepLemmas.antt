@@ -1,5 +1,5 @@
 -- What is read of a number.
-use Rattle.dep_order.proofs.Words.{◌≡◌, ◌≢◌, ◌<◌, ◌≤◌, ℕ, zero, suc, List, [], ◌∷◌, None, Some, true, refl, sym, ◌∙◌, ap, arith, length, length-map, map, get_or, slice_get_past, Departure, Hot, Lists, Slot, held, AreKept, blank_onward, departure_in, entries_of, hot_part, leaving, leaving_among, onward_in, onwards_of, slot_at, stored_in}
+use Rattle.dep_order.proofs.Words.{◌≡◌, ◌<◌, ◌≤◌, ℕ, zero, suc, List, [], ◌∷◌, None, Some, true, refl, sym, ◌∙◌, ap, arith, length, length-map, map, get_or, slice_get_past, Departure, Hot, Lists, Slot, held, AreKept, blank_onward, departure_in, entries_of, hot_part, leaving, leaving_among, onward_in, onwards_of, slot_at, stored_in}
 use Rattle.dep_order.proofs.NumberLemmas.{leaving-is}
 use Rattle.dep_order.proofs.SlotLemmas.{held-slot, there-in-slot}
 use Rattle.dep_order.proofs.StoredLemmas.{read}

@@ -12,7 +12,7 @@ pub use Rattle.mt_base.specs.declared.keys.Key.{Key}
 unfoldable pub use Rattle.dep_order.specs.Departing.{leaves_before}
 pub use Rattle.dep_order.specs.Departing.{departure_cmp, departures_in_order, departures_of, held}
 pub use Rattle.dep_order.specs.Held.{HaveDistinctCalls, HaveDistinctKeys, IsNewCall, IsNewKey, IsFirst, IsFirstAt, leaving, leaving_among, with_time}
-pub use Rattle.dep_order.specs.Linked.{AreLinked, IsAhead, IsNext, IsOf, IsReached, is_above, is_past, leaves_after}
+pub use Rattle.dep_order.specs.Linked.{AreLinked, IsAhead, IsNext, IsOf, IsReached, is_above, is_past, left, leaves_after}
 pub use Rattle.mt_base.specs.Sorted.{in_order, placed}
 pub use Rattle.dep_order.specs.Ordered.{blank_onward, is_of_call, number_of, number_or_past}
 pub use Rattle.dep_order.specs.Scanned.{IsFirstPlace, IsPlace, departures_from, number_in}

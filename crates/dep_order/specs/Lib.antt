@@ -1,5 +1,6 @@
 pub mod CallNumbering
 pub mod Departing
+pub mod Gaps
 pub mod Held
 pub mod Inside
 pub mod Linked

@@ -1,7 +1,8 @@
 -- Departures in their buckets, each linked with those beside it, in either direction: for the
 -- links backwards read each word for the order turned round.
 use Rattle.std.specs.Prelude.{◌≡◌, ℕ, ◌⊎◌, ◌<◌, ◌≤◌, List, Bool, true, false, Option, None}
-use Rattle.std.specs.Prelude.{Some}
+use Rattle.std.specs.Prelude.{Some, suc}
+use Rattle.std.specs.List.{count_by}
 use Rattle.std.specs.Option.{option_map_or}
 use Rattle.dep_order.specs.declared.departure.Departure.{Departure}
 use Rattle.dep_order.specs.Departing.{held, leaves_before}
@@ -54,3 +55,11 @@ pub record IsAhead (bucket : Departure → ℕ) (es : List (Option Departure)) (
   pub passes_is : (d : Departure) → held es number ≡ Some d → passes d ≡ true
   pub low : (i : ℕ) (d : Departure) → held es i ≡ Some d → passes d ≡ true → b ≤ bucket d
   pub high : (i : ℕ) (d : Departure) → held es i ≡ Some d → b < bucket d → passes d ≡ true
+
+-- how many departures pass a test
+abbrev pub count_of : (Departure → Bool) → List (Option Departure) → ℕ
+count_of passes es = count_by (λ (o : Option Departure). option_map_or passes o false) es
+
+-- the departure of a number and those that come after it
+abbrev pub left : (Departure → Departure → Bool) → List (Option Departure) → ℕ → ℕ
+left lt es number = option_map_or (λ a. suc (count_of (lt a) es)) (held es number) 0

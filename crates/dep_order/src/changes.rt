@@ -10,13 +10,14 @@ ghost use Rattle.dep_order.specs.Stored.{AreKept, bucket_count, bucket_of, entri
 ghost use Rattle.dep_order.specs.Stored.{onwards_of};
 
 use crate::departure::Departure;
+use crate::guides::Guides;
 use crate::lists::{Lists, NOBODY};
 use crate::slot_table::NO_DEPARTURE;
 use mt_base::numbers::Time;
 
 impl Lists {
     /// Puts a departure in at a number.
-    pub(crate) fn insert(&mut self, number: u32, departure: Departure)
+    pub(crate) fn insert(&mut self, guides: &mut Guides, number: u32, departure: Departure)
         // a free number, and the departure of a new call
         requires kept { AreKept self.old }
         requires free { slice_get (entries_of self.old) number ≡ Some None }
@@ -30,7 +31,7 @@ impl Lists {
         ensures onwards { onwards_of self.new ≡ onwards_of self.old }
     {
         let bucket = self.bucket_of(departure.time);
-        let gap = self.gap(bucket, &departure);
+        let gap = self.gap(guides, bucket, &departure);
         self.slots.put(number, &departure, gap.before, gap.after);
         self.join(bucket, gap.before, number);
         self.join(bucket, number, gap.after);
@@ -54,7 +55,7 @@ impl Lists {
     /// Lets the departure of a number take place at another time. No link changes where it keeps
     /// its place among those of its bucket.
     #[inline]
-    pub(crate) fn retime(&mut self, number: u32, time: Time)
+    pub(crate) fn retime(&mut self, guides: &mut Guides, number: u32, time: Time)
         requires kept { AreKept self.old }
         requires there { IsSome (held (entries_of self.old) number) }
         ensures kept { AreKept self.new }
@@ -67,7 +68,7 @@ impl Lists {
             self.slots.set_time(number, time);
         } else {
             self.remove(number);
-            self.insert(number, moved);
+            self.insert(guides, number, moved);
         }
     }
 

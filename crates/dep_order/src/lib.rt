@@ -6,6 +6,7 @@ pub mod call_numbers;
 mod changes;
 pub mod departure;
 mod gap;
+mod guides;
 mod links;
 mod lists;
 mod numbered;

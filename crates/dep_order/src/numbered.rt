@@ -9,6 +9,7 @@ ghost use Rattle.dep_order.specs.Held.{HaveDistinctCalls, IsNewCall, leaving_amo
 ghost use Rattle.dep_order.specs.Ordered.{blank_onward};
 
 use crate::departure::{Departure, Onward};
+use crate::guides::Guides;
 use crate::lists::Lists;
 use crate::scan::Departures;
 use mt_base::memory::OutOfMemory;
@@ -22,6 +23,7 @@ use std::marker::Model;
 #[derive(Drop)]
 pub(crate) struct NumberedDepartures {
     lists: Lists,
+    guides: Guides,
 }
 
 impl Model for NumberedDepartures {
@@ -52,6 +54,7 @@ impl NumberedDepartures {
     {
         Ok(NumberedDepartures {
             lists: Lists::empty(alloc, room, latest)?,
+            guides: Guides::with_room(alloc, room)?,
         })
     }
 
@@ -61,6 +64,7 @@ impl NumberedDepartures {
     {
         Ok(NumberedDepartures {
             lists: self.lists.copy(alloc)?,
+            guides: self.guides.none_as(alloc)?,
         })
     }
 
@@ -107,7 +111,7 @@ impl NumberedDepartures {
         ensures entries { self.new.entries ≡ slice_set self.old.entries number (Some departure) }
         ensures onwards { self.new.onwards ≡ self.old.onwards }
     {
-        self.lists.insert(number, departure);
+        self.lists.insert(&mut self.guides, number, departure);
     }
 
     /// Takes out the departure that has a number.
@@ -127,7 +131,7 @@ impl NumberedDepartures {
         ensures entries { self.new.entries ≡ with_time number time self.old.entries }
         ensures onwards { self.new.onwards ≡ self.old.onwards }
     {
-        self.lists.retime(number, time);
+        self.lists.retime(&mut self.guides, number, time);
     }
 
     /// The departures that do not take place before a time, one after another in their order.
