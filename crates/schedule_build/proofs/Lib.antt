@@ -1,12 +1,17 @@
 pub mod BaseLemmas
+pub mod BucketLemmas
 pub mod CallLemmas
 pub mod DateLemmas
+pub mod EntryLemmas
 pub mod ExtraLemmas
 pub mod FitLemmas
 pub mod GoodTrains
+pub mod HashLemmas
 pub mod InStepLemmas
 pub mod NumberLemmas
+pub mod PlaceLemmas
 pub mod RunLemmas
+pub mod SeenLemmas
 pub mod SmallTimes
 pub mod StateLemmas
 pub mod TrainNameLemmas

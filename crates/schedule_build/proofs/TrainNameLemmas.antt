@@ -1,23 +1,18 @@
 -- Stored trains, their names, and their numbers.
-use Rattle.schedule_build.proofs.Words.{common_steps, ◌≡◌, ◌∙◌, ◌+◌, ◌-◌, ◌^◌, ◌<◌, ◌≤◌, ◌++◌, ◌∷◌, [], ℕ, List, Option, Some, None, true, false, length, length-append, All, map, suc, get_or}
-use Rattle.schedule_build.proofs.Words.{refl, arith, map-append, All-push, bytes_eq-Decides, bytes_eq, nat_eq, ◌&&◌, slice_index_or, StoredTrain, number_from, key_cmp}
-use Rattle.schedule_build.proofs.Words.{trip_name, seen_train, HasTrip, AreNumbered, AreNamed}
-use Rattle.std.proofs.Math.ListN.{get_or-append}
-use Rattle.std.specs.Cmp.{unsigned_tied}
-use Rattle.std.specs.Ordering.{is_eq}
-use Rattle.std.specs.BTreeMap.{BTreeMap}
-use Rattle.schedule_build.specs.Stored.{number_of_name, number_of_train, name_after, with_name}
-use Rattle.schedule_build.proofs.NumberLemmas.{number_from-map, number_from-end, number_from-agree, number_from-none, is_found}
-
--- two keys tie where trip and day are the same
-pub key-ties : (k l d e : ℕ) → is_eq (key_cmp (k, d) (l, e)) ≡ (nat_eq k l && nat_eq d e)
-key-ties k l d e = grind (arith, common_steps, unsigned_tied k l, unsigned_tied d e)
-
-pub same-key : (k l d e : ℕ) → (nat_eq k l && nat_eq d e) ≡ true → ◌≡◌ {A = ℕ × ℕ} (k, d) (l, e)
-same-key k l d e h = grind (arith, common_steps)
+use Rattle.schedule_build.proofs.Words.{common_steps, ◌≡◌, ◌∙◌, ◌-◌, ◌<◌, ◌≤◌, [], ℕ, List, Some, None, false, length, All, map, get_or}
+use Rattle.schedule_build.proofs.Words.{arith, bytes_eq-Decides, bytes_eq, nat_eq, ◌&&◌, slice_index_or, StoredTrain, number_from}
+use Rattle.schedule_build.proofs.Words.{trip_name, seen_train, HasTrip, IsSmall, AreNumbered, key_at, order_of, train_key}
+use Rattle.std.proofs.Common.{ltb}
+use Rattle.std.proofs.lemmas.Bool.Decides.{nat_tests}
+use Rattle.std.specs.List.Sorted.{IsNonDecreasingBy, IsPermutation}
+use Rattle.schedule_build.specs.Buckets.{entries_of, has_key, key_of}
+use Rattle.schedule_build.specs.Stored.{number_of_name, number_of_train}
+use Rattle.schedule_build.specs.declared.buckets.Entry.{Entry}
+use Rattle.schedule_build.proofs.EntryLemmas.{moved-own, numbered}
+use Rattle.schedule_build.proofs.NumberLemmas.{number_from-map, number_from-agree, number_from-none, is_found}
 
 -- the name that has a number is the name at that place
-named-there : (trips : List (List ℕ)) (trip : List ℕ) (k : ℕ) → number_of_name trips trip ≡ Some k → (k < length trips) × (slice_index_or trips k [] ≡ trip)
+pub named-there : (trips : List (List ℕ)) (trip : List ℕ) (k : ℕ) → number_of_name trips trip ≡ Some k → (k < length trips) × (slice_index_or trips k [] ≡ trip)
 named-there trips trip k h =
     let found = is_found (λ n. bytes_eq n trip) 0 trips k h in
     let whole : k - 0 ≡ k = omega arith in
@@ -35,40 +30,35 @@ pub train-missing : (trips : List (List ℕ)) (trains : List StoredTrain) (trip 
 train-missing trips trains trip day has h =
     rw number_from-map (number_from-agree (HasTrip trips) _ (λ (t : StoredTrain). false) 0 trains has (λ t one. grind (arith, common_steps, bytes_eq-Decides (trip_name trips t) trip)) ∙ number_from-none 0 trains)
 
--- with one more name each name and its number stay
-kept : (trips : List (List ℕ)) (name : List ℕ) (found : Option ℕ) (t : StoredTrain) → HasTrip trips t → (trip_name (name_after found name trips) t ≡ trip_name trips t) × HasTrip (name_after found name trips) t
-kept trips name (Some n) t has = (refl, has)
-kept trips name None t has =
-    let there = get_or-append trips (name ∷ []) [] t.trip (named-there trips (trip_name trips t) t.trip has).0 in
-    (there, rw there (grind (arith, has, number_from-end (λ n. bytes_eq n (trip_name trips t)) 0 trips name)))
+-- no train is on a day that is not loaded
+pub train-unloaded : (trips : List (List ℕ)) (trains : List StoredTrain) (trip : List ℕ) (day : ℕ) → All (λ (t : StoredTrain). t.day < 31) trains → 31 ≤ day → number_of_train (map (seen_train trips) trains) trip day ≡ None
+train-unloaded trips trains trip day loaded h =
+    rw number_from-map (number_from-agree (λ (t : StoredTrain). t.day < 31) _ (λ (t : StoredTrain). false) 0 trains loaded (λ t one. grind (arith, common_steps, nat_tests)) ∙ number_from-none 0 trains)
 
-pub trains-kept : (trips : List (List ℕ)) (name : List ℕ) (trains : List StoredTrain) → All (HasTrip trips) trains → map (seen_train (with_name name trips)) trains ≡ map (seen_train trips) trains
-trains-kept trips name [] h = refl
-trains-kept trips name (t ∷ trains) h =
-    rw ((kept trips name (number_of_name trips name) t (h 0 t (omega arith))).0, trains-kept trips name trains (λ k d l. h (suc k) d (omega arith))) refl
+-- ---- the numbers of trains by trip and day
 
--- there is one more name at most
-one-more : (found : Option ℕ) (name : List ℕ) (trips : List (List ℕ)) → length (name_after found name trips) ≤ length trips + 1
-one-more (Some n) name trips = omega arith
-one-more None name trips = omega (arith, length-append trips (name ∷ []))
+-- a trip that has a name has a small number
+pub all-small : (trips : List (List ℕ)) (trains : List StoredTrain) → length trips ≤ 200000 → All (λ (t : StoredTrain). t.day < 31) trains → All (HasTrip trips) trains → All IsSmall trains
+all-small trips trains few loaded has i d l =
+    let t = get_or trains i d in
+    record { trip = omega (arith, few, (named-there trips (trip_name trips t) t.trip (has i d l)).0); day = loaded i d l }
 
--- with one more train, and its name among those of the trips, all is as it should be
-pub named-more : (trips : List (List ℕ)) (trains : List StoredTrain) (old new : BTreeMap (ℕ × ℕ) ℕ) (trip : List ℕ) (k day : ℕ) → AreNamed trips trains old → number_of_name (with_name trip trips) trip ≡ Some k
-    → day < 31 → length trains + 1 < 2 ^ 32 → AreNumbered (trains ++ record { trip = k; day = day } ∷ []) new → AreNamed (with_name trip trips) (trains ++ record { trip = k; day = day } ∷ []) new
-named-more trips trains old new trip k day h found loaded few numbered =
-    let t : StoredTrain = record { trip = k; day = day } in
-    let long = length-append trains (t ∷ []) in
-    let number = number_of_name trips trip in
-    let has : All (HasTrip (with_name trip trips)) trains = λ i d l. (kept trips trip number (get_or trains i d) (h.has_trips i d l)).1 in
-    record {
-      few = omega arith;
-      few_trips = omega (arith, one-more number trip trips, h.few_trips, long);
-      loaded = All-push (λ (u : StoredTrain). u.day < 31) trains t h.loaded loaded;
-      has_trips = All-push (HasTrip (with_name trip trips)) trains t has (rw (named-there (with_name trip trips) trip k found).1 found);
-      numbered = numbered;
-    }
+some_train : StoredTrain
+some_train = record { trip = 0; day = 0 }
 
--- the trains with one more, as contracts see them
-pub seen-more : (trips : List (List ℕ)) (trains : List StoredTrain) (trip : List ℕ) (k day : ℕ) → number_of_name trips trip ≡ Some k
-    → map (seen_train trips) (trains ++ record { trip = k; day = day } ∷ []) ≡ map (seen_train trips) trains ++ record { trip = trip; day = day } ∷ []
-seen-more trips trains trip k day found = rw (map-append, (named-there trips trip k found).1) refl
+module _ (trains : List StoredTrain) (es : List Entry) (few : length trains ≤ 200000) (small : All IsSmall trains) (moved : IsPermutation (entries_of train_key 0 trains) es) (sorted : IsNonDecreasingBy order_of es) where
+  number-below : (i : ℕ) (d : Entry) → i < length es → (get_or es i d).number < 200000
+  number-below i d l = omega (arith, few, (moved-own train_key trains some_train es moved i d l).below)
+
+  pub train-keys-rise : IsNonDecreasingBy key_of es
+  train-keys-rise i j d le l =
+      omega (arith, sorted i j d le l, number-below i d (omega arith), number-below j d l)
+
+  pub trains-numbered : AreNumbered trains es
+  trains-numbered = record {
+    found = λ trip day loaded.
+        numbered train_key trains some_train es moved (λ a b. ltb (order_of a) (order_of b)) (λ (t : StoredTrain). nat_eq t.trip trip && nat_eq t.day day) (has_key (key_at trip day))
+        (λ i j d le l. (let rise = sorted i j d le l in grind (arith, nat_tests)))
+        (λ k l. (let t = small k some_train l in grind (arith, nat_tests, common_steps, t.trip, t.day)))
+        (λ a b own other one two. grind (arith, nat_tests));
+  }

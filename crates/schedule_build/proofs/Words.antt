@@ -26,10 +26,8 @@ pub use Rattle.schedule_build.specs.Directory.{Place, day_named, days_from, name
 pub use Rattle.schedule_build.specs.Runs.{HasService, all_runs, day_runs, is_set, runs_from, runs_on}
 pub use Rattle.schedule_build.specs.Schedule.{IsFit, count_calls, pushed, run_calls, run_train, schedule, schedule_of, too_many}
 pub use Rattle.schedule_build.specs.Services.{changes, is_active, runs}
-pub use Rattle.schedule_build.specs.Stored.{seen_place}
-pub use Rattle.schedule_build.specs.StoredTrains.{AreNamed, AreNumbered, HasTrip, key_cmp, seen_train, trip_name}
+pub use Rattle.schedule_build.specs.StoredTrains.{AreNamed, AreNumbered, HasTrip, IsSmall, key_at, order_of, seen_train, train_key, trip_name}
 pub use Rattle.schedule_build.specs.TripCalls.{IsTimely, timed_calls, trip_calls}
-pub use Rattle.schedule_build.specs.declared.places.StoredPlace.{StoredPlace}
 pub use Rattle.schedule_build.specs.declared.runs.Run.{Run}
 pub use Rattle.schedule_build.specs.declared.train_names.StoredTrain.{StoredTrain}
 pub use Rattle.state_laws.proofs.Parts.{AtEach, IsGood, IsUnreported, each-from, each-none, events-from_each, valid-from}

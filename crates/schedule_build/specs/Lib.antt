@@ -1,8 +1,10 @@
 pub mod Bases
+pub mod Buckets
 pub mod Dates
 pub mod Directory
 pub mod Faults
 pub mod Groups
+pub mod Hashed
 pub mod InStep
 pub mod Runs
 pub mod Schedule

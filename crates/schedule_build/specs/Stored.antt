@@ -1,9 +1,9 @@
 -- How names are stored, and the numbers that they stand for.
-use Rattle.std.specs.Prelude.{◌≡◌, ℕ, ◌++◌, [], ◌∷◌, List, Option, Some, None, nat_eq, bytes_eq, ◌&&◌}
-use Rattle.std.specs.BTreeMap.{get_by_text}
+use Rattle.std.specs.Prelude.{◌≡◌, ℕ, [], ◌∷◌, List, Option, IsSome, true, false, Bool, nat_eq, bytes_eq, slice_index_or, slice_get, ◌&&◌}
+use Rattle.std.specs.Option.{option_map_or}
+use Rattle.mt_base.specs.declared.places.PlaceKind.{PlaceKind}
+use Rattle.mt_base.specs.declared.tables.TripRow.{TripRow}
 use Rattle.delay_model.specs.Names.{TrainName}
-use Rattle.schedule_build.specs.declared.name_numbers.NameNumbers.{NameNumbers}
-use Rattle.schedule_build.specs.declared.places.StoredPlace.{StoredPlace}
 use Rattle.schedule_build.specs.Directory.{Place, number_from}
 
 -- the number of the first name that is equal to a name
@@ -19,23 +19,21 @@ abbrev pub number_of_train : List TrainName → List ℕ → ℕ → Option ℕ
 number_of_train trains trip day =
     number_from 0 (λ (t : TrainName). bytes_eq t.trip trip && nat_eq t.day day) trains
 
--- the number that is stored for a name
-abbrev pub number_in : NameNumbers → List ℕ → Option ℕ
-number_in numbers name = get_by_text numbers.by_name name
+-- the name is one of these
+abbrev pub HasName : List (List ℕ) → List ℕ → Type 0
+HasName names name = IsSome (number_of_name names name)
 
--- the numbers are those of these names
-pub record IsNumbered (names : List (List ℕ)) (numbers : NameNumbers) : Type 0 where
-  pub found : (name : List ℕ) → number_in numbers name ≡ number_of_name names name
+-- the `trip_id` of a row of `trips.txt`, or the empty name where there is none
+abbrev pub trip_of_row : List TripRow → ℕ → List ℕ
+trip_of_row trips row = option_map_or (λ (t : TripRow). t.id) (slice_get trips row) []
 
--- a name at the end, where there was no number for it
-abbrev pub name_after : Option ℕ → List ℕ → List (List ℕ) → List (List ℕ)
-name_after None name names = names ++ name ∷ []
-name_after (Some number) name names = names
+-- the trip of each row that is marked has its name among these
+pub record AreSeen (trips : List TripRow) (marks : List Bool) (names : List (List ℕ))
+    : Type 0 where
+  pub seen : (row : ℕ) → slice_index_or marks row false ≡ true → HasName names (trip_of_row trips row)
 
--- the names, with a name at their end if it is a new one
-abbrev pub with_name : List ℕ → List (List ℕ) → List (List ℕ)
-with_name name names = name_after (number_of_name names name) name names
-
--- a stored place as contracts see it
-abbrev pub seen_place : StoredPlace → Place
-seen_place p = record { id = p.id; kind = p.kind }
+-- places by their ids and their kinds
+abbrev pub seen_places : List (List ℕ) → List PlaceKind → List Place
+seen_places [] kinds = []
+seen_places (id ∷ ids) [] = []
+seen_places (id ∷ ids) (kind ∷ kinds) = record { id = id; kind = kind } ∷ seen_places ids kinds

@@ -14,14 +14,14 @@ use crate::directory::Directory;
 use crate::extra_trains::ExtraTrains;
 use crate::name_list::NameList;
 use crate::places::Places;
+use crate::run_names::trains;
 use crate::runs::Run;
 use crate::service_day::{ServiceDay, service_day};
-use crate::train_names::TrainNames;
 use mt_base::memory::OutOfMemory;
 use mt_base::names::Name;
-use mt_base::numbers::{Day, Time};
+use mt_base::numbers::Time;
 use mt_base::options::Opts;
-use mt_base::tables::{Tables, TripRow};
+use mt_base::tables::Tables;
 use std::alloc::Global;
 
 /// So many days from the date `first` on, which have these bases.
@@ -51,34 +51,11 @@ fn names(alloc: Global, rows: &[Name]) -> Result<NameList, OutOfMemory>
     requires few { length rows.now < 2 ^ 32 }
     ensures { IfOk result (λ names. names ≡ rows.now) }
 {
-    let mut names = NameList::new(alloc);
+    let mut names = Vec::with_capacity(alloc, rows.len())?;
     for row in rows {
-        names.push(alloc, row.text())?;
+        names.push(row.copy(alloc)?)?;
     }
-    Ok(names)
-}
-
-/// The `trip_id` of a trip, or the empty text where there is no such row.
-fn trip_id<'t>(trips: &'t [TripRow], run: &Run) -> &'t str
-    ensures { result.now ≡ (name_of_run trips.now run.now).trip }
-{
-    match trips.get(run.trip as usize) {
-        Some(row) => row.id.text(),
-        None => "",
-    }
-}
-
-/// The names of the trains of the runs.
-fn trains(alloc: Global, trips: &[TripRow], runs: &[Run]) -> Result<TrainNames, OutOfMemory>
-    requires few { length runs.now ≤ 200000 }
-    requires loaded { All (λ (r : Run). r.day < 31) runs.now }
-    ensures { IfOk result (λ trains. trains ≡ map (name_of_run trips.now) runs.now) }
-{
-    let mut trains = TrainNames::new(alloc);
-    for run in runs {
-        trains = trains.with_train(alloc, trip_id(trips, run), Day::new(run.day))?;
-    }
-    Ok(trains)
+    NameList::build(alloc, names)
 }
 
 /// The names of a feed's timetable of so many days from the date `first` on, which have these bases

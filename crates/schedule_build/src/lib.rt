@@ -1,6 +1,7 @@
 //! From the tables of a feed to the trains of the loaded service days.
 #![tactic(auto)]
 
+mod buckets;
 pub mod dates;
 pub mod directory;
 mod directory_of;
@@ -9,9 +10,11 @@ mod extra_trains;
 pub mod faults;
 mod groups;
 pub mod in_step;
+mod name_hash;
 mod name_list;
 mod name_numbers;
 mod places;
+mod run_names;
 mod running;
 pub mod runs;
 pub mod schedule;

@@ -5,7 +5,7 @@ ghost use Rattle.std.specs.Option.{option_map, option_map_or};
 ghost use Rattle.schedule_build.specs.Directory.{Place, place_of_row};
 ghost use Rattle.schedule_build.specs.Stored.{number_of_place};
 
-use crate::name_numbers::NameNumbers;
+use crate::name_list::NameList;
 use mt_base::memory::OutOfMemory;
 use mt_base::names::Name;
 use mt_base::places::PlaceKind;
@@ -13,18 +13,11 @@ use mt_base::tables::StopRow;
 use std::alloc::Global;
 use std::marker::Model;
 
-/// A place: its `stop_id` and its kind.
-#[derive(Drop)]
-pub(crate) struct StoredPlace {
-    id: Name,
-    kind: PlaceKind,
-}
-
-/// The places of a feed in the order of their numbers.
+/// The places of a feed in the order of their numbers: the `stop_id` of each, and its kind.
 #[derive(Drop)]
 pub(crate) struct Places {
-    rows: Vec<StoredPlace>,
-    numbers: NameNumbers,
+    ids: NameList,
+    kinds: Vec<PlaceKind>,
 }
 
 impl Model for Places {
@@ -33,12 +26,34 @@ impl Model for Places {
 
     ghost Value = { List Place };
 
-    ghost use Rattle.std.specs.Prelude.{map};
-    ghost use Rattle.schedule_build.specs.Stored.{IsNumbered, seen_place};
+    ghost use Rattle.std.specs.Prelude.{◌≡◌, length};
+    ghost use Rattle.schedule_build.specs.Stored.{seen_places};
 
-    ghost view = { λ a. map seen_place a.rows.items };
+    ghost view = { λ a. seen_places a.ids a.kinds.items };
 
-    ghost invariant = { λ a. IsNumbered (map (λ p. p.id) a.rows.items) a.numbers };
+    ghost invariant = { λ a. length a.kinds.items ≡ length a.ids };
+}
+
+/// The `stop_id` of each row.
+fn ids_of(alloc: Global, rows: &[StopRow]) -> Result<Vec<Name>, OutOfMemory>
+    ensures { IfOk result (λ ids. ids.items ≡ map (λ r. r.id) rows.now) }
+{
+    let mut ids = Vec::with_capacity(alloc, rows.len())?;
+    for row in rows {
+        ids.push(row.id.copy(alloc)?)?;
+    }
+    Ok(ids)
+}
+
+/// The kind of each row.
+fn kinds_of(alloc: Global, rows: &[StopRow]) -> Result<Vec<PlaceKind>, OutOfMemory>
+    ensures { IfOk result (λ kinds. kinds.items ≡ map (λ r. r.kind) rows.now) }
+{
+    let mut kinds = Vec::with_capacity(alloc, rows.len())?;
+    for row in rows {
+        kinds.push(row.kind)?;
+    }
+    Ok(kinds)
 }
 
 impl Places {
@@ -47,16 +62,10 @@ impl Places {
         requires few { length rows.now < 2 ^ 32 }
         ensures { IfOk result (λ places. places ≡ map place_of_row rows.now) }
     {
-        let mut places = Vec::with_capacity(alloc, rows.len())?;
-        let mut numbers = NameNumbers::new(alloc);
-        for row in rows {
-            numbers.add(alloc, row.id.text(), places.len())?;
-            let id = row.id.copy(alloc)?;
-            places.push(StoredPlace { id, kind: row.kind })?;
-        }
+        let ids = ids_of(alloc, rows)?;
         Ok(Places {
-            rows: places,
-            numbers,
+            ids: NameList::build(alloc, ids)?,
+            kinds: kinds_of(alloc, rows)?,
         })
     }
 
@@ -64,26 +73,24 @@ impl Places {
     pub(crate) fn find(&self, id: &str) -> Option<u32>
         ensures { result ≡ number_of_place self.now id.now }
     {
-        self.numbers.find(id)
+        self.ids.find(id)
     }
 
     /// The kind of a place. None exactly where there is no such place.
     pub(crate) fn kind(&self, number: u32) -> Option<PlaceKind>
         ensures { result ≡ option_map (λ (p : Place). p.kind) (slice_get self.now number) }
     {
-        match self.rows.get(number as usize) {
-            Some(place) => Some(place.kind),
-            None => None,
+        let number = number as usize;
+        if number >= self.kinds.len() {
+            return None;
         }
+        Some(self.kinds[number])
     }
 
     /// The `stop_id` of a place, or the empty text where there is no such place.
     pub(crate) fn id(&self, number: u32) -> &str
         ensures { result.now ≡ option_map_or (λ (p : Place). p.id) (slice_get self.now number) [] }
     {
-        match self.rows.get(number as usize) {
-            Some(place) => place.id.text(),
-            None => "",
-        }
+        self.ids.name(number)
     }
 }

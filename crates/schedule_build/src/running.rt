@@ -10,13 +10,14 @@ use mt_base::memory::OutOfMemory;
 use mt_base::tables::{CalendarRow, DateRow, Tables};
 use std::alloc::Global;
 
-fn mark(marks: &mut Vec<bool>, service: u32, value: bool)
+/// Writes the mark with a number, if there is one.
+pub(crate) fn mark(marks: &mut Vec<bool>, number: u32, value: bool)
     ensures len { length marks.new.items ≡ length marks.old.items }
     ensures marks { (s : ℕ) → s < length marks.old.items → slice_index_or marks.new.items s false
-        ≡ (if nat_eq service s then value else slice_index_or marks.old.items s false) }
+        ≡ (if nat_eq number s then value else slice_index_or marks.old.items s false) }
 {
-    if (service as usize) < marks.len() {
-        marks[service as usize] = value;
+    if (number as usize) < marks.len() {
+        marks[number as usize] = value;
     }
 }
 
