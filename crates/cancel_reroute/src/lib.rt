@@ -9,4 +9,4 @@ mod rank;
 mod reroute;
 pub mod shape;
 
-pub use shape::{apply_shape, check_shape};
+pub use shape::{apply_shape, check_shape, check_shape_of_valid};

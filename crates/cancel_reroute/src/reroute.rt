@@ -1,14 +1,17 @@
 //! Reroutings.
 
-ghost use Rattle.std.specs.Prelude.{◌≡◌, ◌+◌, ◌<◌, ◌^◌, true, OnOk, length};
+ghost use Rattle.std.specs.Prelude.{◌≡◌, ◌+◌, ◌<◌, ◌^◌, IsTrue, false, true, OnOk, length};
 ghost use Rattle.delay_model.specs.declared.messages.Message.TheVariants.{Reroute};
+ghost use Rattle.delay_model.specs.declared.messages.Refusal.TheVariants.{Unknown};
 ghost use Rattle.delay_model.specs.Cuts as Cuts;
 ghost use Rattle.delay_model.specs.Cuts.{after, up_to};
 ghost use Rattle.delay_model.specs.Edges.{edges_along};
-ghost use Rattle.delay_model.specs.Effect.{effect};
-ghost use Rattle.delay_model.specs.Events.{calls_of, is_event, train_events};
-ghost use Rattle.delay_model.specs.Refusals.{any_reported, first_against_rank, refusal, stands_before};
+ghost use Rattle.delay_model.specs.Effect.{effect, node_at};
+ghost use Rattle.delay_model.specs.Events.{calls_of, is_event, is_live, train_events};
+ghost use Rattle.delay_model.specs.Refusals.{any_reported, first_against_rank, is_unknown};
+ghost use Rattle.delay_model.specs.Refusals.{refusal, refused_if, stands_before};
 ghost use Rattle.delay_model.specs.Touched.{new_events};
+ghost use Rattle.delay_model.specs.Valid.{IsValid};
 ghost use Rattle.graph_edit.specs.Values.{Gives};
 ghost use Rattle.cancel_reroute.specs.Ranks.{rank_along, last_of};
 
@@ -33,26 +36,70 @@ pub(crate) fn check_reroute(
     requires few { length via.now < 2 ^ 31 }
     ensures { Gives result (refusal g.now.network g.now.state (Reroute train from to via.now)) }
 {
+    check_known(g, train, from, to, via)?;
+    check_behind(g, &Node::departure(train, from))?;
+    check_rerouted(g, train, from, to, via)?;
+    check_spare_calls(g, via)
+}
+
+/// The same in a valid state, where of the edges along the train only those at the new calls can be
+/// against rank.
+#[tactic(auto, unfolding(delay_model::specs::Refusals::refusal))]
+pub(crate) fn check_reroute_of_valid(
+    g: &Graph,
+    train: TrainNo,
+    from: Label,
+    to: Label,
+    via: &[NewCall],
+) -> Result<(), Refusal>
+    requires valid { IsValid g.now.network g.now.state }
+    requires few { length via.now < 2 ^ 31 }
+    ensures { Gives result (refusal g.now.network g.now.state (Reroute train from to via.now)) }
+{
+    check_known(g, train, from, to, via)?;
+    check_behind(g, &Node::departure(train, from))?;
+    check_joined(g, train, from, to, via)?;
+    check_spare_calls(g, via)
+}
+
+/// Whether the two calls and the stops of the new ones are there, the departure and the arrival are
+/// live, and the one call stands before the other.
+fn check_known(
+    g: &Graph,
+    train: TrainNo,
+    from: Label,
+    to: Label,
+    via: &[NewCall],
+) -> Result<(), Refusal>
+    ensures known { Gives result (refused_if (is_unknown g.now.network g.now.state
+        (Reroute train from to via.now)) Unknown) }
+    ensures stand { OnOk result (stands_before from to (calls_of g.now.state train) ≡ true) }
+    ensures departs { OnOk result (IsTrue (is_live g.now.state (node_at train from true))) }
+    ensures arrives { OnOk result (IsTrue (is_live g.now.state (node_at train to false))) }
+{
     let trains = g.trains();
     if !trains.stands_before(train, from, to) {
         return Err(Refusal::Unknown);
     }
-    let departure = Node::departure(train, from);
-    let arrival = Node::arrival(train, to);
-    if !trains.live(departure) || !trains.live(arrival) || !are_at_stops(g, via) {
-        return Err(Refusal::Unknown);
+    let departs = trains.live(Node::departure(train, from));
+    let arrives = trains.live(Node::arrival(train, to));
+    if departs && arrives && are_at_stops(g, via) {
+        Ok(())
+    } else {
+        Err(Refusal::Unknown)
     }
-    check_behind(g, &departure)?;
-    check_rerouted(g, train, from, to, via)?;
-    check_spare_calls(g, via)
 }
 
 /// Whether no live event of the train behind this one is reported. The first that is, in the
 /// train's order, is shown.
 fn check_behind(g: &Graph, n: &Node) -> Result<(), Refusal>
+    requires { IsTrue (is_live g.now.state n.now) }
     ensures { Gives result
         (any_reported (after (is_event n.now) (train_events g.now.state n.now.train))) }
 {
+    if g.trains().next_report(*n).is_none() {
+        return Ok(());
+    }
     let mut passed = false;
     for event in g.trains().events(n.train) {
         if passed {
@@ -61,6 +108,34 @@ fn check_behind(g: &Graph, n: &Node) -> Result<(), Refusal>
         passed = passed || event.key.node().is_same(n);
     }
     Ok(())
+}
+
+/// Whether no edge along the train, as it is after the rerouting of a valid state, is against rank:
+/// none up to the departure of the one call, nor from the arrival of the other on.
+#[tactic(auto, using(crate::proofs::RerouteLemmas::train_there))]
+fn check_joined(
+    g: &Graph,
+    train: TrainNo,
+    from: Label,
+    to: Label,
+    via: &[NewCall],
+) -> Result<(), Refusal>
+    requires valid { IsValid g.now.network g.now.state }
+    requires stand { stands_before from to (calls_of g.now.state train) ≡ true }
+    requires departs { IsTrue (is_live g.now.state (node_at train from true)) }
+    requires arrives { IsTrue (is_live g.now.state (node_at train to false)) }
+    requires few { length via.now < 2 ^ 31 }
+    ensures { Gives result (first_against_rank (edges_along g.now.network.opts
+        (train_events (effect g.now.state (Reroute train from to via.now)) train))) }
+{
+    let trains = g.trains();
+    let departure = trains.event(Node::departure(train, from));
+    let arrival = trains.event(Node::arrival(train, to));
+    let mut check = RankCheck {
+        last: Some(departure),
+    };
+    check_new(g, &mut check, train, via)?;
+    check.next(g, &arrival)
 }
 
 /// Whether no edge along the train, as it is after the rerouting, is against rank.
@@ -78,11 +153,9 @@ fn check_rerouted(
         (train_events (effect g.now.state (Reroute train from to via.now)) train))) }
 {
     let mut check = RankCheck { last: None };
-    let departure = Node::departure(train, from);
-    let arrival = Node::arrival(train, to);
-    check_front(g, &mut check, &departure)?;
+    check_front(g, &mut check, &Node::departure(train, from))?;
     check_new(g, &mut check, train, via)?;
-    check_back(g, &mut check, &arrival)
+    check_back(g, &mut check, &Node::arrival(train, to))
 }
 
 /// Goes on through the events of the train up to a departure.

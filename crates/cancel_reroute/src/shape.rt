@@ -4,12 +4,13 @@ ghost use Rattle.std.specs.Prelude.{◌≡◌, None};
 ghost use Rattle.delay_model.specs.Effect.{effect};
 ghost use Rattle.delay_model.specs.Messages.{IsWellFormed};
 ghost use Rattle.delay_model.specs.Refusals.{refusal};
+ghost use Rattle.delay_model.specs.Valid.{IsValid};
 ghost use Rattle.graph_edit.specs.Values.{Gives};
 ghost use Rattle.train_nodes.specs.Kinds.{HasFewCalls, message_of_shape};
 
 use crate::cancel::check_cancel;
 use crate::extra::check_extra;
-use crate::reroute::check_reroute;
+use crate::reroute::{check_reroute, check_reroute_of_valid};
 use delay_model::messages::Refusal;
 use edge_rules::Graph;
 use train_nodes::kinds::Shape;
@@ -34,6 +35,25 @@ pub fn check_shape(g: &Graph, s: &Shape<'_>) -> Result<(), Refusal>
             calls,
             ..
         } => check_extra(g, *train, *route, calls),
+    }
+}
+
+/// The same in a valid state: of a rerouted train then only the calls between the two are looked
+/// at, and the new ones, where no event behind them is reported.
+pub fn check_shape_of_valid(g: &Graph, s: &Shape<'_>) -> Result<(), Refusal>
+    requires valid { IsValid g.now.network g.now.state }
+    requires well_formed { IsWellFormed (message_of_shape s.now) }
+    requires few { HasFewCalls (message_of_shape s.now) }
+    ensures { Gives result (refusal g.now.network g.now.state (message_of_shape s.now)) }
+{
+    match s {
+        Shape::Reroute {
+            train,
+            from,
+            to,
+            via,
+        } => check_reroute_of_valid(g, *train, *from, *to, via),
+        Shape::Cancel { .. } | Shape::Extra { .. } => check_shape(g, s),
     }
 }
 

@@ -1,6 +1,8 @@
 -- The edges at an event of a graph, and what the functions of a graph need.
-use Rattle.edge_rules.proofs.Words.{length_permutation, seen, stands_before, ◌≡◌, ℕ, ◌++◌, Some, refl, List, sym, NewCall, Reroute, effect, calls_of, ◌≤◌, length, fold, later, All, AllPairs, AllPairs-filter, AllPairs-nil, All-permutation, All-contains_itself, Contains, IsPermutation, IsPermutation-sym, Node, Edge, Event, Opts, State, Shift, Into, From, Changing, DifferInEnds, edges_to, edges_from, along_to, along_from, planned_at, kept_at, waits_at, transfers_to, true, false, incoming, outgoing, train_edges, event_named, node_of, filter, may_change, stored_time, IsReady, HasOwnLabels, IsConsistent, Inside, GraphState}
+use Rattle.edge_rules.proofs.Words.{arith, IsLater, All-left, All-right, length-append, length_permutation, seen, stands_before, ◌≡◌, ℕ, ◌++◌, Some, refl, List, sym, NewCall, Reroute, effect, calls_of, ◌≤◌, length, later, All, AllPairs, AllPairs-filter, AllPairs-nil, All-permutation, All-contains_itself, Contains, IsPermutation, IsPermutation-sym, Node, Edge, Event, Opts, State, Shift, Into, From, Changing, DifferInEnds, edges_to, edges_from, along_to, along_from, planned_at, kept_at, waits_at, transfers_to, true, false, incoming, outgoing, train_edges, event_named, node_of, filter, may_change, stored_time, IsReady, HasOwnLabels, IsConsistent, Inside, GraphState}
 use Rattle.delay_model.proofs.OneEdge.{one-edge}
+use Rattle.std.proofs.lemmas.List.Sums.{fold-append}
+use Rattle.state_laws.proofs.Values.{pairs-right}
 use Rattle.train_nodes.specs.Times.{StoredTimes}
 use Rattle.edge_rules.proofs.Given.{at-each}
 use Rattle.edge_rules.proofs.Reordered.{pairs-permuted}
@@ -25,20 +27,38 @@ each : (found es : List Edge) → IsPermutation found es → AllPairs DifferInEn
 each found es p once = (p, pairs-permuted DifferInEnds (λ d e h from to. h (sym from) (sym to)) es found (IsPermutation-sym found es p) once)
 
 module _ {a : Inside} {g : GraphState} {v : Event} (h : IsConsistent a) (is : seen a ≡ g) (named : event_named g.state (node_of v.key) ≡ Some v) where
-  -- the edges to an event, those that leave it, and those of them that may change a time are found
-  pub edges-found : IsEach (along_to g.network.opts g.state (node_of v.key) ++ (planned_at g a.index.entries (Into (waits_at g v)) v ++ kept_at g true v)) (edges_to g (node_of v.key)) × IsEach (along_from g.network.opts g.state (node_of v.key) ++ (planned_at g a.index.entries From v ++ kept_at g false v)) (edges_from g (node_of v.key)) × ((shift : Shift) → AreWithin shift.longest_wait g.network.rules → IsEach (along_from g.network.opts g.state (node_of v.key) ++ (planned_at g a.index.entries (Changing shift) v ++ kept_at g false v)) (filter (may_change shift.was shift.is) (edges_from g (node_of v.key))))
+  -- the edges to an event, and those that leave it, are found
+  pub edges-found : IsEach (along_to g.network.opts g.state (node_of v.key) ++ (planned_at g a.index.entries (Into (waits_at g v)) v ++ kept_at g true v)) (edges_to g (node_of v.key)) × IsEach (along_from g.network.opts g.state (node_of v.key) ++ (planned_at g a.index.entries From v ++ kept_at g false v)) (edges_from g (node_of v.key))
   edges-found =
       let r = holds a g h is in
       let o = once g (node_of v.key) r.labels in
-      (each _ _ (edges-to_found g a.index _ v r.labels r.stops r.index named (waits_at g v)) o.0, each _ _ (edges-from_found g a.index _ v r.labels r.stops r.index named) o.1, λ shift short. each _ _ (edges-changing_found g a.index _ v r.labels r.stops r.index named shift short) (AllPairs-filter DifferInEnds (may_change shift.was shift.is) _ o.1))
+      (each _ _ (edges-to_found g a.index _ v r.labels r.stops r.index named (waits_at g v)) o.0, each _ _ (edges-from_found g a.index _ v r.labels r.stops r.index named) o.1)
 
-  -- what edges between trains ask for
-  pub transfers-found : (k : StoredTimes) (so_far : ℕ) → let found = planned_at g a.index.entries (Into (waits_at g v)) v ++ kept_at g true v in (fold (later (stored_time k)) so_far (transfers_to g v) ≡ fold (later (stored_time k)) so_far found) × (length (transfers_to g v) ≡ length found) × (All (IsReady k) (transfers_to g v) → All (IsReady k) found)
-  transfers-found k so_far =
+  -- and those between trains that may change a time, where the one along its train stands before them
+  pub changing-found : (shift : Shift) → AreWithin shift.longest_wait g.network.rules → let found = planned_at g a.index.entries (Changing shift) v ++ kept_at g false v in IsPermutation (along_from g.network.opts g.state (node_of v.key) ++ found) (filter (may_change shift.was shift.is) (edges_from g (node_of v.key))) × AllPairs DifferInEnds found
+  changing-found shift short =
       let r = holds a g h is in
-      let p = transfers-to_found g a.index _ v r.labels r.stops r.index named (waits_at g v) in
-      let q = IsPermutation-sym _ _ p in
-      (fold-same (stored_time k) so_far _ _ (All-permutation (Contains _) _ _ p (All-contains_itself _)) (All-permutation (Contains _) _ _ q (All-contains_itself _)), length_permutation _ _ p, All-permutation (IsReady k) _ _ q)
+      let all = each _ _ (edges-changing_found g a.index _ v r.labels r.stops r.index named shift short) (AllPairs-filter DifferInEnds (may_change shift.was shift.is) _ (once g (node_of v.key) r.labels).1) in
+      (all.0, pairs-right DifferInEnds (along_from g.network.opts g.state (node_of v.key)) _ all.1)
+
+  -- the edges between trains that lead to an event, as they are found
+  module _ (k : StoredTimes) where
+    to-found : IsPermutation (planned_at g a.index.entries (Into (waits_at g v)) v ++ kept_at g true v) (transfers_to g v)
+    to-found = let r = holds a g h is in transfers-to_found g a.index _ v r.labels r.stops r.index named (waits_at g v)
+
+    pub ready-transfers : All (IsReady k) (transfers_to g v) → All (IsReady k) (planned_at g a.index.entries (Into (waits_at g v)) v) × All (IsReady k) (kept_at g true v)
+    ready-transfers ready =
+        let all = All-permutation (IsReady k) _ _ (IsPermutation-sym _ _ to-found) ready in
+        (All-left (IsReady k) _ _ all, All-right (IsReady k) (planned_at g a.index.entries (Into (waits_at g v)) v) _ all)
+
+    -- what they ask for, the planned ones and then the kept ones
+    pub later-transfers : (so_far steps time spent last total : ℕ) → IsLater k so_far steps (planned_at g a.index.entries (Into (waits_at g v)) v) time spent → IsLater k time spent (kept_at g true v) last total → IsLater k so_far steps (transfers_to g v) last total
+    later-transfers so_far steps time spent last total x y =
+        let p = to-found in
+        let q = IsPermutation-sym _ _ p in
+        let same = fold-same (stored_time k) so_far _ _ (All-permutation (Contains _) _ _ p (All-contains_itself _)) (All-permutation (Contains _) _ _ q (All-contains_itself _)) in
+        let long = length_permutation _ _ p in
+        grind (arith, x, y, same, long, fold-append (later (stored_time k)) so_far, length-append {A = Edge})
 
 -- the events beside an event are there, by any options
 abbrev pub any_opts : Opts
@@ -55,4 +75,4 @@ pub reroute-fits : (st : State) (n from to : ℕ) (via : List NewCall) → stand
 reroute-fits st n from to via stands = (refl, λ next h. (reroute-next st n from to next via stands h).0)
 
 -- what the functions of a graph need
-pub ruleset graphs = (choice_keeps, not-chosen, no-event, live-there, named-is, named-there, cancel-there, extra-keeps, index-events, reroute-fits, reroute-there, reroute-removes, reroute-keeps, transfers-found)
+pub ruleset graphs = (choice_keeps, not-chosen, no-event, live-there, named-is, named-there, cancel-there, extra-keeps, index-events, reroute-fits, reroute-there, reroute-removes, reroute-keeps)

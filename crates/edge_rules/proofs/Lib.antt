@@ -4,6 +4,7 @@ pub mod Neighbours
 pub mod Given
 pub mod Caps
 pub mod LocalRule
+pub mod SoFar
 pub mod PieceLemmas
 pub mod TransferLemmas
 pub mod FoundLemmas

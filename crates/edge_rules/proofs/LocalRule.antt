@@ -12,13 +12,13 @@ rule-at g k n v x t labels named asked is = grind (arith, cap-is)
 
 module _ (k : StoredTimes) where
   -- the edges to an event: along its train, and those between trains
-  module _ (g : GraphState) (n : Node) (v : Event) (labels : All HasOwnLabels g.state.trains) (is : node_of v.key ≡ n) (named : event_named g.state (node_of v.key) ≡ Some v) where
+  module _ (g : GraphState) (v : Event) (labels : All HasOwnLabels g.state.trains) (named : event_named g.state (node_of v.key) ≡ Some v) where
     -- what each of the two needs
-    pub ready-parts : All (λ (e : Edge). has_time k (node_of e.from) ≡ true) (edges_to g n) → All (λ (e : Edge). stored_time k e.from + e.weight < 2 ^ 25) (edges_to g n) → All (IsReady k) (along_to g.network.opts g.state (node_of v.key)) × All (IsReady k) (transfers_to g v)
+    pub ready-parts : All (λ (e : Edge). has_time k (node_of e.from) ≡ true) (edges_to g (node_of v.key)) → All (λ (e : Edge). stored_time k e.from + e.weight < 2 ^ 25) (edges_to g (node_of v.key)) → All (IsReady k) (along_to g.network.opts g.state (node_of v.key)) × All (IsReady k) (transfers_to g v)
     ready-parts held fits =
-        let each : All (IsReady k) (edges_to g n) = λ i d l. record { has = held i d l; fits = fits i d l } in
-        let all = rw (← is, (edges-at g (node_of v.key) v labels named).0) at each in (All-left (IsReady k) _ _ all, All-right (IsReady k) (along_to g.network.opts g.state (node_of v.key)) _ all)
+        let each : All (IsReady k) (edges_to g (node_of v.key)) = λ i d l. record { has = held i d l; fits = fits i d l } in
+        let all = rw (edges-at g (node_of v.key) v labels named).0 at each in (All-left (IsReady k) _ _ all, All-right (IsReady k) (along_to g.network.opts g.state (node_of v.key)) _ all)
 
     -- the one after the other
-    pub later-parts : (so_far steps time spent last total : ℕ) → IsLater k so_far steps (along_to g.network.opts g.state (node_of v.key)) time spent → IsLater k time spent (transfers_to g v) last total → IsLater k so_far steps (edges_to g n) last total
+    pub later-parts : (so_far steps time spent last total : ℕ) → IsLater k so_far steps (along_to g.network.opts g.state (node_of v.key)) time spent → IsLater k time spent (transfers_to g v) last total → IsLater k so_far steps (edges_to g (node_of v.key)) last total
     later-parts so_far steps time spent last total x y = grind (arith, (edges-at g (node_of v.key) v labels named).0, fold-append (later (stored_time k)) so_far, length-append {A = Edge})

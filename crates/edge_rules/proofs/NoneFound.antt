@@ -1,8 +1,9 @@
 -- Where no edge between trains is found.
-use Rattle.edge_rules.proofs.Words.{◌≡◌, ℕ, Bool, true, false, nat_eq, List, [], length, None, arith, cond, nat_tests, All-filter, filter_passes, Node, Entry, Override, State, Event, wait_between, transfer, event_named, connection, wait, HasLiveEvent, HaveLiveEvents, of_entry, planned_with, planned_by, planned_at, kept_with, kept_at, of_name, GraphState, Wanted, Into, WaitsAt, Change, nil_from_length, connection_cmp, has_call, are_into, can_be_at, entries_near}
+use Rattle.edge_rules.proofs.Words.{◌≡◌, ℕ, Bool, true, false, nat_eq, List, [], length, None, arith, cond, nat_tests, All-filter, filter_passes, Node, Entry, Override, State, Event, wait_between, transfer, event_named, connection, wait, HasLiveEvent, HaveLiveEvents, of_entry, planned_with, planned_by, planned_at, kept_with, kept_at, of_name, GraphState, Wanted, Into, WaitsAt, Change, nil_from_length, connection_cmp, has_call, are_into, can_be_at}
 use mathlib.Core.Bool.{beq}
 use Rattle.std.specs.FinMap as finmap
 use Rattle.std.specs.FinMap.{FinMap, get-empty, empty_of_len}
+use Rattle.station_index.specs.Indexed.{entries_in}
 use Rattle.train_nodes.specs.Keeps.{kept_into, kept_from}
 use Rattle.edge_rules.proofs.Neighbours.{named-there}
 use Rattle.edge_rules.proofs.InLine.{filter-none}
@@ -41,8 +42,8 @@ pub no-event : (st : State) (n : Node) → has_call st n.train n.label ≡ false
 no-event st n h = grind (arith, named-there st n)
 
 -- entries of live events
-pub live_near : (st : State) (es : List Entry) (window : ℕ) (wanted : Wanted) (time : ℕ) (c : Change) → HaveLiveEvents st es → HaveLiveEvents st (entries_near window es wanted time c)
-live_near st es window wanted time c h = All-filter _ (HasLiveEvent st) es h
+pub live_in : (st : State) (es : List Entry) (stop : ℕ) (dep : Bool) (lo hi : ℕ) → HaveLiveEvents st es → HaveLiveEvents st (entries_in stop dep lo hi es)
+live_in st es stop dep lo hi h = All-filter _ (HasLiveEvent st) es h
 
 -- what is needed where no edges between trains are found, and of entries that are near
-pub ruleset none_found = (nat_tests, planned_not, planned_into, kept_not, filter-none, planned-unwaited, live_near)
+pub ruleset none_found = (nat_tests, planned_not, planned_into, kept_not, filter-none, planned-unwaited, live_in)

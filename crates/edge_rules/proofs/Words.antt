@@ -20,9 +20,8 @@ pub use Rattle.edge_rules.specs.Indexing.{AreNew, AreThere, IsIndexOf, entries_o
 pub use Rattle.edge_rules.specs.Inside.{HasOwnLabels, IsConsistent, seen}
 pub use Rattle.edge_rules.specs.Transfers.{transfer_between, transfers_to}
 pub use Rattle.edge_rules.specs.declared.graph.Graph.TheInside.{Inside}
-pub use Rattle.edge_rules.specs.declared.wanted.Shift.{Shift}
-pub use Rattle.edge_rules.specs.declared.wanted.Wanted.{Wanted}
-pub use Rattle.edge_rules.specs.declared.wanted.Wanted.TheVariants.{Changing, From, Into}
+pub use Rattle.edge_rules.specs.Wanted.{Changing, From, Into, Wanted, leaving}
+pub use Rattle.edge_rules.specs.declared.shift.Shift.{Shift}
 pub use Rattle.mt_base.specs.Order.{is_same, node_cmp, node_of}
 pub use Rattle.mt_base.specs.declared.index_entries.Entry.{Entry}
 pub use Rattle.mt_base.specs.declared.tables.RuleRow.{RuleRow}

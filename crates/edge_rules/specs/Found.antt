@@ -25,8 +25,7 @@ use Rattle.waiting_rules.specs.WaitTable.{WaitsAt, wait_table}
 use Rattle.edge_rules.specs.Deciding.{may_change}
 use Rattle.edge_rules.specs.GraphState.{GraphState}
 use Rattle.edge_rules.specs.Indexing.{entry_of}
-use Rattle.edge_rules.specs.declared.wanted.Wanted.{Wanted}
-use Rattle.edge_rules.specs.declared.wanted.Wanted.TheVariants.{Into, From, Changing}
+use Rattle.edge_rules.specs.Wanted.{Wanted, Into, From, Changing}
 
 -- what the change times of a network follow from
 abbrev pub tables_in : Network → ChangeTables
@@ -137,12 +136,6 @@ waits_at g v = record {
   connecting = v.route;
   stop = v.stop;
 }
-
--- the waits by which edges to an event are looked for are those of it
-abbrev pub AreWaitsAt : GraphState → Event → Wanted → Type 0
-AreWaitsAt g v (Into waits) = waits ≡ waits_at g v
-AreWaitsAt g v From = Unit {0}
-AreWaitsAt g v (Changing shift) = Unit {0}
 
 -- the longest wait of an edge in seconds, or 0
 abbrev pub wait_of : EdgeKind → ℕ

@@ -7,5 +7,6 @@ pub mod Inside
 pub mod Neighbours
 pub mod Transfers
 pub mod Deciding
+pub mod Wanted
 pub mod Found
 pub mod InsidePlanned

@@ -1,55 +1,53 @@
 //! The graph over the trains.
 
-ghost use Rattle.std.specs.Prelude.{◌≡◌, ℕ, ◌+◌, [], ◌∷◌, nat_eq, ◌<◌, ◌≤◌, ◌^◌, true, false};
-ghost use Rattle.std.specs.Prelude.{IsTrue, Some, None, All, IfOk, IfSome, filter, map, length};
-ghost use Rattle.std.specs.Prelude.{is_some};
+ghost use Rattle.std.specs.Prelude.{◌≡◌, ◌+◌, ◌++◌, [], ◌<◌, ◌≤◌, ◌^◌, true};
+ghost use Rattle.std.specs.Prelude.{IsTrue, Some, All, IfOk, filter, map, length};
 ghost use Rattle.std.specs.Option.{option_to_list};
 ghost use Rattle.std.specs.List.{AllPairs};
 ghost use Rattle.std.specs.List.Sorted.{IsPermutation};
 ghost use Rattle.mt_base.specs.Options.{IsInRange};
 ghost use Rattle.mt_base.specs.Order.{node_of};
 ghost use Rattle.mt_base.specs.declared.keys.Node.{Node as ANode};
-ghost use Rattle.delay_model.specs.declared.state.Event.{Event as AnEvent};
-ghost use Rattle.delay_model.specs.Edges.{DifferInEnds, edge_on, override_of, transfer};
-ghost use Rattle.delay_model.specs.Edges.{wait_between};
-ghost use Rattle.delay_model.specs.declared.overrides.Override.TheVariants as overrides;
+ghost use Rattle.delay_model.specs.Edges.{DifferInEnds};
 ghost use Rattle.delay_model.specs.Effect.{effect};
 ghost use Rattle.delay_model.specs.Events.{calls_of, event_named, is_live};
 ghost use Rattle.delay_model.specs.Refusals.{are_at_stops, stands_before};
-ghost use Rattle.delay_model.specs.Waits.{wait};
 ghost use Rattle.delay_model.specs.declared.messages.Message.TheVariants as messages;
 ghost use Rattle.train_nodes.specs.Times.{has_time};
 ghost use Rattle.waiting_rules.specs.WaitTable.{parent_station};
 ghost use Rattle.edge_rules.specs.Asking.{IsLater, IsReady};
-ghost use Rattle.edge_rules.specs.AtEvent.{along_to, edges_to, edges_from, stored_time, local_at};
+ghost use Rattle.edge_rules.specs.AtEvent.{along_from, along_to, edges_to, edges_from};
+ghost use Rattle.edge_rules.specs.AtEvent.{stored_time, local_at};
 ghost use Rattle.edge_rules.specs.AtStops.{AreAtStops};
 ghost use Rattle.edge_rules.specs.Deciding.{may_change};
 ghost use Rattle.edge_rules.specs.Inside.{network_of, HasOwnLabels};
-ghost use Rattle.edge_rules.specs.Found.{AreWaitsAt, planned_between, wait_of, waits_at};
+ghost use Rattle.edge_rules.specs.Found.{wait_of};
 ghost use Rattle.edge_rules.specs.GraphState.{with_state};
 ghost use Rattle.edge_rules.specs.Transfers.{transfers_to};
 
-use crate::along::{edge_between, edge_into, edge_out};
-use crate::connections::{is_planned, may_connect};
+use crate::along::{edge_into, edge_out};
+use crate::asking::{later_by_kept, later_by_planned};
 use crate::copies::{copy_events, copy_rules};
-use crate::edges::Edges;
+use crate::edges::{ChangingEdges, Edges};
 use crate::indexing::{index_of, insert_calls, insert_train, remove_between, remove_stretch};
-use crate::rule::{by_reports, floor, later_by, later_by_each};
-use crate::transfers::{kept_edges, planned_edges, planned_to};
-use crate::wanted::{Shift, Wanted};
+use crate::kept::kept_edges;
+use crate::planned_from::planned_from;
+use crate::planned_into::planned_into;
+use crate::rule::{by_reports, floor, later_by};
+use crate::shift::Shift;
 use change_times::Changes;
-use delay_model::state::{Edge, EdgeKind, Event};
+use delay_model::state::{Edge, Event};
 use mt_base::keys::Node;
 use mt_base::memory::OutOfMemory;
 use mt_base::new_calls::NewCall;
-use mt_base::numbers::{Day, Label, RouteNo, StopNo, Time, TrainNo};
+use mt_base::numbers::{Day, Label, RouteNo, Time, TrainNo};
 use mt_base::options::Opts;
 use station_index::StationIndex;
 use std::alloc::Global;
 use std::marker::Model;
 use std::sync::ledger::Ledger;
 use train_nodes::{NodeTimes, Steps, Trains};
-use waiting_rules::{WaitClass, Waits};
+use waiting_rules::Waits;
 
 /// The trains, with the index of their live events, the change times, the waiting rules and the
 /// options, from which the edges at an event are found.
@@ -57,9 +55,9 @@ use waiting_rules::{WaitClass, Waits};
 pub struct Graph {
     pub(crate) trains: Trains,
     index: StationIndex,
-    changes: Changes,
-    waits: Waits,
-    opts: Opts,
+    pub(crate) changes: Changes,
+    pub(crate) waits: Waits,
+    pub(crate) opts: Opts,
 }
 
 impl Model for Graph {
@@ -155,6 +153,16 @@ impl Graph {
         &self.changes
     }
 
+    /// A live event by its name.
+    #[inline(always)]
+    pub fn live_event(&self, n: &Node) -> Event
+        requires { IsTrue (is_live self.now.state n.now) }
+        ensures named { node_of result.key ≡ n.now }
+        ensures there { event_named self.now.state (node_of result.key) ≡ Some result }
+    {
+        self.trains.event(*n)
+    }
+
     /// The edges that lead to an event, each once, in no order that is promised.
     pub fn incoming(&self, n: Node) -> Edges<'_>
         requires { IsTrue (is_live self.now.state n) }
@@ -164,7 +172,8 @@ impl Graph {
         let at = self.live_event(&n);
         Edges {
             along: edge_into(&self.trains, &self.opts, &at),
-            planned: planned_to(self, &self.index, &at),
+            planned_into: planned_into(self, &self.index, &at),
+            planned_from: None,
             kept: kept_edges(self, true, &at),
         }
     }
@@ -178,48 +187,59 @@ impl Graph {
         let at = self.live_event(&n);
         Edges {
             along: edge_out(&self.trains, &self.opts, &at),
-            planned: planned_edges(self, &self.index, Wanted::From, &at),
+            planned_into: None,
+            planned_from: planned_from(self, &self.index, None, &at),
             kept: kept_edges(self, false, &at),
         }
     }
 
-    /// The edges that leave an event and may change the time of the event to which they lead, where
-    /// this one gets the time `is` in place of `was`; each once, in no order that is promised.
-    pub fn changing(&self, n: Node, was: Time, is: Time) -> Edges<'_>
-        requires { IsTrue (is_live self.now.state n) }
-        ensures edges { IsPermutation result (filter (may_change was is) (edges_from self.now n)) }
+    /// The edge along its train that leaves an event, if there is one.
+    pub fn along_from(&self, at: &Event) -> Option<Edge>
+        requires there { event_named self.now.state (node_of at.now.key) ≡ Some at.now }
+        ensures { option_to_list result
+            ≡ along_from self.now.network.opts self.now.state (node_of at.now.key) }
+    {
+        edge_out(&self.trains, &self.opts, at)
+    }
+
+    /// The edges between trains that leave an event and may change the time of the event to which
+    /// they lead, where this one gets the time `is` in place of `was`; each once, in no order that
+    /// is promised. With the edge along its train, which always may, these are all that may.
+    #[inline(always)]
+    pub fn transfers_changing(&self, at: &Event, was: Time, is: Time) -> ChangingEdges<'_>
+        requires there { event_named self.now.state (node_of at.now.key) ≡ Some at.now }
+        ensures edges { IsPermutation
+            (along_from self.now.network.opts self.now.state (node_of at.now.key) ++ result)
+            (filter (may_change was is) (edges_from self.now (node_of at.now.key))) }
         ensures once { AllPairs DifferInEnds result }
     {
-        let at = self.live_event(&n);
         let shift = Shift {
             was,
             is,
             longest_wait: self.waits.longest_wait(),
         };
-        Edges {
-            along: edge_out(&self.trains, &self.opts, &at),
-            planned: planned_edges(self, &self.index, Wanted::Changing(shift), &at),
-            kept: kept_edges(self, false, &at),
+        ChangingEdges {
+            planned: planned_from(self, &self.index, Some(shift), at),
+            kept: kept_edges(self, false, at),
         }
     }
 
     /// The time of an event by the rule, in seconds from the base of day 0, from the stored times
     /// of the events that feed it. For each edge to it one of these is read, which takes a step,
     /// and nothing else takes one.
-    pub fn local<L: Ledger>(&self, n: Node, times: &NodeTimes, steps: &mut Steps<L>) -> Time
-        requires live { IsTrue (is_live self.now.state n) }
+    pub fn local_at<L: Ledger>(&self, at: &Event, times: &NodeTimes, steps: &mut Steps<L>) -> Time
+        requires there { event_named self.now.state (node_of at.now.key) ≡ Some at.now }
         requires held { All (λ e. IsTrue (has_time times.now (node_of e.from)))
-            (edges_to self.now n) }
+            (edges_to self.now (node_of at.now.key)) }
         requires fits { All (λ e. stored_time times.now e.from + e.weight < 2 ^ 25)
-            (edges_to self.now n) }
-        ensures rule { local_at self.now times.now n ≡ Some result }
-        ensures cost { steps.new ≡ steps.old + length (edges_to self.now n) }
+            (edges_to self.now (node_of at.now.key)) }
+        ensures rule { local_at self.now times.now (node_of at.now.key) ≡ Some result }
+        ensures cost { steps.new ≡ steps.old + length (edges_to self.now (node_of at.now.key)) }
     {
         let trains = self.trains();
-        let at = self.live_event(&n);
-        let along = self.later_along(&at, floor(&at), times, steps);
-        let time = self.later_by_transfers(&at, along, times, steps);
-        by_reports(trains, &at, time)
+        let along = self.later_along(at, floor(at), times, steps);
+        let time = self.later_by_transfers(at, along, times, steps);
+        by_reports(trains, at, time)
     }
 
     /// A train does not run from the departure of one call to the arrival of a later one, and what
@@ -266,45 +286,6 @@ impl Graph {
         number
     }
 
-    /// The edge along a train from an event to the next one, if both are live.
-    pub fn edge_along(&self, from: &Event, to: &Event) -> Option<Edge>
-        ensures { option_to_list result ≡ edge_on self.now.network.opts from.now (to.now ∷ []) }
-    {
-        edge_between(&self.opts, from, to)
-    }
-
-    /// The edge from one event to another that the waiting rules plan where no dispatcher chose
-    /// anything for the connection.
-    #[tactic(auto, unfolding(delay_model::specs::Edges::transfer))]
-    pub fn edge_by_rule(&self, from: &Event, to: &Event) -> Option<Edge>
-        ensures { option_to_list result ≡ transfer self.now.network None from.now to.now }
-    {
-        if !may_connect(from, to) {
-            return None;
-        }
-        let weight = self.changes.change(from.stop, to.stop)?;
-        let wait = self.waits.wait(from.route, to.route, to.stop);
-        if !is_planned(&self.opts, weight, wait, from, to) {
-            return None;
-        }
-        Some(Edge {
-            from: from.key,
-            to: to.key,
-            weight,
-            kind: EdgeKind::Planned { wait },
-        })
-    }
-
-    /// A live event by its name.
-    #[inline(always)]
-    fn live_event(&self, n: &Node) -> Event
-        requires { IsTrue (is_live self.now.state n.now) }
-        ensures named { node_of result.key ≡ n.now }
-        ensures there { event_named self.now.state (node_of result.key) ≡ Some result }
-    {
-        self.trains.event(*n)
-    }
-
     /// The later of a time and of what the edge along its train asks for that leads to an event.
     #[inline(always)]
     fn later_along<L: Ledger>(
@@ -342,130 +323,7 @@ impl Graph {
         ensures { IsLater times.now so_far steps.old (transfers_to self.now at.now) result
             steps.new }
     {
-        let along = None;
-        let planned = planned_to(self, &self.index, at);
-        let kept = kept_edges(self, true, at);
-        if planned.is_none() && kept.is_none() {
-            return so_far;
-        }
-        later_by_each(
-            Edges {
-                along,
-                planned,
-                kept,
-            },
-            so_far,
-            times,
-            steps,
-        )
-    }
-
-    /// Whether there is no waiting rule.
-    pub(crate) fn has_no_rules(&self) -> bool
-        ensures { result ≡ nat_eq (length self.now.network.rules) 0 }
-    {
-        self.waits.is_empty()
-    }
-
-    /// Whether trains may wait at a stop: false only where none does.
-    pub(crate) fn may_wait_at(&self, stop: StopNo) -> bool
-        ensures { result ≡ false → (feeder connecting : ℕ) → wait self.now.network.stops
-            self.now.network.rules feeder connecting stop ≡ 0 }
-    {
-        self.waits.may_wait_at(stop)
-    }
-
-    /// How long after a change a departure may lie that is planned to be reached, in seconds.
-    pub(crate) fn window(&self) -> u32
-        ensures { result ≡ self.now.network.opts.window }
-    {
-        self.opts.window
-    }
-
-    /// The event of this name, live or not, if it is there.
-    pub(crate) fn find_event(&self, n: Node) -> Option<Event>
-        ensures { result ≡ event_named self.now.state n }
-    {
-        if !self.trains.has(n.train, n.label) {
-            return None;
-        }
-        Some(self.trains.event(n))
-    }
-
-    /// How long the train of a departure waits, by the routes of late feeders. None only if it
-    /// waits for none.
-    pub(crate) fn class(&self, at: &Event) -> Option<WaitClass<'_>>
-        ensures class { IfSome result (λ waits. waits ≡ waits_at self.now at.now) }
-        ensures none { result ≡ None → (u : AnEvent) → wait_between self.now.network u at.now ≡ 0 }
-    {
-        self.waits.class(at.route, at.stop)
-    }
-
-    /// How many seconds the train of `to` waits for that of `from`: by the waits of the one train
-    /// where edges to an event are looked for, and else by a look at all rules.
-    fn wait_by(&self, wanted: &Wanted<'_>, from: &Event, to: &Event) -> u32
-        requires { AreWaitsAt self.now to.now wanted.now }
-        ensures { result ≡ wait_between self.now.network from.now to.now }
-    {
-        match wanted {
-            Wanted::Into(class) => class.wait(from.route),
-            Wanted::From | Wanted::Changing(_) => self.waits.wait(from.route, to.route, to.stop),
-        }
-    }
-
-    /// The edge that is planned from one event to another by a change of so many seconds, if
-    /// nothing was chosen for the connection.
-    pub(crate) fn planned(
-        &self,
-        wanted: &Wanted<'_>,
-        seconds: u32,
-        from: &Event,
-        to: &Event,
-    ) -> Option<Edge>
-        requires { AreWaitsAt self.now to.now wanted.now }
-        ensures { option_to_list result ≡ planned_between self.now seconds from.now to.now }
-    {
-        if !may_connect(from, to) {
-            return None;
-        }
-        let wait = self.wait_by(wanted, from, to);
-        if !is_planned(&self.opts, seconds, wait, from, to) || self.is_chosen(from, to) {
-            return None;
-        }
-        Some(Edge {
-            from: from.key,
-            to: to.key,
-            weight: seconds,
-            kind: EdgeKind::Planned { wait },
-        })
-    }
-
-    /// Whether a dispatcher keeps or drops the connection between two events.
-    fn is_chosen(&self, from: &Event, to: &Event) -> bool
-        ensures { result ≡ is_some (override_of self.now.state from.now to.now) }
-    {
-        !self.trains.has_no_overrides()
-            && self
-                .trains
-                .override_of(from.key.node(), to.key.node())
-                .is_some()
-    }
-
-    /// The edge from one event to another whose connection is kept, if a change is possible.
-    #[tactic(auto, unfolding(delay_model::specs::Edges::transfer))]
-    pub(crate) fn kept(&self, from: &Event, to: &Event) -> Option<Edge>
-        ensures { option_to_list result ≡ transfer self.now.network (Some overrides.Keep)
-            from.now to.now }
-    {
-        if !may_connect(from, to) {
-            return None;
-        }
-        let weight = self.changes.change(from.stop, to.stop)?;
-        Some(Edge {
-            from: from.key,
-            to: to.key,
-            weight,
-            kind: EdgeKind::Kept,
-        })
+        let planned = later_by_planned(self, &self.index, at, so_far, times, steps);
+        later_by_kept(self, at, planned, times, steps)
     }
 }

@@ -5,16 +5,21 @@
 #![tactic(auto)]
 
 mod along;
+mod asking;
+mod between;
 mod connections;
 mod copies;
 pub mod edges;
 mod edits;
+mod entry_events;
 pub mod graph;
 mod indexing;
+mod kept;
+mod planned_from;
+mod planned_into;
 mod rule;
-mod transfers;
-mod wanted;
+mod shift;
 
-pub use edges::Edges;
+pub use edges::{ChangingEdges, Edges};
 pub use graph::Graph;
 pub use rule::{counts, floor};

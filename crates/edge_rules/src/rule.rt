@@ -1,13 +1,12 @@
 //! The parts of the rule for the time of an event.
 
-ghost use Rattle.std.specs.Prelude.{◌≡◌, ◌∷◌, ◌<◌, ◌^◌, [], All, IsTrue, unwrap_or};
+ghost use Rattle.std.specs.Prelude.{◌≡◌, ◌∷◌, ◌<◌, ◌^◌, [], IsTrue, unwrap_or};
 ghost use Rattle.mt_base.specs.Order.{node_of};
 ghost use Rattle.delay_model.specs.Timing.{capped, counts, floor_of, later_of};
 ghost use Rattle.train_nodes.specs.Calls.{has_event};
 ghost use Rattle.train_nodes.specs.Reports.{report_after};
 ghost use Rattle.edge_rules.specs.Asking.{IsLater, IsReady};
 
-use crate::edges::Edges;
 use delay_model::state::{Edge, EdgeKind, Event};
 use mt_base::numbers::Time;
 use std::sync::ledger::Ledger;
@@ -68,25 +67,6 @@ pub(crate) fn later_by<L: Ledger>(
 {
     let asked = times.read(edge.from.node(), steps).seconds() + edge.weight;
     later(edge, so_far, asked)
-}
-
-/// The latest of a time and of what these edges ask for by the stored times of the events that they
-/// leave. To read each of these takes a step.
-pub(crate) fn later_by_each<L: Ledger>(
-    edges: Edges<'_>,
-    so_far: u32,
-    times: &NodeTimes,
-    steps: &mut Steps<L>,
-) -> u32
-    requires ready { All (IsReady times.now) edges }
-    requires small { so_far < 2 ^ 25 }
-    ensures { IsLater times.now so_far steps.old edges.entry result steps.new }
-{
-    let mut time = so_far;
-    for edge in edges {
-        time = later_by(&edge, time, times, steps);
-    }
-    time
 }
 
 /// The time of an event by the reports of its train: its own report, or else what is asked for, but

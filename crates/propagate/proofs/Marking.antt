@@ -1,6 +1,8 @@
 -- The events to which edges lead are marked one after the other.
 use Rattle.propagate.proofs.Words.{◌≡◌, ◌<◌, ◌≤◌, ◌||◌, ◌&&◌, Bool, true, false, List, [], ◌∷◌, filter, length, get_or, refl, sym, ◌∙◌, subst, arith, inl, inr, All, All-contains, All-head, All-tail, All-permutation, Contains}
-use Rattle.propagate.proofs.Words.{list_any, list_any_at, list_any-IsPermutation, or_cases, cases_Bool, IsPermutation, IsPermutation-sym, Key, Edge, is_same, same-is, same-itself, Ascends, Marked, is_marked}
+use Rattle.propagate.proofs.Words.{Contains-append_left, Contains-append_right, ◌++◌, ap, list_any, list_any_at, list_any-IsPermutation, or_cases, cases_Bool, IsPermutation, IsPermutation-sym, Key, Edge, is_same, same-is, same-itself, Ascends, Marked, is_marked}
+use Rattle.std.proofs.lemmas.List.Elements.{Contains-get_or}
+use Rattle.std.proofs.lemmas.List.Folds.{list_any-append}
 use Rattle.propagate.proofs.Named.{find-any}
 use Rattle.rank_order.proofs.RoomLemmas.{room-left}
 
@@ -59,3 +61,29 @@ module _ {live : List Key} {gs : List Edge} {first : Marked} {left : List Edge} 
   -- in the end
   pub marking-last : left ≡ [] → (q : Key) → is_marked marks q ≡ (is_marked first q || leads gs q)
   marking-last none q = let all = rw none at part.marked q in grind (arith, all)
+
+-- the edge along the train, and then the others
+
+pub both-ends : (live : List Key) (along others gs : List Edge) → IsPermutation (along ++ others) gs → All (λ (e : Edge). Contains live e.to) gs → All (λ (e : Edge). Contains live e.to) along × All (λ (e : Edge). Contains live e.to) others
+both-ends live along others gs moved h =
+    let P : Edge → Type 0 = λ e. Contains live e.to in
+    let all = All-permutation P gs (along ++ others) (IsPermutation-sym (along ++ others) gs moved) h in
+    (λ i d l. All-contains P (along ++ others) (get_or along i d) all (Contains-append_left along others (get_or along i d) (Contains-get_or along i d l)), λ i d l. All-contains P (along ++ others) (get_or others i d) all (Contains-append_right along others (get_or others i d) (Contains-get_or others i d l)))
+
+pub next-known : (live : List Key) (along : List Edge) (first next : Marked) → All (Contains live) first.keys → All (λ (e : Edge). Contains live e.to) along → ((q : Key) → is_marked next q ≡ (is_marked first q || leads along q)) → All (Contains live) next.keys
+next-known live along first next known ends now =
+    each-marked (Contains live) next
+    (λ q h. elim (or_cases (is_marked first q) (leads along q) (sym (now q) ∙ h)) [
+      | inl before ↦ of-marked (Contains live) first known q before
+      | inr there ↦ (let r = find-any (λ (e : Edge). is_same e.to q) along there in subst (Contains live) (same-is r.one.to q r.passes) (All-contains (λ (e : Edge). Contains live e.to) along r.one ends r.there))
+    ])
+
+pub both-marked : (along others left gs : List Edge) (may : Edge → Bool) (first next last : Marked) → IsPermutation (along ++ others) (filter may gs) → left ≡ others → ((q : Key) → is_marked next q ≡ (is_marked first q || leads along q))
+    → ((q : Key) → is_marked last q ≡ (is_marked next q || leads left q)) → (q : Key) → is_marked last q ≡ (is_marked first q || list_any (λ (e : Edge). is_same e.to q && may e) gs)
+both-marked along others left gs may first next last moved is now then q =
+    let all : (leads along q || leads others q) ≡ list_any (λ (e : Edge). is_same e.to q && may e) gs = sym (list_any-append (λ (e : Edge). is_same e.to q) along others) ∙ list_any-IsPermutation (λ (e : Edge). is_same e.to q) (along ++ others) (filter may gs) moved ∙ leads-filter may gs q in
+    then q ∙ ap (λ ls. is_marked next q || leads ls q) is ∙ ap (λ b. b || leads others q) (now q) ∙ or-assoc (is_marked first q) (leads along q) (leads others q) ∙ ap (λ b. is_marked first q || b) all
+  where
+    or-assoc : (a b c : Bool) → ((a || b) || c) ≡ (a || (b || c))
+    or-assoc true b c = refl
+    or-assoc false b c = refl

@@ -5,7 +5,7 @@ ghost use Rattle.std.specs.List.{sum_by};
 ghost use Rattle.mt_base.specs.declared.keys.Node.{Node as ANode};
 ghost use Rattle.mt_base.specs.Order.{node_of, is_same_node};
 ghost use Rattle.delay_model.specs.declared.state.State.{State as AState};
-ghost use Rattle.delay_model.specs.Events.{events, is_live};
+ghost use Rattle.delay_model.specs.Events.{event_named, events};
 ghost use Rattle.delay_model.specs.Valid.{IsValid};
 ghost use Rattle.train_nodes.specs.Times.{time_of, has_time};
 ghost use Rattle.edge_rules.specs.AtEvent.{edges_to, stored_time, local_at};
@@ -14,10 +14,10 @@ ghost use Rattle.propagate.specs.LiveKeys.{HasItsTime, has_another, key_order, l
 ghost use Rattle.propagate.specs.Settling.{FollowsRule, is_due, reads_at};
 ghost use Rattle.propagate.specs.TimesFor.{HasTimesFor};
 
-use crate::successors::mark_successors;
+use crate::successors::mark_dependents;
 use crate::time_changes::TimeChange;
+use delay_model::state::Event;
 use edge_rules::Graph;
-use mt_base::keys::Node;
 use mt_base::numbers::Time;
 use rank_order::Marks;
 use std::sync::ledger::Ledger;
@@ -26,39 +26,40 @@ use train_nodes::{NodeTimes, Steps};
 /// Stores the time that the rule gives an event, and answers the one that was stored and this one.
 fn settle_one<L: Ledger>(
     graph: &Graph,
-    n: &Node,
+    at: &Event,
     times: &mut NodeTimes,
     steps: &mut Steps<L>,
 ) -> (Time, Time)
-    // a live event that has a time
-    requires live { IsTrue (is_live graph.now.state n.now) }
-    requires has { IsTrue (has_time times.old n.now) }
+    // an event that has a time
+    requires there { event_named graph.now.state (node_of at.now.key) ≡ Some at.now }
+    requires has { IsTrue (has_time times.old (node_of at.now.key)) }
 
     // the times of the events that feed it
     requires held { All (λ e. IsTrue (has_time times.old (node_of e.from)))
-        (edges_to graph.now n.now) }
+        (edges_to graph.now (node_of at.now.key)) }
     requires fits { All (λ e. stored_time times.old e.from + e.weight < 2 ^ 25)
-        (edges_to graph.now n.now) }
+        (edges_to graph.now (node_of at.now.key)) }
 
     // the time by the rule, and the one before
-    ensures rule { local_at graph.now times.old n.now ≡ Some result.1 }
-    ensures before { time_of times.old n.now ≡ Some result.0 }
-    ensures after { time_of times.new n.now ≡ Some result.1 }
+    ensures rule { local_at graph.now times.old (node_of at.now.key) ≡ Some result.1 }
+    ensures before { time_of times.old (node_of at.now.key) ≡ Some result.0 }
+    ensures after { time_of times.new (node_of at.now.key) ≡ Some result.1 }
 
     // what stays as it was
-    ensures others { (m : ANode) → is_same_node n.now m ≡ false → time_of times.new m
-        ≡ time_of times.old m }
+    ensures others { (m : ANode) → is_same_node (node_of at.now.key) m ≡ false
+        → time_of times.new m ≡ time_of times.old m }
     ensures has_times { (st : AState) → HasTimesFor st times.old → HasTimesFor st times.new }
 
     // the steps that are counted
-    ensures cost { steps.new ≡ steps.old + (1 + length (edges_to graph.now n.now)) }
+    ensures cost { steps.new
+        ≡ steps.old + (1 + length (edges_to graph.now (node_of at.now.key))) }
 {
-    let is = graph.local(*n, times, steps);
-    let was = times.read(*n, steps);
+    let is = graph.local_at(at, times, steps);
+    let was = times.read(at.key.node(), steps);
     if is == was {
         return (was, is);
     }
-    times.write(*n, is);
+    times.write(at.key.node(), is);
     (was, is)
 }
 
@@ -109,10 +110,11 @@ pub fn settle<L: Ledger>(
 {
     while let Some(key) = marks.take_least() {
         let n = key.node();
-        let (was, is) = settle_one(graph, &n, times, steps);
+        let at = graph.live_event(&n);
+        let (was, is) = settle_one(graph, &at, times, steps);
         if was != is {
             changed.push_reserved(TimeChange { key, was, is });
-            mark_successors(graph, &n, was, is, marks);
+            mark_dependents(graph, &at, was, is, marks);
         }
     }
 }

@@ -1,16 +1,18 @@
 -- Which call of a train comes after which, and what a message leaves of that.
 use Rattle.state_laws.proofs.Words.{◌≡◌, ◌≢◌, ℕ, zero, suc, ◌+◌, ◌<◌, ◌≤◌, ◌⊎◌, Bool, true, false, List, [], ◌∷◌, ◌++◌, Option, Some, None, length, map, is_some, refl, sym, ◌∙◌, ap, subst, arith, elements, inl, inr}
 use Rattle.state_laws.proofs.Words.{cases_Bool, cases_eq, eqb-true, eq-eqb, All, All-nil, All-cons, find, slice_get, option_map, option_map_or, nat_eq, nat_le, NewCall, Node, EventValues, Call, Train, State, Network}
-use Rattle.state_laws.proofs.Words.{Message, Report, Forecast, Correct, Withdraw, Cancel, Reroute, Extra, Keep, Drop, Rule, effect, with_event, change_train, change_calls, change_event, change_labelled, is_call, kill_in}
+use Rattle.state_laws.proofs.Words.{Message, Report, Forecast, Correct, Withdraw, Cancel, Reroute, Extra, Keep, Drop, Rule, effect, with_event, change_train, change_calls, change_event, change_labelled, is_call, kill_in, new_train, append_assoc, nat_lt, ◌-◌, ◌||◌, All-append}
 use Rattle.state_laws.proofs.Words.{after, before, up_to, stretch, new_call, new_calls, rerouted, with_report, with_forecast, calls_of, HasDistinctLabels, IsRun, IsTrain, refusal, leb-true, ltb-false, not-false, and_from, and_parts, slice_get_within, ◌&&◌}
+use Rattle.std.proofs.lemmas.Bool.{cases_lt}
 use Rattle.std.proofs.lemmas.Bool.Decides.{nat_tests}
+use Rattle.state_laws.proofs.Stretches.{All-from, All-up_to}
 use Rattle.delay_model.specs.Cuts as Cuts
 use Rattle.state_laws.proofs.Accepted.{accepted-by}
 use Rattle.state_laws.proofs.Changed.{get-other}
 use Rattle.state_laws.proofs.Parts.{trains-each}
 use Rattle.state_laws.proofs.Words.{are_at_stops, is_live, node_at, stands_before}
 use Rattle.train_nodes.proofs.EventLemmas.{live-there}
-use Rattle.timetable.specs.Linking.{HasRejoined}
+use Rattle.timetable.specs.Linking.{CanBeLinked, HasRejoined, is_relinked, used_labels}
 use Rattle.train_nodes.specs.Calls.{first_label, has_call, label_after, label_before, last_label}
 
 -- the call after that of a label is this one
@@ -41,6 +43,11 @@ next-found cs l d h next = next-each (λ c. find (is_call c.label) cs ≡ Some c
 pub next-there : (cs : List Call) (l : ℕ) (d : Call) → IsNextCall cs l d → is_some (find (is_call l) cs) ≡ true
 next-there [] l d next = absurd (cc)
 next-there (c ∷ cs) l d next = grind (arith, next-there cs l d)
+
+-- no call comes after one that is not there
+pub after-none : (cs : List Call) (l : ℕ) → is_some (find (is_call l) cs) ≡ false → label_after cs l ≡ None
+after-none [] l none = refl
+after-none (c ∷ cs) l none = grind (arith, after-none cs l)
 
 -- a label after another is that of a call
 pub next-call : (cs : List Call) (l m : ℕ) → label_after cs l ≡ Some m → (d : Call) × (IsNextCall cs l d) × (d.label ≡ m)
@@ -341,3 +348,130 @@ rejoined-by nw st (Reroute n from to via) accepted =
     let own : is_some (find (is_call to) r.0.calls) ≡ true = ap (λ cs. is_some (find (is_call to) cs)) (sym (ap calls_in r.1)) ∙ was in
     ap (λ cs. is_some (find (is_call to) cs)) calls ∙ find-more (is_call to) (up_to (is_call from) r.0.calls ++ new_calls r.0.next_label via) (Cuts.from (is_call to) r.0.calls) (find-from (is_call to) r.0.calls own)
 rejoined-by nw st m accepted = tt
+
+-- the call after another one, but for the one with which the first part of a list ends, is in that part or in what follows
+front-first : (p : Call → Bool) (cs ds : List Call) → is_some (find p cs) ≡ true → slice_get (up_to p cs ++ ds) 0 ≡ slice_get cs 0
+front-first p [] ds h = absurd (cc)
+front-first p (c ∷ cs) ds h = grind arith
+
+front-next : (from l : ℕ) (d : Call) (cs ds : List Call) → l ≢ from → is_some (find (is_call from) cs) ≡ true → IsNextCall (up_to (is_call from) cs ++ ds) l d → IsNextCall cs l d ⊎ IsNextCall ds l d
+front-next from l d [] ds differs h next = absurd (cc)
+front-next from l d (c ∷ cs) ds differs h next = grind (arith, nat_tests, front-first (is_call from) cs ds, front-next from l d cs ds differs)
+
+-- labels that are all too great are passed over
+pass-new : (low l : ℕ) (bs cs : List Call) → l < low → All (λ (c : Call). low ≤ c.label) bs → after (is_call l) (bs ++ cs) ≡ after (is_call l) cs
+pass-new low l [] cs less high = refl
+pass-new low l (b ∷ bs) cs less high = grind (arith, nat_tests, high 0 b (omega arith), pass-new low l bs cs less (λ i d m. high (suc i) d (omega arith)))
+
+-- along a rerouted train a call that is neither new nor the one before the new ones is followed as it was
+route-beside : (from to : ℕ) (via : List NewCall) (t : Train) (l : ℕ) (d : Call) → IsTrain t → is_some (find (is_call from) t.calls) ≡ true → l ≢ from → l < t.next_label → IsNextCall (rerouted from to via t).calls l d → IsNextCall t.calls l d
+route-beside from to via t l d is there differs low next =
+    let A = up_to (is_call from) t.calls in
+    let B = new_calls t.next_label via in
+    let C = Cuts.from (is_call to) t.calls in
+    let made = new-labels t.next_label t.next_label via (omega arith) in
+    let all : IsNextCall (A ++ (B ++ C)) l d = subst (λ cs. IsNextCall cs l d) (append_assoc A B C) next in
+    elim (front-next from l d t.calls (B ++ C) differs there all) [
+      | inl early ↦ early
+      | inr late ↦ next-from (is_call to) t.calls l d is.labels (rw (pass-new t.next_label l B C low made) at late)
+    ]
+
+-- what is found by a test passes it, and is as all are
+each-found : (P : Call → Type 0) (p : Call → Bool) (cs : List Call) (c : Call) → All P cs → find p cs ≡ Some c → P c × (p c ≡ true)
+each-found P p [] c h e = absurd (cc)
+each-found P p (x ∷ cs) c h e = grind (arith, h 0 x (omega arith), each-found P p cs c (λ i d m. h (suc i) d (omega arith)))
+
+-- and a call with a label that was used before is the one that had it
+route-found : (from to : ℕ) (via : List NewCall) (t : Train) (k : ℕ) (c : Call) → IsTrain t → k < t.next_label → find (is_call k) (rerouted from to via t).calls ≡ Some c → find (is_call k) t.calls ≡ Some c
+route-found from to via t k c is low found =
+    let P : Call → Type 0 = λ c. c.label < t.next_label → find (is_call c.label) t.calls ≡ Some c in
+    let own : All P t.calls = λ i d l. λ less. own-found t.calls is.labels i d l in
+    let made : All P (new_calls t.next_label via) = λ i d l. λ less. absurd (omega (arith, new-labels t.next_label t.next_label via (omega arith) i d l)) in
+    let all : All P (rerouted from to via t).calls = All-append P _ _ (All-append P _ _ (All-up_to P (is_call from) t.calls own) made) (All-from P (is_call to) t.calls own) in
+    let w = each-found P (is_call k) (rerouted from to via t).calls c all found in
+    let label : c.label ≡ k = eqb-true c.label k w.1 in
+    (subst (λ k. k < t.next_label → find (is_call k) t.calls ≡ Some c) label w.0) low
+
+-- what is left beside a call: the call after it, and both calls
+pub record IsBesideLeft (cs ds : List Call) (l : ℕ) (d : Call) : Type 0 where
+  pub after : label_after cs l ≡ Some d.label
+  pub calls : (k : ℕ) (c : Call) → (k ≡ l) ⊎ (k ≡ d.label) → find (is_call k) ds ≡ Some c → (a : Call) × (find (is_call k) cs ≡ Some a) × IsCallLeft a c
+
+one-left : (c : Call) → IsCallLeft c c
+one-left c = record { label = refl; stop = refl; alight = refl; arrives = λ h. h; departs = λ h. h }
+
+found-below : (cs : List Call) (l end : ℕ) → All (λ (c : Call). c.label < end) cs → is_some (find (is_call l) cs) ≡ true → l < end
+found-below cs l end used there = elim (cases_lt l end) [ inl less ↦ less | inr more ↦ let no = none-found cs end l more used in absurd (cc) ]
+
+not-relinked : (l from first count end : ℕ) → end ≡ first + count → (nat_eq l from || (nat_le (end - count) l && nat_lt l end)) ≡ false → l < end → (l ≢ from) × (l < first)
+not-relinked l from first count end e h less = grind (arith, nat_tests, h)
+
+beside-rerouted : (nw : Network) (st : State) (n from to : ℕ) (via : List NewCall) → All IsTrain st.trains → All IsTrain (effect st (Reroute n from to via)).trains → refusal nw st (Reroute n from to via) ≡ None → (l : ℕ) (d : Call) → (nat_eq l from || (nat_le (used_labels (effect st (Reroute n from to via)) n - length via) l && nat_lt l (used_labels (effect st (Reroute n from to via)) n))) ≡ false → IsNextCall (calls_of (effect st (Reroute n from to via)) n) l d → IsBesideLeft (calls_of st n) (calls_of (effect st (Reroute n from to via)) n) l d
+unfolding effect
+beside-rerouted nw st n from to via trains now accepted l d miss next =
+    let m = Reroute n from to via in
+    let was = rejoined-old nw st m accepted in
+    let r = train-there (slice_get st.trains n) (λ cs. is_some (find (is_call to) cs)) refl was in
+    let own = trains-each IsTrain st.trains trains n n r.0 (omega arith) r.1 in
+    let got : slice_get (change_train n (rerouted from to via) st.trains) n ≡ Some (rerouted from to via r.0) = change-own (rerouted from to via) n st.trains ∙ ap (option_map (rerouted from to via)) r.1 in
+    let is = trains-each IsTrain (change_train n (rerouted from to via) st.trains) now n n (rerouted from to via r.0) (omega arith) got in
+    let after : IsNextCall (rerouted from to via r.0).calls l d = rw (ap calls_in got) at next in
+    let end : l < r.0.next_label + length via = found-below (rerouted from to via r.0).calls l (r.0.next_label + length via) is.used (next-there (rerouted from to via r.0).calls l d after) in
+    let apart = not-relinked l from r.0.next_label (length via) (r.0.next_label + length via) refl (subst (λ o. (nat_eq l from || (nat_le (option_map_or (λ (t : Train). t.next_label) o 0 - length via) l && nat_lt l (option_map_or (λ (t : Train). t.next_label) o 0))) ≡ false) got miss) end in
+    let known = and_parts (stands_before from to (calls_of st n)) _ (not-false _ (accepted-by nw st m accepted).known) in
+    let departs = (and_parts (is_live st (node_at n from true)) (is_live st (node_at n to false)) (and_parts (is_live st (node_at n from true) && is_live st (node_at n to false)) (are_at_stops nw via) known.1).0).0 in
+    let stands : is_some (find (is_call from) (calls_of st n)) ≡ true = live-there st (node_at n from true) departs in
+    let before = route-beside from to via r.0 l d own (rw (ap calls_in r.1) at stands) apart.0 apart.1 after in
+    record {
+      after = rw (ap calls_in r.1) (ap (option_map (λ (c : Call). c.label)) before);
+      calls = λ k c which found.
+          let low : k < r.0.next_label = elim which [ inl e ↦ rw e apart.1 | inr e ↦ rw e (next-each (λ c. c.label < r.0.next_label) r.0.calls l d own.used before) ] in
+          (c, rw (ap calls_in r.1) (route-found from to via r.0 k c own low (rw (ap calls_in got) at found)), one-left c);
+    }
+
+line-beside : (cs ds : List Call) (l : ℕ) (d : Call) → IsLineLeft cs ds → IsNextCall ds l d → IsBesideLeft cs ds l d
+line-beside cs ds l d left next = record { after = sym (left.next l) ∙ ap (option_map (λ (c : Call). c.label)) next; calls = λ k c which found. left.calls k c found }
+
+beside-reshaped : (nw : Network) (st : State) (m : Message) → All IsTrain st.trains → All IsTrain (effect st m).trains → refusal nw st m ≡ None → (t l : ℕ) (d : Call) → is_reshaped m t ≡ true → is_relinked (effect st m) m t l ≡ false → IsNextCall (calls_of (effect st m) t) l d → IsBesideLeft (calls_of st t) (calls_of (effect st m) t) l d
+beside-reshaped nw st (Reroute n from to via) trains now accepted t l d mine miss next =
+    let new = effect st (Reroute n from to via) in
+    let same = eqb-true t n mine in
+    let inner = rw mine at miss in
+    subst (λ t. IsNextCall (calls_of new t) l d → IsBesideLeft (calls_of st t) (calls_of new t) l d) (sym same) (beside-rerouted nw st n from to via trains now accepted l d inner) next
+beside-reshaped nw st (Extra n day route cs) trains now accepted t l d mine miss next =
+    let new = effect st (Extra n day route cs) in
+    let same = eqb-true t n mine in
+    let inner : nat_lt l (used_labels new n) ≡ false = rw mine at miss in
+    let own : IsNextCall (calls_of new n) l d = subst (λ t. IsNextCall (calls_of new t) l d) same next in
+    let r = train-there (slice_get new.trains n) (λ cs. is_some (find (is_call l) cs)) refl (next-there (calls_of new n) l d own) in
+    let is = trains-each IsTrain new.trains now n n r.0 (omega arith) r.1 in
+    let less : l < r.0.next_label = found-below r.0.calls l r.0.next_label is.used (subst (λ o. is_some (find (is_call l) (calls_in o)) ≡ true) r.1 (next-there (calls_of new n) l d own)) in
+    let not : nat_lt l r.0.next_label ≡ false = subst (λ o. nat_lt l (option_map_or (λ (t : Train). t.next_label) o 0) ≡ false) r.1 inner in
+    absurd (grind (arith, nat_tests, less, not))
+beside-reshaped nw st m trains now accepted t l d mine miss next = absurd (cc)
+
+-- where the calls of a departure are not linked, nothing changed beside its call
+pub beside-left : (nw : Network) (st : State) (m : Message) → All IsTrain st.trains → All IsTrain (effect st m).trains → refusal nw st m ≡ None → (t l : ℕ) (d : Call) → is_relinked (effect st m) m t l ≡ false → IsNextCall (calls_of (effect st m) t) l d → IsBesideLeft (calls_of st t) (calls_of (effect st m) t) l d
+beside-left nw st m trains now accepted t l d miss next =
+    elim (cases_Bool (is_reshaped m t)) [
+      | inl mine ↦ beside-reshaped nw st m trains now accepted t l d mine miss next
+      | inr other ↦ line-beside (calls_of st t) (calls_of (effect st m) t) l d (line-left nw st m accepted t other) next
+    ]
+
+more-length : (ts : List Train) (u : Train) → length (ts ++ u ∷ []) ≡ suc (length ts)
+more-length [] u = refl
+more-length (t ∷ ts) u = ap suc (more-length ts u)
+
+-- the calls that a message makes can be linked
+pub linked-by : (nw : Network) (st : State) (m : Message) → refusal nw st m ≡ None → CanBeLinked (effect st m) m
+unfolding effect
+linked-by nw st (Reroute n from to via) accepted =
+    let was = rejoined-old nw st (Reroute n from to via) accepted in
+    let r = train-there (slice_get st.trains n) (λ cs. is_some (find (is_call to) cs)) refl was in
+    let got : slice_get (change_train n (rerouted from to via) st.trains) n ≡ Some (rerouted from to via r.0) = change-own (rerouted from to via) n st.trains ∙ ap (option_map (rerouted from to via)) r.1 in
+    (slice_get_within (change_train n (rerouted from to via) st.trains) n (rerouted from to via r.0) got, rw got (omega arith))
+linked-by nw st (Extra n day route cs) accepted =
+    let a = accepted-by nw st (Extra n day route cs) accepted in
+    let low = leb-true n (length st.trains) (and_parts (nat_le n (length st.trains)) _ (not-false _ a.known)).0 in
+    omega (arith, low, more-length st.trains (new_train day route cs))
+linked-by nw st m accepted = tt

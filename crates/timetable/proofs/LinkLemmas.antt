@@ -1,16 +1,15 @@
 -- What stands beside departures, renewed step by step.
-use Rattle.state_laws.proofs.Words.{◌≡◌, ◌≢◌, ℕ, suc, Bool, true, false, not, ◌&&◌, List, [], ◌∷◌, Option, Some, refl, sym, ◌∙◌, ap, arith, inl, inr, cases_Bool, false_from_ne_true, All, list_any, option_map_or, Network, State, Event, calls_of, events, event_named, train_events, node_of, get_or, All-contains}
-use Rattle.state_laws.proofs.Changed.{train_events-there}
-use Rattle.edge_rules.proofs.Neighbours.{each-named, named-there}
-use Rattle.edge_rules.specs.Inside.{HasOwnLabels}
+use Rattle.state_laws.proofs.Words.{◌≡◌, ℕ, suc, ◌+◌, ◌-◌, ◌≤◌, Bool, true, false, not, ◌&&◌, ◌||◌, nat_eq, nat_le, List, [], ◌∷◌, Option, Some, refl, sym, ◌∙◌, ap, arith, All, list_any, option_map, option_map_or, slice_get, Network, State, Train, calls_of}
+use Rattle.std.specs.Prelude.{nat_lt}
+use Rattle.std.proofs.lemmas.Bool.Decides.{nat_tests}
 use Rattle.train_nodes.specs.Calls.{has_call, label_before}
 use Rattle.propagate.specs.declared.time_changes.TimeChange.{TimeChange}
 use Rattle.dep_order.specs.declared.departure.Departure.{Departure}
 use Rattle.dep_order.specs.declared.departure.Onward.{Onward}
 use Rattle.dep_order.specs.Departing.{held}
 use Rattle.dep_order.specs.Ordered.{KeepsRoom, Ordered, is_of_call, onward_at}
-use Rattle.timetable.specs.Linking.{AreRenewed, Renewing, gone_on, with_arrival, with_arrivals, with_call_linked, with_calls_linked}
-use Rattle.timetable.proofs.HeldLemmas.{of-call}
+use Rattle.timetable.specs.Linking.{AreRenewed, Renewing, gone_on, used_labels, with_arrival, with_arrivals, with_call_linked, with_labels_linked, with_made_linked}
+use Rattle.timetable.proofs.Lines.{after-none}
 
 -- what is left to be done gives what all gives
 pub record AreRenewedTo (left whole : Renewing) (old now : Ordered) : Type 0 where
@@ -59,52 +58,59 @@ renewed-then f g h a b c joins first then = record {
   room = room-then a b c first.room then.room;
 }
 
-not-of-call : (t l : ℕ) (d : Departure) → d.key.train ≢ t → is_of_call t l d ≡ false
-not-of-call t l d differs = false_from_ne_true (is_of_call t l d) (λ h. differs (of-call t l d h).0)
-
 -- linked calls
 module _ (nw : Network) (st : State) (es : List (Option Departure)) where
   going-twice : (t l : ℕ) (o : Onward) → gone_on nw st es t l (gone_on nw st es t l o) ≡ gone_on nw st es t l o
   going-twice t l o = grind arith
 
-  -- the departure at which the calls are linked
-  abbrev pub is_linked : Departure → Event → Bool
-  is_linked d v = v.key.dep && is_of_call v.key.train v.key.label d
+  labels-empty : (t first : ℕ) (d : Departure) (o : Onward) → with_labels_linked nw st es t first first d o ≡ o
+  labels-empty t first d o = grind (arith, nat_tests)
 
-  linked-done : (vs : List Event) (d : Departure) (o : Onward) → with_calls_linked nw st es vs d (gone_on nw st es d.key.train d.key.label o) ≡ gone_on nw st es d.key.train d.key.label o
-  linked-done [] d o = refl
-  linked-done (v ∷ vs) d o =
-      elim (cases_Bool v.key.dep) [
-        | inl leaves ↦ elim (cases_Bool (is_of_call v.key.train v.key.label d)) [
-          | inl hit ↦
-              let at = of-call v.key.train v.key.label d hit in
-              rw (leaves, hit, ← at.0, ← at.1, going-twice d.key.train d.key.label o) (linked-done vs d o)
-          | inr miss ↦ rw (leaves, miss) (linked-done vs d o)
-        ]
-        | inr arrives ↦ rw arrives (linked-done vs d o)
-      ]
+  labels-split : (t first l : ℕ) (d : Departure) (o : Onward) → first ≤ l → with_labels_linked nw st es t first (l + 1) d o ≡ with_call_linked nw st es t l d (with_labels_linked nw st es t first l d o)
+  labels-split t first l d o le = grind (arith, nat_tests)
 
-  -- where the departure is among the events, they are linked once
-  pub linked-there : (vs : List Event) (d : Departure) (o : Onward) → list_any (is_linked d) vs ≡ true → with_calls_linked nw st es vs d o ≡ gone_on nw st es d.key.train d.key.label o
-  linked-there [] d o h = absurd (cc)
-  linked-there (v ∷ vs) d o h =
-      elim (cases_Bool v.key.dep) [
-        | inl leaves ↦ elim (cases_Bool (is_of_call v.key.train v.key.label d)) [
-          | inl hit ↦
-              let at = of-call v.key.train v.key.label d hit in
-              rw (leaves, hit, ← at.0, ← at.1) (linked-done vs d o)
-          | inr miss ↦ rw (leaves, miss) (linked-there vs d o (rw (leaves, miss) at h))
-        ]
-        | inr arrives ↦ rw arrives (linked-there vs d o (rw arrives at h))
-      ]
+  -- a departure whose call is linked goes on as its train does, and what stands beside all others stays
+  pub made-linked : (t from count : ℕ) (d : Departure) (o : Onward) → (nat_eq d.key.train t && (nat_eq d.key.label from || (nat_le (used_labels st t - count) d.key.label && nat_lt d.key.label (used_labels st t)))) ≡ true → with_made_linked nw st es t from count d o ≡ gone_on nw st es d.key.train d.key.label o
+  made-linked t from count d o h = grind (arith, nat_tests, h, going-twice d.key.train d.key.label o)
 
-  -- and where none is of its train, they are not
-  pub linked-other : (vs : List Event) (d : Departure) (o : Onward) → All (λ v. v.key.train ≢ d.key.train) vs → with_calls_linked nw st es vs d o ≡ o
-  linked-other [] d o h = refl
-  linked-other (v ∷ vs) d o h =
-      let rest = linked-other vs d o (λ i w l. h (suc i) w (omega arith)) in
-      let miss : is_of_call v.key.train v.key.label d ≡ false = not-of-call v.key.train v.key.label d (λ e. h 0 v (omega arith) (sym e)) in
-      elim (cases_Bool v.key.dep) [ inl leaves ↦ rw (leaves, miss) rest | inr arrives ↦ rw arrives rest ]
+  pub made-passed : (t from count : ℕ) (d : Departure) (o : Onward) → (nat_eq d.key.train t && (nat_eq d.key.label from || (nat_le (used_labels st t - count) d.key.label && nat_lt d.key.label (used_labels st t)))) ≡ false → with_made_linked nw st es t from count d o ≡ o
+  made-passed t from count d o h = grind (arith, nat_tests, h)
+
+  pub labels-linked : (t : ℕ) (d : Departure) (o : Onward) → (nat_eq d.key.train t && nat_lt d.key.label (used_labels st t)) ≡ true → with_labels_linked nw st es t 0 (used_labels st t) d o ≡ gone_on nw st es d.key.train d.key.label o
+  labels-linked t d o h = grind (arith, nat_tests, h)
+
+  pub labels-passed : (t : ℕ) (d : Departure) (o : Onward) → (nat_eq d.key.train t && nat_lt d.key.label (used_labels st t)) ≡ false → with_labels_linked nw st es t 0 (used_labels st t) d o ≡ o
+  labels-passed t d o h = grind (arith, nat_tests, h)
+
+  -- linking leaves the time of the arrival
+  pub labels-arrival : (t first end : ℕ) (d : Departure) (o : Onward) → (with_labels_linked nw st es t first end d o).arrival ≡ o.arrival
+  labels-arrival t first end d o = grind arith
+
+  pub made-arrival : (t from count : ℕ) (d : Departure) (o : Onward) → (with_made_linked nw st es t from count d o).arrival ≡ o.arrival
+  made-arrival t from count d o = grind arith
+
+none-linked : (nw : Network) (st : State) (es : List (Option Departure)) (t l : ℕ) (d : Departure) (o : Onward) → has_call st t l ≡ false → with_call_linked nw st es t l d o ≡ o
+none-linked nw st es t l d o none = grind (arith, after-none (calls_of st t) l none)
+
+-- a call that is not there is not linked
+pub linked-none : (nw : Network) (st : State) (t l : ℕ) (o : Ordered) → has_call st t l ≡ false → AreRenewed (with_call_linked nw st o.entries t l) o o
+linked-none nw st t l o none = record { onwards = λ n d h. sym (none-linked nw st o.entries t l d (onward_at o n) none); departures = refl; entries = refl; used = refl; room = room-same o }
+
+module _ (nw : Network) (st : State) (t first : ℕ) where
+  pub linked-begin : (o : Ordered) → AreRenewed (with_labels_linked nw st o.entries t first first) o o
+  linked-begin o = record { onwards = λ n d h. sym (labels-empty nw st o.entries t first d (onward_at o n)); departures = refl; entries = refl; used = refl; room = room-same o }
+
+  pub linked-more : (l : ℕ) (a b c : Ordered) → first ≤ l → AreRenewed (with_labels_linked nw st a.entries t first l) a b → AreRenewed (with_call_linked nw st b.entries t l) b c → AreRenewed (with_labels_linked nw st a.entries t first (l + 1)) a c
+  linked-more l a b c le h one =
+      renewed-then (with_labels_linked nw st a.entries t first l) (with_call_linked nw st b.entries t l) (with_labels_linked nw st a.entries t first (l + 1)) a b c (λ d o. rw h.entries (labels-split nw st a.entries t first l d o le)) h one
+
+  pub linked-with : (from count : ℕ) (a b c : Ordered) → first ≡ used_labels st t - count → AreRenewed (with_call_linked nw st a.entries t from) a b → AreRenewed (with_labels_linked nw st b.entries t first (used_labels st t)) b c → AreRenewed (with_made_linked nw st a.entries t from count) a c
+  linked-with from count a b c e one h =
+      renewed-then (with_call_linked nw st a.entries t from) (with_labels_linked nw st b.entries t first (used_labels st t)) (with_made_linked nw st a.entries t from count) a b c (λ d o. rw (one.entries, e) refl) one h
+
+  -- how many labels the train has used, as they are read
+  pub used-is : (n : ℕ) → option_map (λ (t : Train). t.next_label) (slice_get st.trains t) ≡ Some n → used_labels st t ≡ n
+  used-is n h = grind (arith, h)
 
 -- noted arrivals
 module _ (st : State) where
@@ -129,32 +135,3 @@ module _ (st : State) where
   pub arrivals-some : (rs : List TimeChange) (d : Departure) (o : Onward) (time : ℕ) → All (λ r. is_noted_at d r ≡ true → r.is ≡ time) rs → list_any (is_noted_at d) rs ≡ true → with_arrivals st rs d o ≡ record o { arrival = time }
   arrivals-some [] d o time h any = absurd (cc)
   arrivals-some (r ∷ rs) d o time h any = grind (arith, h 0 r (omega arith), one-noted r.key.train r.key.label r.is d o, one-passed r.key.train r.key.label r.is d o, arrivals-done rs d (record o { arrival = time }) time (λ i w l. h (suc i) w (omega arith)), arrivals-some rs d o time (λ i w l. h (suc i) w (omega arith)))
-
--- the calls of the events that are left are there, and when they are linked all are
-pub record IsLinkedTo (nw : Network) (st : State) (t : ℕ) (left : List Event) (old now : Ordered) : Type 0 where
-  pub links : AreRenewedTo (with_calls_linked nw st old.entries left) (with_calls_linked nw st old.entries (train_events st t)) old now
-  pub there : All (λ v. has_call st v.key.train v.key.label ≡ true) left
-
-module _ (nw : Network) (st : State) (t : ℕ) where
-  called : All HasOwnLabels st.trains → All (λ v. has_call st v.key.train v.key.label ≡ true) (train_events st t)
-  called labels = λ i d l.
-      let v = get_or (train_events st t) i d in
-      named-there st (node_of v.key) v (All-contains (λ v. event_named st (node_of v.key) ≡ Some v) (events st) v (each-named st labels) (train_events-there st t i d l))
-
-  pub linked-begin : All HasOwnLabels st.trains → (o : Ordered) → IsLinkedTo nw st t (train_events st t) o o
-  linked-begin labels o = record { links = none-renewed (with_calls_linked nw st o.entries (train_events st t)) o; there = called labels }
-
-  pub linked-more : (v : Event) (vs : List Event) (a b c : Ordered) → v.key.dep ≡ true → IsLinkedTo nw st t (v ∷ vs) a b → AreRenewed (with_call_linked nw st b.entries v.key.train v.key.label) b c → IsLinkedTo nw st t vs a c
-  linked-more v vs a b c leaves h one = record {
-    links = renewed-more (with_calls_linked nw st a.entries (v ∷ vs)) (with_call_linked nw st b.entries v.key.train v.key.label) (with_calls_linked nw st a.entries vs) (with_calls_linked nw st a.entries (train_events st t)) a b c (λ d o. rw (leaves, h.links.entries) refl) h.links one;
-    there = λ i w l. h.there (suc i) w (omega arith);
-  }
-
-  pub linked-pass : (v : Event) (vs : List Event) (a b : Ordered) → v.key.dep ≡ false → IsLinkedTo nw st t (v ∷ vs) a b → IsLinkedTo nw st t vs a b
-  linked-pass v vs a b arrives h = record {
-    links = renewed-pass (with_calls_linked nw st a.entries (v ∷ vs)) (with_calls_linked nw st a.entries vs) (with_calls_linked nw st a.entries (train_events st t)) a b (λ d o. rw arrives refl) h.links;
-    there = λ i w l. h.there (suc i) w (omega arith);
-  }
-
-  pub linked-all : (a b : Ordered) → IsLinkedTo nw st t [] a b → AreRenewed (with_calls_linked nw st a.entries (train_events st t)) a b
-  linked-all a b h = all-renewed (with_calls_linked nw st a.entries (train_events st t)) (with_calls_linked nw st a.entries []) a b (λ d o. refl) h.links

@@ -1,7 +1,7 @@
 -- After a message what stands beside each departure is right again.
-use Rattle.state_laws.proofs.Words.{◌≡◌, ℕ, ◌<◌, ◌⊎◌, Bool, true, false, not, ◌||◌, cond, List, [], ◌∷◌, Option, Some, None, length, refl, sym, ◌∙◌, ap, subst, arith, inl, inr, cases_Bool, false_from_ne_true, and_from, and_parts, eqb-true, nat_eq, is_some, same_Some, All, All-contains, All-contains_itself, Contains, find, list_any, option_map, option_map_or, get_or}
+use Rattle.state_laws.proofs.Words.{◌≡◌, ℕ, ◌<◌, ◌⊎◌, Bool, true, false, not, ◌||◌, cond, List, [], ◌∷◌, Option, Some, None, length, refl, sym, ◌∙◌, ap, subst, arith, inl, inr, cases_Bool, false_from_ne_true, and_parts, eqb-true, nat_eq, is_some, same_Some, All, All-contains, All-contains_itself, Contains, find, list_any, option_map, option_map_or, get_or}
 use Rattle.std.specs.List.{filter}
-use Rattle.state_laws.proofs.Words.{Key, Node, node_of, Network, State, Event, Call, Message, events, calls_of, train_events, is_call, is_live_key, node_at, IsTrain, event_time, is_before}
+use Rattle.state_laws.proofs.Words.{Key, Node, node_of, Network, State, Event, Call, Message, events, calls_of, is_call, is_live_key, node_at, IsTrain, event_time, is_before}
 use Rattle.delay_model.proofs.Ends.{IsLiveAt}
 use Rattle.state_laws.proofs.Changed.{Contains-map}
 use Rattle.state_laws.proofs.Mappings.{contains-unmap}
@@ -19,15 +19,15 @@ use Rattle.dep_order.specs.Departing.{departures_in_order, held}
 use Rattle.dep_order.specs.Ordered.{Ordered, is_of_call, number_or_past, onward_at}
 use Rattle.timetable.specs.Carried.{IsCarried, IsCarriedTo, IsHeldStill, IsNoted}
 use Rattle.timetable.specs.Departures.{IsDeparture}
-use Rattle.timetable.specs.Linking.{AreRenewed, HasItsCall, HasRejoined, alighting_stop, gone_on, with_arrival, with_arrivals, with_onward_renewed, with_shape_linked}
+use Rattle.timetable.specs.Linking.{AreRenewed, CanBeLinked, HasItsCall, HasRejoined, alighting_stop, gone_on, is_relinked, with_arrival, with_arrivals, with_onward_renewed, with_shape_linked}
 use Rattle.timetable.specs.Marking.{IsStateAfter}
 use Rattle.timetable.specs.Moved.{time_changes_of}
 use Rattle.timetable.specs.Onward.{IsDepartureOrder, IsOnward}
 use Rattle.timetable.proofs.CarriedLemmas.{AreNumbered, GoesOn, goes-on, held-live, named-live, numbered-next}
 use Rattle.timetable.proofs.GoneOn.{given-within, is_given}
 use Rattle.timetable.proofs.HeldLemmas.{held-past, is-of-call}
-use Rattle.timetable.proofs.Lines.{IsCallLeft, IsLineLeft, IsNextCall, after-before, before-after, came-from, is_rejoined, is_reshaped, line-left, live-before, next-call, next-found, own-line, rejoined-by}
-use Rattle.timetable.proofs.LinkLemmas.{arrivals-none, arrivals-some, is_linked, is_noted_at, renewed-then}
+use Rattle.timetable.proofs.Lines.{IsBesideLeft, IsCallLeft, IsNextCall, after-before, before-after, beside-left, came-from, is_rejoined, linked-by, live-before, next-call, next-found, own-line, rejoined-by}
+use Rattle.timetable.proofs.LinkLemmas.{arrivals-none, arrivals-some, is_noted_at, renewed-then}
 use Rattle.timetable.proofs.LiveCalls.{IsOfCall, call-event, event-call, is-live, key_at, live-is, named-label}
 use Rattle.timetable.proofs.ShapeLinks.{before-of, noted-links, shape-arrival, shape-linked, shape-noted, shape-passed}
 
@@ -122,8 +122,9 @@ change-links : (st : State) (r : TimeChange) (d : Departure) (o : Onward) → ((
 change-links st r d o = elim (cases_Bool r.key.dep) [ inl leaves ↦ rw leaves (refl, refl) | inr comes ↦ rw comes (noted-links st r.key.train r.key.label r.is d o) ]
 
 module _ (nw : Network) (old new : State) (m : Message) (times : StoredTimes) (before now : Ordered) (c : IsCarried nw old new m times before now) (numbered : AreNumbered now) where
-  left : (t : ℕ) → is_reshaped m t ≡ false → IsLineLeft (calls_of old t) (calls_of new t)
-  left t other = subst (λ s. IsLineLeft (calls_of old t) (calls_of s t)) (sym c.step.made) (line-left nw old m c.step.accepted t other)
+  beside : (t l : ℕ) (d : Call) → is_relinked new m t l ≡ false → IsNextCall (calls_of new t) l d → IsBesideLeft (calls_of old t) (calls_of new t) l d
+  beside t l d =
+      (subst (λ s. All IsTrain s.trains → is_relinked s m t l ≡ false → IsNextCall (calls_of s t) l d → IsBesideLeft (calls_of old t) (calls_of s t) l d) (sym c.step.made) (λ now. beside-left nw old m c.step.valid.trains now c.step.accepted t l d)) c.prepared.valid.trains
 
   came : (t l k : ℕ) → label_after (calls_of new t) l ≡ Some k → has_call old t k ≡ true → (label_after (calls_of old t) l ≡ Some k) ⊎ (is_rejoined m t k ≡ true)
   came t l k = subst (λ s. label_after (calls_of s t) l ≡ Some k → has_call old t k ≡ true → (label_after (calls_of old t) l ≡ Some k) ⊎ (is_rejoined m t k ≡ true)) (sym c.step.made) (came-from nw old m c.step.valid.trains c.step.accepted t l k)
@@ -198,16 +199,14 @@ module _ (nw : Network) (old new : State) (m : Message) (times : StoredTimes) (b
   stop-named : (t l : ℕ) (b : Call) → call_named new t l ≡ Some b → alighting_stop nw new t l ≡ cond b.alight b.stop (length nw.stops)
   stop-named t l b found = ap (λ o. option_map_or (λ (c : Call). cond c.alight c.stop (length nw.stops)) o 0) found
 
-  -- so it is where the calls of its train are linked
-  linked-anew : (noted : Option ℕ) (n : ℕ) (d : Departure) (there : held now.entries n ≡ Some d) → is_reshaped m d.key.train ≡ true → IsLinked d.key.train (goes n d there).next (with_shape_linked nw new now.entries m noted d (onward_at now n))
-  linked-anew noted n d there mine =
+  -- so it is where its call is linked
+  linked-anew : (noted : Option ℕ) (n : ℕ) (d : Departure) (there : held now.entries n ≡ Some d) → is_relinked new m d.key.train d.key.label ≡ true → IsLinked d.key.train (goes n d there).next (with_shape_linked nw new now.entries m noted d (onward_at now n))
+  linked-anew noted n d there hit =
       let g = goes n d there in
       let t = d.key.train in
       let l = g.next.label in
       let o = onward_at now n in
-      let e = call-event new t d.key.label true g.call g.found in
-      let own : is_linked nw new now.entries d e.event ≡ true = and_from e.event.key.dep (is_of_call e.event.key.train e.event.key.label d) (ap (λ (k : Key). k.dep) e.key) (is-of-call e.event.key.train e.event.key.label d (sym (ap (λ (k : Key). k.train) e.key)) (sym (ap (λ (k : Key). k.label) e.key ∙ named-label new t d.key.label g.call g.found))) in
-      let links = shape-linked nw new now.entries noted d o m mine (any-from (is_linked nw new now.entries d) (train_events new t) e.event e.of_train own) in
+      let links = shape-linked nw new now.entries noted d o m hit in
       let after : label_after (calls_of new t) d.key.label ≡ Some l = ap (option_map (λ (c : Call). c.label)) g.after in
       let on : gone_on nw new now.entries t d.key.label o ≡ record o { to = alighting_stop nw new t l; next = number_or_past now.entries t l } = rw after refl in
       let to = links.0 ∙ ap (λ (w : Onward). w.to) on in
@@ -219,24 +218,23 @@ module _ (nw : Network) (old new : State) (m : Message) (times : StoredTimes) (b
         given = subst (λ x. (x < now.used) ⊎ (x ≡ length now.entries)) (sym next) number.given;
       }
 
-  -- and where they are not
-  linked-still : (n : ℕ) (d : Departure) (there : held now.entries n ≡ Some d) → is_reshaped m d.key.train ≡ false → IsLinked d.key.train (goes n d there).next (onward_at now n)
-  linked-still n d there other =
+  -- and where it is not
+  linked-still : (n : ℕ) (d : Departure) (there : held now.entries n ≡ Some d) → is_relinked new m d.key.train d.key.label ≡ false → IsLinked d.key.train (goes n d there).next (onward_at now n)
+  linked-still n d there miss =
       let g = goes n d there in
       let t = d.key.train in
       let l = g.next.label in
-      let line = left t other in
+      let line = beside t d.key.label g.next miss g.after in
       let h = is-now n d there in
-      let a = line.calls d.key.label g.call g.found in
+      let a = line.calls d.key.label g.call (inl refl) g.found in
       let alive : g.call.departure.live ≡ true = sym (named-live new c.prepared.valid.trains h.event h.there t d.key.label true g.call (ap node_of h.key ∙ name-of d.key h.departs) g.found) ∙ h.live in
       let v = call-event old t d.key.label true a.0 a.1 in
       let name : node_of h.event.key ≡ node_of v.event.key = ap node_of h.key ∙ name-of d.key h.departs ∙ sym (ap node_of v.key ∙ ap (λ l. node_at t l true) (named-label old t d.key.label a.0 a.1)) in
       let key : v.event.key ≡ d.key = sym (c.prepared.names v.event h.event v.there h.there h.live name) ∙ h.key in
       let kept = still n d there (is-live (events old) d.key (v.event, v.there, key, v.live ∙ a.2.departs alive)) in
       let was = was-onward n d kept in
-      let after : label_after (calls_of new t) d.key.label ≡ Some l = ap (option_map (λ (c : Call). c.label)) g.after in
-      let label : was.label ≡ l = same_Some was.label l (sym was.is_next ∙ sym (line.next d.key.label) ∙ after) in
-      let b = line.calls l g.next g.next_found in
+      let label : was.label ≡ l = same_Some was.label l (sym was.is_next ∙ line.after) in
+      let b = line.calls l g.next (inr refl) g.next_found in
       let call : was.call ≡ b.0 = same_Some was.call b.0 (sym was.found ∙ ap (call_named old t) label ∙ b.1) in
       let o = onward_at before n in
       let to : o.to ≡ cond g.next.alight g.next.stop (length nw.stops) = was.to ∙ ap (λ (c : Call). cond c.alight c.stop (length nw.stops)) call ∙ sym (left-stop b.0 g.next (length nw.stops) b.2) in
@@ -249,11 +247,19 @@ module _ (nw : Network) (old new : State) (m : Message) (times : StoredTimes) (b
         given = subst (is_given now) (sym same) (given-still o given);
       }
 
+  -- which two links tell
+  linked-same : (t : ℕ) (b : Call) (o w : Onward) → (w.to ≡ o.to) × (w.next ≡ o.next) → IsLinked t b o → IsLinked t b w
+  linked-same t b o w same h = record {
+    to = same.0 ∙ h.to;
+    next = ap (λ x. option_map (λ (d : Departure). node_of d.key) (held now.entries x)) same.1 ∙ h.next;
+    given = subst (λ x. (x < now.used) ⊎ (x ≡ length now.entries)) (sym same.1) h.given;
+  }
+
   links : (noted : Option ℕ) (n : ℕ) (d : Departure) (there : held now.entries n ≡ Some d) → IsLinked d.key.train (goes n d there).next (with_shape_linked nw new now.entries m noted d (onward_at now n))
   links noted n d there =
-      elim (cases_Bool (is_reshaped m d.key.train)) [
-        | inl mine ↦ linked-anew noted n d there mine
-        | inr other ↦ subst (IsLinked d.key.train (goes n d there).next) (sym (shape-passed nw new now.entries noted d (onward_at now n) m other)) (linked-still n d there other)
+      elim (cases_Bool (is_relinked new m d.key.train d.key.label)) [
+        | inl hit ↦ linked-anew noted n d there hit
+        | inr miss ↦ linked-same d.key.train (goes n d there).next (onward_at now n) (with_shape_linked nw new now.entries m noted d (onward_at now n)) (shape-passed nw new now.entries noted d (onward_at now n) m miss) (linked-still n d there miss)
       ]
 
   -- the arrival that a change notes beside a departure is the next one
@@ -383,6 +389,10 @@ module _ (nw : Network) (old new : State) (m : Message) (times : StoredTimes) (b
 -- the call to which new calls lead is there afterwards
 pub rejoined-there : (nw : Network) (old new : State) (m : Message) → IsStateAfter nw old new m → HasRejoined new m
 rejoined-there nw old new m step = subst (λ s. HasRejoined s m) (sym step.made) (rejoined-by nw old m step.accepted)
+
+-- and what it makes can be linked
+pub linked-there : (nw : Network) (old new : State) (m : Message) → IsStateAfter nw old new m → CanBeLinked new m
+linked-there nw old new m step = subst (λ s. CanBeLinked s m) (sym step.made) (linked-by nw old m step.accepted)
 
 -- so it is after both steps
 pub renewed-right : (nw : Network) (new : State) (m : Message) (noted : Option ℕ) (changes : List TimeChange) (now : Ordered) → IsCarriedTo nw new m noted changes now → AreNumbered now → (linked after : Ordered) → AreRenewed (with_shape_linked nw new now.entries m noted) now linked → AreRenewed (with_arrivals new changes) linked after → IsDepartureOrder nw new after

@@ -1,29 +1,16 @@
 -- What stands beside a departure once the calls of a train are linked and the time of an arrival noted.
-use Rattle.state_laws.proofs.Words.{◌≡◌, ◌≢◌, ℕ, true, false, cond, List, [], ◌∷◌, Option, Some, None, refl, sym, ◌∙◌, ap, subst, arith, false_from_ne_true, and_from, and_parts, eqb-true, eq-eqb, nat_eq, is_some, same_Some, All, find, list_any, option_map, option_map_or}
-use Rattle.state_laws.proofs.Words.{Network, State, Event, Call, Message, Reroute, Extra, calls_of, train_events, is_call, IsTrain, event_time, events_at-train}
-use Rattle.state_laws.proofs.Changed.{train_events-each}
+use Rattle.state_laws.proofs.Words.{◌≡◌, ◌≢◌, ℕ, true, false, List, Option, Some, None, refl, sym, ◌∙◌, ap, subst, arith, false_from_ne_true, and_from, and_parts, eqb-true, eq-eqb, nat_eq, is_some, same_Some, All, find, option_map, option_map_or, length}
+use Rattle.state_laws.proofs.Words.{Network, State, Call, Message, Reroute, Extra, calls_of, is_call, IsTrain, event_time}
 use Rattle.train_nodes.specs.Calls.{call_named, has_call, label_before}
 use Rattle.dep_order.specs.declared.departure.Departure.{Departure}
 use Rattle.dep_order.specs.declared.departure.Onward.{Onward}
 use Rattle.dep_order.specs.Ordered.{is_of_call}
 use Rattle.timetable.specs.Carried.{IsNoted}
-use Rattle.timetable.specs.Linking.{HasRejoined, gone_on, with_arrival, with_call_linked, with_calls_linked, with_shape_linked}
+use Rattle.timetable.specs.Linking.{HasRejoined, gone_on, is_relinked, used_labels, with_arrival, with_made_linked, with_shape_linked}
 use Rattle.timetable.proofs.HeldLemmas.{is-of-call, of-call}
-use Rattle.timetable.proofs.Lines.{IsNextCall, before-after, is_rejoined, is_reshaped, own-line}
-use Rattle.timetable.proofs.LinkLemmas.{is_linked, linked-other, linked-there}
+use Rattle.timetable.proofs.Lines.{IsNextCall, before-after, is_rejoined, own-line}
+use Rattle.timetable.proofs.LinkLemmas.{labels-arrival, labels-linked, labels-passed, made-arrival, made-linked, made-passed}
 use Rattle.timetable.proofs.LiveCalls.{key_at, named-label}
-
--- the events of a train have its number
-events-of-train : (st : State) (t : ℕ) → All (λ v. v.key.train ≡ t) (train_events st t)
-events-of-train st t = train_events-each st t (λ v. v.key.train ≡ t) (λ r e. events_at-train t r.route r.calls)
-
--- linking leaves the time of the arrival
-one-arrival : (nw : Network) (st : State) (es : List (Option Departure)) (v : Event) (d : Departure) (o : Onward) → (cond v.key.dep (with_call_linked nw st es v.key.train v.key.label d o) o).arrival ≡ o.arrival
-one-arrival nw st es v d o = grind arith
-
-linked-arrival : (nw : Network) (st : State) (es : List (Option Departure)) (vs : List Event) (d : Departure) (o : Onward) → (with_calls_linked nw st es vs d o).arrival ≡ o.arrival
-linked-arrival nw st es [] d o = refl
-linked-arrival nw st es (v ∷ vs) d o = linked-arrival nw st es vs d _ ∙ one-arrival nw st es v d o
 
 -- a noted arrival leaves the links
 pub noted-links : (st : State) (t l time : ℕ) (d : Departure) (o : Onward) → ((with_arrival st t l time d o).to ≡ o.to) × ((with_arrival st t l time d o).next ≡ o.next)
@@ -39,10 +26,6 @@ pub before-of : (d : Departure) (t : ℕ) (q : Option ℕ) → option_map_or (λ
 before-of d t None hit = absurd (cc)
 before-of d t (Some b) hit = let p = of-call t b d hit in (p.0, ap Some (sym p.1))
 
-arrival-other : (st : State) (t l time : ℕ) (d : Departure) (o : Onward) → t ≢ d.key.train → with_arrival st t l time d o ≡ o
-arrival-other st t l time d o differs =
-    arrival-missed st t l time d o (false_from_ne_true _ (λ hit. differs (sym (before-of d t (label_before (calls_of st t) l) hit).0)))
-
 some-of : {X : Type 0} (o : Option X) → is_some o ≡ true → (x : X) × (o ≡ Some x)
 some-of None h = absurd (cc)
 some-of (Some x) h = (x, refl)
@@ -55,33 +38,25 @@ module _ (nw : Network) (st : State) (es : List (Option Departure)) (noted : Opt
   rejoined-links t to None linked = (refl, refl)
   rejoined-links t to (Some time) linked = noted-links st t to time d linked
 
-  -- the departures of a train whose calls a message replaces are linked
-  pub shape-linked : (m : Message) → is_reshaped m d.key.train ≡ true → list_any (is_linked nw st es d) (train_events st d.key.train) ≡ true → let w = with_shape_linked nw st es m noted d o in let linked = gone_on nw st es d.key.train d.key.label o in (w.to ≡ linked.to) × (w.next ≡ linked.next)
-  shape-linked (Reroute n from to via) mine there =
-      let same = eqb-true d.key.train n mine in
-      let all = linked-there nw st es (train_events st n) d o (subst (λ t. list_any (is_linked nw st es d) (train_events st t) ≡ true) same there) in
-      let links = rejoined-links n to noted (with_calls_linked nw st es (train_events st n) d o) in
+  -- the departures of new calls are linked, and that before them
+  pub shape-linked : (m : Message) → is_relinked st m d.key.train d.key.label ≡ true → let w = with_shape_linked nw st es m noted d o in let linked = gone_on nw st es d.key.train d.key.label o in (w.to ≡ linked.to) × (w.next ≡ linked.next)
+  shape-linked (Reroute n from to via) hit =
+      let all = made-linked nw st es n from (length via) d o hit in
+      let links = rejoined-links n to noted (with_made_linked nw st es n from (length via) d o) in
       (links.0 ∙ ap (λ (w : Onward). w.to) all, links.1 ∙ ap (λ (w : Onward). w.next) all)
-  shape-linked (Extra n day route cs) mine there =
-      let same = eqb-true d.key.train n mine in
-      let all = linked-there nw st es (train_events st n) d o (subst (λ t. list_any (is_linked nw st es d) (train_events st t) ≡ true) same there) in
-      (ap (λ (w : Onward). w.to) all, ap (λ (w : Onward). w.next) all)
-  shape-linked m mine there = absurd (cc)
+  shape-linked (Extra n day route cs) hit =
+      let all = labels-linked nw st es n d o hit in (ap (λ (w : Onward). w.to) all, ap (λ (w : Onward). w.next) all)
+  shape-linked m hit = absurd (cc)
 
   -- all others stay
-  rejoined-other : (t to : ℕ) (q : Option ℕ) → t ≢ d.key.train → option_map_or (λ time. with_arrival st t to time d o) q o ≡ o
-  rejoined-other t to None differs = refl
-  rejoined-other t to (Some time) differs = arrival-other st t to time d o differs
-
-  pub shape-passed : (m : Message) → is_reshaped m d.key.train ≡ false → with_shape_linked nw st es m noted d o ≡ o
-  shape-passed (Reroute n from to via) other =
-      let differs : n ≢ d.key.train = λ e. differ-by d.key.train n other (sym e) in
-      let stays = linked-other nw st es (train_events st n) d o (λ i v l e. differs (sym (events-of-train st n i v l) ∙ e)) in
-      ap (λ linked. option_map_or (λ time. with_arrival st n to time d linked) noted linked) stays ∙ rejoined-other n to noted differs
-  shape-passed (Extra n day route cs) other =
-      let differs : n ≢ d.key.train = λ e. differ-by d.key.train n other (sym e) in
-      linked-other nw st es (train_events st n) d o (λ i v l e. differs (sym (events-of-train st n i v l) ∙ e))
-  shape-passed m other = refl
+  pub shape-passed : (m : Message) → is_relinked st m d.key.train d.key.label ≡ false → let w = with_shape_linked nw st es m noted d o in (w.to ≡ o.to) × (w.next ≡ o.next)
+  shape-passed (Reroute n from to via) miss =
+      let all = made-passed nw st es n from (length via) d o miss in
+      let links = rejoined-links n to noted (with_made_linked nw st es n from (length via) d o) in
+      (links.0 ∙ ap (λ (w : Onward). w.to) all, links.1 ∙ ap (λ (w : Onward). w.next) all)
+  shape-passed (Extra n day route cs) miss =
+      let all = labels-passed nw st es n d o miss in (ap (λ (w : Onward). w.to) all, ap (λ (w : Onward). w.next) all)
+  shape-passed m miss = (refl, refl)
 
   -- the time that was noted stands before the arrival to which new calls lead
   pub shape-noted : (old : State) (m : Message) (t l : ℕ) (c : Call) → is_rejoined m t l ≡ true → label_before (calls_of st t) l ≡ Some d.key.label → d.key.train ≡ t → IsNoted nw old m noted → call_named old t l ≡ Some c → (with_shape_linked nw st es m noted d o).arrival ≡ event_time nw old (key_at t false c)
@@ -112,6 +87,6 @@ module _ (nw : Network) (st : State) (es : List (Option Departure)) (noted : Opt
       let same : c ≡ r.0 = same_Some c r.0 (sym next ∙ subst (λ t. IsNextCall (calls_of st t) d.key.label r.0) (sym b.0) after) in
       let joins = and_from (nat_eq d.key.train n) (nat_eq c.label to) (eq-eqb d.key.train n b.0) (eq-eqb c.label to (ap (λ (c : Call). c.label) same ∙ label)) in
       absurd (cc)) in
-      rejoined-arrival n to noted (with_calls_linked nw st es (train_events st n) d o) miss ∙ linked-arrival nw st es (train_events st n) d o
-  shape-arrival (Extra n day route cs) c trains next joined apart = linked-arrival nw st es (train_events st n) d o
+      rejoined-arrival n to noted (with_made_linked nw st es n from (length via) d o) miss ∙ made-arrival nw st es n from (length via) d o
+  shape-arrival (Extra n day route cs) c trains next joined apart = labels-arrival nw st es n 0 (used_labels st n) d o
   shape-arrival m c trains next joined apart = refl

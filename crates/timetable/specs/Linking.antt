@@ -1,15 +1,15 @@
 -- What stands beside departures, as calls of trains are linked and times of arrivals noted.
-use Rattle.std.specs.Prelude.{◌≡◌, ℕ, List, [], ◌∷◌, false, Option, Some, if◌then◌else◌, length}
-use Rattle.std.specs.Prelude.{unwrap_or, IsTrue}
+use Rattle.std.specs.Prelude.{◌≡◌, ℕ, ◌-◌, ◌<◌, ◌≤◌, List, [], ◌∷◌, Bool, false, ◌&&◌, ◌||◌, nat_eq, nat_le, nat_lt}
+use Rattle.std.specs.Prelude.{Option, Some, if◌then◌else◌, length, slice_get, unwrap_or, IsTrue}
 use Rattle.std.specs.Option.{option_and_then, option_map, option_map_or}
 use Rattle.delay_model.specs.declared.messages.Message.{Message}
 use Rattle.delay_model.specs.declared.messages.Message.TheVariants.{Reroute, Extra}
 use Rattle.delay_model.specs.declared.network.Network.{Network}
 use Rattle.delay_model.specs.declared.state.Call.{Call}
-use Rattle.delay_model.specs.declared.state.Event.{Event}
 use Rattle.delay_model.specs.declared.state.State.{State}
+use Rattle.delay_model.specs.declared.state.Train.{Train}
 use Rattle.delay_model.specs.Effect.{node_at}
-use Rattle.delay_model.specs.Events.{calls_of, train_events}
+use Rattle.delay_model.specs.Events.{calls_of}
 use Rattle.train_nodes.specs.Calls.{call_named, has_call, label_after, label_before}
 use Rattle.train_nodes.specs.Times.{StoredTimes, has_time, time_of}
 use Rattle.propagate.specs.declared.time_changes.TimeChange.{TimeChange}
@@ -52,12 +52,22 @@ abbrev pub with_call_linked : Network → State → List (Option Departure) → 
 with_call_linked nw st es train label d o =
     if is_of_call train label d then gone_on nw st es train label o else o
 
--- it stands beside each departure among these events
-abbrev pub with_calls_linked : Network → State → List (Option Departure) → List Event → Renewing
-with_calls_linked nw st es [] d o = o
-with_calls_linked nw st es (v ∷ vs) d o =
-    with_calls_linked nw st es vs d (if v.key.dep
-    then with_call_linked nw st es v.key.train v.key.label d o else o)
+-- how many labels a train has used
+abbrev pub used_labels : State → ℕ → ℕ
+used_labels st train = option_map_or (λ (t : Train). t.next_label) (slice_get st.trains train) 0
+
+-- it stands beside the departure of each call of a train whose label is one of those from `first` to
+-- before `end`
+abbrev pub with_labels_linked : Network → State → List (Option Departure) → ℕ → ℕ → ℕ → Renewing
+with_labels_linked nw st es train first end d o =
+    if nat_eq d.key.train train && (nat_le first d.key.label && nat_lt d.key.label end)
+    then gone_on nw st es train d.key.label o else o
+
+-- it stands beside the departure of a call, and of those that were made last, so many
+abbrev pub with_made_linked : Network → State → List (Option Departure) → ℕ → ℕ → ℕ → Renewing
+with_made_linked nw st es train from count d o =
+    with_labels_linked nw st es train (used_labels st train - count) (used_labels st train) d
+    (with_call_linked nw st es train from d o)
 
 -- the time of an arrival stands beside the departure before it
 abbrev pub with_arrival : State → ℕ → ℕ → ℕ → Renewing
@@ -72,21 +82,35 @@ with_arrivals st (r ∷ rs) d o =
     with_arrivals st rs d (if r.key.dep then o
     else with_arrival st r.key.train r.key.label r.is d o)
 
--- the calls of a train are linked, and the time that was noted stands before the arrival at one
-abbrev pub with_rejoined : Network → State → List (Option Departure) → ℕ → ℕ → Option ℕ → Renewing
-with_rejoined nw st es train to noted d o =
-    let linked = with_calls_linked nw st es (train_events st train) d o in
-    option_map_or (λ time. with_arrival st train to time d linked) noted linked
+-- the time that was noted of an arrival stands beside the departure before it
+abbrev pub with_noted : State → ℕ → ℕ → Option ℕ → Renewing
+with_noted st train to noted d o = option_map_or (λ time. with_arrival st train to time d o) noted o
 
--- so for a train whose calls a message replaces, with the arrival to which the new calls lead; the
--- calls of a train that a message adds are linked
+-- the new calls of a train that a message reroutes are linked, with the one before them, and what was
+-- noted stands before the arrival to which they lead; the calls of a train that a message adds are
+-- linked
 abbrev pub with_shape_linked : Network → State → List (Option Departure) → Message → Option ℕ
     → Renewing
 with_shape_linked nw st es (Reroute train from to via) noted d o =
-    with_rejoined nw st es train to noted d o
+    with_noted st train to noted d (with_made_linked nw st es train from (length via) d o)
 with_shape_linked nw st es (Extra train day route calls) noted d o =
-    with_calls_linked nw st es (train_events st train) d o
+    with_labels_linked nw st es train 0 (used_labels st train) d o
 with_shape_linked nw st es _ noted d o = o
+
+-- the departures whose calls are linked so
+abbrev pub is_relinked : State → Message → ℕ → ℕ → Bool
+is_relinked st (Reroute train from to via) t l =
+    nat_eq t train && (nat_eq l from
+    || (nat_le (used_labels st train - length via) l && nat_lt l (used_labels st train)))
+is_relinked st (Extra train day route calls) t l = nat_eq t train && nat_lt l (used_labels st train)
+is_relinked st _ t l = false
+
+-- the train is there whose calls are linked, and has used as many labels as it has new calls
+abbrev pub CanBeLinked : State → Message → Type 0
+CanBeLinked st (Reroute train from to via) =
+    (train < length st.trains) × (length via ≤ used_labels st train)
+CanBeLinked st (Extra train day route calls) = train < length st.trains
+CanBeLinked st _ = Unit {0}
 
 -- the call to which new calls lead is there
 abbrev pub HasRejoined : State → Message → Type 0

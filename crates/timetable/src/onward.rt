@@ -1,8 +1,7 @@
 //! What stands beside each departure: where and when its train arrives next, and the number of its
 //! departure from there.
 
-ghost use Rattle.std.specs.Prelude.{◌≡◌, None, All, IsTrue};
-ghost use Rattle.delay_model.specs.Events.{train_events};
+ghost use Rattle.std.specs.Prelude.{◌≡◌, ◌<◌, ◌≤◌, None, All, IsTrue, length};
 ghost use Rattle.delay_model.specs.Refusals.{refusal};
 ghost use Rattle.delay_model.specs.Valid.{IsValid};
 ghost use Rattle.train_nodes.specs.Calls.{has_call};
@@ -10,10 +9,11 @@ ghost use Rattle.train_nodes.specs.Kinds.{message_of_shape};
 ghost use Rattle.dep_order.specs.Ordered.{KeepsRoom};
 ghost use Rattle.timetable.specs.Carried.{IsCarriedTo, IsNoted};
 ghost use Rattle.timetable.specs.Departures.{live_departures};
-ghost use Rattle.timetable.specs.Linking.{AreRenewed, HasItsCall, HasNextTime, HasRejoined};
-ghost use Rattle.timetable.specs.Linking.{alighting_stop, arrival_beside, with_arrival};
-ghost use Rattle.timetable.specs.Linking.{with_arrivals, with_call_linked, with_calls_linked};
-ghost use Rattle.timetable.specs.Linking.{with_rejoined, with_shape_linked, with_stored};
+ghost use Rattle.timetable.specs.Linking.{AreRenewed, CanBeLinked, HasItsCall, HasNextTime};
+ghost use Rattle.timetable.specs.Linking.{HasRejoined, alighting_stop, arrival_beside};
+ghost use Rattle.timetable.specs.Linking.{used_labels, with_arrival, with_arrivals};
+ghost use Rattle.timetable.specs.Linking.{with_call_linked, with_labels_linked, with_made_linked};
+ghost use Rattle.timetable.specs.Linking.{with_noted, with_shape_linked, with_stored};
 ghost use Rattle.timetable.specs.Onward.{IsDepartureOrder};
 ghost use Rattle.timetable.specs.Settled.{IsSettled};
 
@@ -50,16 +50,38 @@ fn link_call(departures: &mut DepartureOrder, g: &Graph, t: TrainNo, l: Label)
     }
 }
 
-/// The same for each call of a train.
-fn link_train(departures: &mut DepartureOrder, g: &Graph, t: TrainNo)
-    ensures { AreRenewed (with_calls_linked g.now.network g.now.state departures.old.entries
-        (train_events g.now.state t)) departures.old departures.new }
+/// The same, where the train has such a call.
+fn link_named(departures: &mut DepartureOrder, g: &Graph, t: TrainNo, l: Label)
+    ensures { AreRenewed (with_call_linked g.now.network g.now.state departures.old.entries t l)
+        departures.old departures.new }
 {
-    for event in g.trains().events(t) {
-        if event.key.dep {
-            link_call(departures, g, event.key.train, event.key.label);
-        }
+    if g.trains().has(t, l) {
+        link_call(departures, g, t, l);
     }
+}
+
+/// The same for the calls of a train whose labels are those from `first` on.
+fn link_calls(departures: &mut DepartureOrder, g: &Graph, t: TrainNo, first: u32)
+    requires there { t < length g.now.state.trains }
+    requires fewer { first ≤ used_labels g.now.state t }
+    ensures { AreRenewed (with_labels_linked g.now.network g.now.state departures.old.entries t
+        first (used_labels g.now.state t)) departures.old departures.new }
+{
+    for label in first..g.trains().next_label(t).get() {
+        link_named(departures, g, t, Label::new(label));
+    }
+}
+
+/// The same for a call of a train and the calls that were made last, so many.
+fn link_made(departures: &mut DepartureOrder, g: &Graph, t: TrainNo, from: Label, count: usize)
+    requires there { t < length g.now.state.trains }
+    requires fewer { count ≤ used_labels g.now.state t }
+    ensures { AreRenewed (with_made_linked g.now.network g.now.state departures.old.entries t from
+        count) departures.old departures.new }
+{
+    link_named(departures, g, t, from);
+    let first = g.trains().next_label(t).get() - count as u32;
+    link_calls(departures, g, t, first);
 }
 
 /// Lets the time of an arrival stand beside the departure before it, if that is there.
@@ -84,36 +106,50 @@ fn note_arrivals(departures: &mut DepartureOrder, trains: &Trains, changes: &[Ti
     }
 }
 
-/// Links the calls of a rerouted train, and lets the time that was noted of an arrival stand beside
-/// the departure before it.
-fn rejoin(departures: &mut DepartureOrder, g: &Graph, t: TrainNo, to: Label, noted: Option<Time>)
-    requires { IsTrue (has_call g.now.state t to) }
-    ensures { AreRenewed (with_rejoined g.now.network g.now.state departures.old.entries t to noted)
-        departures.old departures.new }
+/// Lets the time that was noted of an arrival stand beside the departure before it.
+fn note_rejoined(
+    departures: &mut DepartureOrder,
+    trains: &Trains,
+    t: TrainNo,
+    to: Label,
+    noted: Option<Time>,
+)
+    requires { IsTrue (has_call trains.now t to) }
+    ensures { AreRenewed (with_noted trains.now t to noted) departures.old departures.new }
 {
-    link_train(departures, g, t);
     if let Some(time) = noted {
-        note_arrival(departures, g.trains(), t, to, time);
+        note_arrival(departures, trains, t, to, time);
     }
 }
 
-/// After a message was applied: links the calls of the train whose calls it replaces, or which it
-/// adds.
+/// After a message was applied: links the new calls of the train that it reroutes, with the one
+/// before them, and lets the time that was noted stand before the arrival to which they lead; or
+/// links the calls of the train that it adds.
 fn link_shape(departures: &mut DepartureOrder, g: &Graph, s: &Shape<'_>, noted: Option<Time>)
-    requires { HasRejoined g.now.state (message_of_shape s.now) }
+    requires rejoined { HasRejoined g.now.state (message_of_shape s.now) }
+    requires linked { CanBeLinked g.now.state (message_of_shape s.now) }
     ensures { AreRenewed (with_shape_linked g.now.network g.now.state departures.old.entries
         (message_of_shape s.now) noted) departures.old departures.new }
 {
     match s {
         Shape::Cancel { .. } => {}
-        Shape::Reroute { train, to, .. } => rejoin(departures, g, *train, *to, noted),
-        Shape::Extra { train, .. } => link_train(departures, g, *train),
+        Shape::Reroute {
+            train,
+            from,
+            to,
+            via,
+        } => {
+            link_made(departures, g, *train, *from, via.len());
+            note_rejoined(departures, g.trains(), *train, *to, noted);
+        }
+        Shape::Extra { train, .. } => link_calls(departures, g, *train, 0),
     }
 }
 
 /// The same for a message of any kind.
 fn link_changed(departures: &mut DepartureOrder, g: &Graph, m: &Msg, noted: Option<Time>)
-    requires { HasRejoined g.now.state m.now }
+    requires rejoined { HasRejoined g.now.state m.now }
+    requires linked { CanBeLinked g.now.state m.now }
     ensures { AreRenewed (with_shape_linked g.now.network g.now.state departures.old.entries m.now
         noted) departures.old departures.new }
 {

@@ -2,6 +2,7 @@ pub mod CancelLemmas
 pub mod ChangeLemmas
 pub mod EditLemmas
 pub mod FoundParts
+pub mod FromCalls
 pub mod LoadLemmas
 pub mod ReadLemmas
 pub mod RerouteLemmas

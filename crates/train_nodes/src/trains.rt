@@ -10,8 +10,10 @@ ghost use Rattle.mt_base.specs.Order.{node_cmp};
 ghost use Rattle.delay_model.specs.declared.state.Call.{Call as ACall};
 ghost use Rattle.delay_model.specs.declared.state.Train.{Train as ATrain};
 ghost use Rattle.delay_model.specs.declared.state.Event.{Event as AnEvent};
-ghost use Rattle.delay_model.specs.Events.{calls_of, train_events, event_named, is_live};
+ghost use Rattle.delay_model.specs.Cuts as Cuts;
+ghost use Rattle.delay_model.specs.Events.{calls_of, train_events, event_named, is_event, is_live};
 ghost use Rattle.delay_model.specs.Effect.{effect, with_override, without_override, has_override};
+ghost use Rattle.delay_model.specs.Effect.{node_at};
 ghost use Rattle.delay_model.specs.Valid.{HasDistinctLabels};
 ghost use Rattle.delay_model.specs.declared.messages.Message.TheVariants as Message;
 ghost use Rattle.delay_model.specs.Overrides.{connection};
@@ -358,6 +360,19 @@ impl Trains {
         let row = &self.records[t.get() as usize];
         let first = self.slots.first(t);
         TrainEvents::new(t, row.route, &self.calls, first, row.len)
+    }
+
+    /// The events of a train in its order from the arrival at a call on, live or not. No events
+    /// where the train has no such call.
+    pub fn events_from(&self, t: TrainNo, l: Label) -> TrainEvents<'_>
+        ensures { result ≡ Cuts.from (is_event (node_at t l false)) (train_events self.now t) }
+    {
+        let Some(slot) = current_slot(&self.calls, &self.slots, t, l) else {
+            return TrainEvents::none(t, &self.calls);
+        };
+        let row = &self.records[t.get() as usize];
+        let before = self.calls[slot as usize].place();
+        TrainEvents::new(t, row.route, &self.calls, slot, row.len - before)
     }
 
     /// What a dispatcher chose for the connection from an arrival to a departure. None exactly

@@ -8,27 +8,31 @@ loop-key-init g c =
     part-first c.args.graph.now (key_order (events c.args.graph.now.state)) c.args.times.now c.args.marks.now c.args.changed.now c.args.steps.now (keys-ordered c.args.graph.now.state c.requires.valid.trains)
     c.requires.held c.requires.marked c.requires.settled c.requires.room
 
+pub live_event-at-requires : goal.live_event-at-requires
+live_event-at-requires g c =
+    part-live c.requires.valid (keys-ordered c.args.graph.now.state c.requires.valid.trains) c.loop-key.invariant c.take_least.ensures.room c.in-Some.ensures.taken c.in-Some.ensures.least c.node-n.ensures
+
 pub settle_one-was-requires : goal.settle_one-was-requires
 settle_one-was-requires g c =
     let order = keys-ordered c.args.graph.now.state c.requires.valid.trains in
     record {
-      live = part-live c.requires.valid order c.loop-key.invariant c.take_least.ensures.room c.in-Some.ensures.taken c.in-Some.ensures.least c.node-n.ensures;
-      has = part-has c.requires.valid order c.loop-key.invariant c.take_least.ensures.room c.in-Some.ensures.taken c.in-Some.ensures.least c.node-n.ensures;
-      held = part-held c.requires.valid order c.loop-key.invariant c.take_least.ensures.room c.in-Some.ensures.taken c.in-Some.ensures.least c.node-n.ensures;
-      fits = part-fits c.requires.valid order c.loop-key.invariant c.take_least.ensures.room c.in-Some.ensures.taken c.in-Some.ensures.least c.node-n.ensures;
+      there = c.live_event-at.ensures.there;
+      has = part-has c.requires.valid order c.loop-key.invariant c.take_least.ensures.room c.in-Some.ensures.taken c.in-Some.ensures.least (c.live_event-at.ensures.named ∙ c.node-n.ensures);
+      held = part-held c.requires.valid order c.loop-key.invariant c.take_least.ensures.room c.in-Some.ensures.taken c.in-Some.ensures.least (c.live_event-at.ensures.named ∙ c.node-n.ensures);
+      fits = part-fits c.requires.valid order c.loop-key.invariant c.take_least.ensures.room c.in-Some.ensures.taken c.in-Some.ensures.least (c.live_event-at.ensures.named ∙ c.node-n.ensures);
     }
 
 pub push_reserved-requires : goal.push_reserved-requires
-push_reserved-requires g c = let order = keys-ordered c.args.graph.now.state c.requires.valid.trains in part-room c.requires.valid order c.loop-key.invariant c.take_least.ensures.room c.in-Some.ensures.taken c.in-Some.ensures.least c.node-n.ensures
+push_reserved-requires g c = let order = keys-ordered c.args.graph.now.state c.requires.valid.trains in part-room c.requires.valid order c.loop-key.invariant c.take_least.ensures.room c.in-Some.ensures.taken c.in-Some.ensures.least (c.live_event-at.ensures.named ∙ c.node-n.ensures)
 
-pub mark_successors-requires : goal.mark_successors-requires
-mark_successors-requires g c =
+pub mark_dependents-requires : goal.mark_dependents-requires
+mark_dependents-requires g c =
     let order = keys-ordered c.args.graph.now.state c.requires.valid.trains in
     record {
-      live = part-live c.requires.valid order c.loop-key.invariant c.take_least.ensures.room c.in-Some.ensures.taken c.in-Some.ensures.least c.node-n.ensures;
-      ends = part-ends c.requires.valid order c.loop-key.invariant c.take_least.ensures.room c.in-Some.ensures.taken c.in-Some.ensures.least c.node-n.ensures;
-      marked = part-marked c.requires.valid order c.loop-key.invariant c.take_least.ensures.room c.in-Some.ensures.taken c.in-Some.ensures.least c.node-n.ensures;
-      room = part-limit c.requires.valid order c.loop-key.invariant c.take_least.ensures.room c.in-Some.ensures.taken c.in-Some.ensures.least c.node-n.ensures c.requires.marks_room;
+      there = c.live_event-at.ensures.there;
+      ends = part-ends c.requires.valid order c.loop-key.invariant c.take_least.ensures.room c.in-Some.ensures.taken c.in-Some.ensures.least (c.live_event-at.ensures.named ∙ c.node-n.ensures);
+      marked = part-marked c.requires.valid order c.loop-key.invariant c.take_least.ensures.room c.in-Some.ensures.taken c.in-Some.ensures.least (c.live_event-at.ensures.named ∙ c.node-n.ensures);
+      room = part-limit c.requires.valid order c.loop-key.invariant c.take_least.ensures.room c.in-Some.ensures.taken c.in-Some.ensures.least (c.live_event-at.ensures.named ∙ c.node-n.ensures) c.requires.marks_room;
     }
 
 differ : (x y : ℕ) → not (nat_eq x y) ≡ true → x ≢ y
@@ -39,25 +43,25 @@ loop-key-preserved-then-ne g c =
     let order = keys-ordered c.args.graph.now.state c.requires.valid.trains in
     let one = c.settle_one-was in
     let e = one.ensures in
-    part-differs c.requires.valid order c.loop-key.invariant c.take_least.ensures.room c.in-Some.ensures.taken c.in-Some.ensures.least c.node-n.ensures one.result.0 one.result.1 e.before one.new.times e.rule e.after e.others e.has_times one.new.steps e.cost
-    (differ _ _ (sym c.ne.ensures ∙ c.if-ne.true)) c.mark_successors.new.marks c.mark_successors.ensures.room c.mark_successors.ensures.marked c.push_reserved.new.self c.push_reserved.ensures.items c.push_reserved.ensures.len c.push_reserved.ensures.capacity
+    part-differs c.requires.valid order c.loop-key.invariant c.take_least.ensures.room c.in-Some.ensures.taken c.in-Some.ensures.least (c.live_event-at.ensures.named ∙ c.node-n.ensures) one.result.0 one.result.1 e.before one.new.times e.rule e.after e.others e.has_times one.new.steps e.cost
+    (differ _ _ (sym c.ne.ensures ∙ c.if-ne.true)) c.mark_dependents.new.marks c.mark_dependents.ensures.room c.mark_dependents.ensures.marked c.push_reserved.new.self c.push_reserved.ensures.items c.push_reserved.ensures.len c.push_reserved.ensures.capacity
 
 pub loop-key-preserved : goal.loop-key-preserved
 loop-key-preserved g c =
     let order = keys-ordered c.args.graph.now.state c.requires.valid.trains in
     let one = c.settle_one-was in
     let e = one.ensures in
-    part-same c.requires.valid order c.loop-key.invariant c.take_least.ensures.room c.in-Some.ensures.taken c.in-Some.ensures.least c.node-n.ensures one.result.0 one.result.1 e.before one.new.times e.rule e.after e.others e.has_times one.new.steps e.cost (eqb-true _ _ (not-false _ (sym c.ne.ensures ∙ c.if-ne.false)))
+    part-same c.requires.valid order c.loop-key.invariant c.take_least.ensures.room c.in-Some.ensures.taken c.in-Some.ensures.least (c.live_event-at.ensures.named ∙ c.node-n.ensures) one.result.0 one.result.1 e.before one.new.times e.rule e.after e.others e.has_times one.new.steps e.cost (eqb-true _ _ (not-false _ (sym c.ne.ensures ∙ c.if-ne.false)))
 
 pub loop-key-smaller-then-ne : goal.loop-key-smaller-then-ne
 loop-key-smaller-then-ne g c =
     let order = keys-ordered c.args.graph.now.state c.requires.valid.trains in
     let one = c.settle_one-was in
     let e = one.ensures in
-    part-differs-smaller c.requires.valid order c.loop-key.invariant c.take_least.ensures.room c.in-Some.ensures.taken c.in-Some.ensures.least c.node-n.ensures one.result.0 one.result.1 e.before one.new.times e.rule e.after e.others e.has_times one.new.steps e.cost c.mark_successors.new.marks c.mark_successors.ensures.marked
+    part-differs-smaller c.requires.valid order c.loop-key.invariant c.take_least.ensures.room c.in-Some.ensures.taken c.in-Some.ensures.least (c.live_event-at.ensures.named ∙ c.node-n.ensures) one.result.0 one.result.1 e.before one.new.times e.rule e.after e.others e.has_times one.new.steps e.cost c.mark_dependents.new.marks c.mark_dependents.ensures.marked
 
 pub loop-key-smaller : goal.loop-key-smaller
-loop-key-smaller g c = let order = keys-ordered c.args.graph.now.state c.requires.valid.trains in part-smaller c.requires.valid order c.loop-key.invariant c.take_least.ensures.room c.in-Some.ensures.taken c.in-Some.ensures.least c.node-n.ensures
+loop-key-smaller g c = let order = keys-ordered c.args.graph.now.state c.requires.valid.trains in part-smaller c.requires.valid order c.loop-key.invariant c.take_least.ensures.room c.in-Some.ensures.taken c.in-Some.ensures.least (c.live_event-at.ensures.named ∙ c.node-n.ensures)
 
 pub returns-clause-times : goal.returns-clause-times
 returns-clause-times g c = end-times c.requires.valid (keys-ordered c.args.graph.now.state c.requires.valid.trains) c.loop-key.invariant c.in_default.ensures.none

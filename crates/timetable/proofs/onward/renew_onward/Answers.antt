@@ -1,8 +1,11 @@
-use Rattle.timetable.proofs.Onwards.{changes-called, renewed-right, rejoined-there}
+use Rattle.timetable.proofs.Onwards.{changes-called, linked-there, renewed-right, rejoined-there}
 use Rattle.timetable.proofs.onward.renew_onward.Goals as goal
 
-pub link_changed-requires : goal.link_changed-requires
-link_changed-requires c = rejoined-there c.args.g.now.network c.requires.old c.args.g.now.state c.args.m.now c.requires.carried.step
+pub link_changed-requires-clause-rejoined : goal.link_changed-requires-clause-rejoined
+link_changed-requires-clause-rejoined c = rejoined-there c.args.g.now.network c.requires.old c.args.g.now.state c.args.m.now c.requires.carried.step
+
+pub link_changed-requires-clause-linked : goal.link_changed-requires-clause-linked
+link_changed-requires-clause-linked c = linked-there c.args.g.now.network c.requires.old c.args.g.now.state c.args.m.now c.requires.carried.step
 
 pub note_arrivals-requires : goal.note_arrivals-requires
 note_arrivals-requires c =

@@ -1,0 +1,12 @@
+use Rattle.std.proofs.Common.{None, arith, sym, ◌∙◌, ◌≡◌}
+use Rattle.train_nodes.proofs.EventLemmas.{live-there}
+use Rattle.cancel_reroute.proofs.RerouteLemmas.{none-behind}
+use Rattle.cancel_reroute.proofs.reroute.check_behind.Goals as goal
+
+pub next_report-requires : goal.next_report-requires
+next_report-requires c = rw c.trains.ensures.trains (live-there c.args.g.now.state c.args.n.now c.requires)
+
+pub returns-then-is_none : goal.returns-then-is_none
+returns-then-is_none c =
+    let none : c.next_report.result ≡ None = grind (arith, c.is_none.ensures, c.if-is_none.true) in
+    none-behind c.args.g.now.state c.args.n.now (rw c.trains.ensures.trains at (sym c.next_report.ensures ∙ none))

@@ -1,8 +1,0 @@
-use Rattle.edge_rules.proofs.Words.{◌≡◌, flat_map, HaveLiveEvents, of_entry, planned_with}
-use Rattle.edge_rules.proofs.transfers.next_planned.Given as goal
-
--- the entries so far have no edge
-abbrev pub invariant-loop-entry : goal.invariant-loop-entry
-invariant-loop-entry l =
-    let f = of_entry l.graph.state (planned_with l.graph l.wanted l.at l.seconds) in
-    HaveLiveEvents l.graph.state l.entries × (flat_map f l.initial.entries ≡ flat_map f l.entries)
