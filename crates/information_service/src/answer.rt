@@ -15,7 +15,7 @@ use crate::replies::reply_to_asked;
 use crate::service::InformationService;
 use crate::taking::{InPlace, take_wire};
 use delay_report::Reply;
-use message_reader::{BadLine, Line, LineError, Wire, WireQuery, read_line, resolve_query};
+use message_reader::{BadLine, Line, LineError, Wire, WireQuery, resolve_query};
 use mt_base::memory::OutOfMemory;
 use schedule_build::Directory;
 use std::alloc::{AllocError, Global};
@@ -86,7 +86,7 @@ fn reply_to_bytes(
     ensures next { OnOk result (service.new ≡ after_line service.old (short line.now)) }
     ensures unchanged { IfErr result (λ _. service.new ≡ service.old) }
 {
-    match read_line(alloc, line) {
+    match service.read_line(alloc, line) {
         Ok(said) => service.answer_said(alloc, number, &said),
         Err(LineError::Bad(bad)) => Ok(Reply::Bad { line: number, bad }),
         Err(LineError::OutOfMemory) => Err(AllocError),

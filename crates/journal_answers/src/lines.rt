@@ -10,7 +10,7 @@ ghost use Rattle.journal_answers.specs.JournaledLines.{said_text, text_by};
 use crate::header::HeaderText;
 use information_service::{AnswerLines, InformationService, InputLine, LinesFault};
 use journal_lines::append_line;
-use message_reader::{Line, LineError, Wire, read_line};
+use message_reader::{Line, LineError, Wire};
 use mt_base::memory::OutOfMemory;
 use mt_io::Sink;
 use std::alloc::{AllocError, Global};
@@ -51,7 +51,7 @@ fn bytes_text(
     ensures next { OnOk result (service.new ≡ after_line service.old (short bytes.now)) }
     ensures count { service.new.count ≤ service.old.count + 1 }
 {
-    match read_line(alloc, bytes) {
+    match service.read_line(alloc, bytes) {
         Ok(Line::Message(message)) => message_text(alloc, service, number, message),
         Ok(_) | Err(LineError::Bad(_)) => Ok(Vec::new(alloc)),
         Err(LineError::OutOfMemory) => Err(AllocError),

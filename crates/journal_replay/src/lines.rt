@@ -11,7 +11,7 @@ ghost use Rattle.journal_replay.specs.Taking.{IsJudged, IsLineTaken, IsReadyFor}
 use crate::refusal::JournalRefusal;
 use crate::taking::TakeJournal;
 use journal_lines::append_line;
-use message_reader::{Line, LineError, Wire, read_line};
+use message_reader::{Line, LineError, LineRoom, Wire, read_line};
 use mt_base::memory::OutOfMemory;
 use std::alloc::{AllocError, Global};
 
@@ -38,13 +38,17 @@ fn message_if(alloc: Global, message: Wire, ended: &[u8]) -> Result<Option<Wire>
 }
 
 /// The message whose line this is, if it is the line of a message.
-fn wire_of_line(alloc: Global, ended: &[u8]) -> Result<Option<Wire>, OutOfMemory>
+fn wire_of_line(
+    alloc: Global,
+    room: &mut LineRoom,
+    ended: &[u8],
+) -> Result<Option<Wire>, OutOfMemory>
     requires some { 1 ≤ length ended.now }
     requires few { length ended.now < 2 ^ 31 }
     ensures message { IfOk result (λ found. found ≡ wire_of_line ended.now) }
     ensures wire { IfOk result (λ found. IfSome found IsWire) }
 {
-    match read_line(alloc, &ended[..ended.len() - 1]) {
+    match read_line(alloc, room, &ended[..ended.len() - 1]) {
         Ok(Line::Message(message)) => message_if(alloc, message, ended),
         Ok(_) | Err(LineError::Bad(_)) => Ok(None),
         Err(LineError::OutOfMemory) => Err(AllocError),
@@ -57,6 +61,7 @@ fn take_line<T: TakeJournal<R>, R>(
     alloc: Global,
     rt: &R,
     taker: &mut T,
+    room: &mut LineRoom,
     ended: &[u8],
 ) -> Result<bool, OutOfMemory>
     requires some { 1 ≤ length ended.now }
@@ -67,7 +72,7 @@ fn take_line<T: TakeJournal<R>, R>(
         → IsLineTaken T.stands s before (wire_of_line ended.now) taker.new taken) }
     ensures unchanged { IfErr result (λ _. taker.new ≡ taker.old) }
 {
-    match wire_of_line(alloc, ended)? {
+    match wire_of_line(alloc, room, ended)? {
         Some(message) => taker.take(alloc, rt, message),
         None => Ok(false),
     }
@@ -79,6 +84,7 @@ pub(crate) fn judge<T: TakeJournal<R>, R>(
     alloc: Global,
     rt: &R,
     taker: &mut T,
+    room: &mut LineRoom,
     header: &[u8],
     lines: u64,
     ended: &[u8],
@@ -96,7 +102,7 @@ pub(crate) fn judge<T: TakeJournal<R>, R>(
         }
         return Err(JournalRefusal::Header);
     }
-    if take_line::<T, R>(alloc, rt, taker, ended)? {
+    if take_line::<T, R>(alloc, rt, taker, room, ended)? {
         return Ok(());
     }
     Err(JournalRefusal::Line { line: lines + 1 })

@@ -17,6 +17,7 @@ use crate::refusal::JournalRefusal;
 use crate::taking::TakeJournal;
 use journal_lines::{Head, header_line};
 use memchr::memchr;
+use message_reader::LineRoom;
 use mt_base::memory::OutOfMemory;
 use std::alloc::Global;
 use std::marker::Model;
@@ -31,6 +32,7 @@ pub struct JournalReader {
     held: Vec<u8>,
     lines: u64,
     refusal: Option<JournalRefusal>,
+    room: LineRoom,
 }
 
 impl Model for JournalReader {
@@ -74,6 +76,7 @@ impl JournalReader {
             held: Vec::new(alloc),
             lines: 0,
             refusal: None,
+            room: LineRoom::build(alloc)?,
         })
     }
 
@@ -140,6 +143,7 @@ impl JournalReader {
             alloc,
             rt,
             taker,
+            &mut self.room,
             self.header.as_slice(),
             self.lines,
             self.held.as_slice(),

@@ -3,6 +3,8 @@ pub mod Errors
 pub mod Fields
 pub mod Kinds
 pub mod Wires
+pub mod Members
+pub mod Flat
 pub mod Messages
 pub mod Queries
 pub mod Lines

@@ -77,6 +77,10 @@ said_by_value d = do
   kind ← head_of d
   message_of kind d
 
+-- what the text of a line says
+abbrev pub line_of_text : List ℕ → Result Line BadLine
+line_of_text text = json_of text >>= said_by_value
+
 -- what the line says, or the first fault that holds
 unfoldable pub line_of : List ℕ → Result Line BadLine
 line_of bytes = do

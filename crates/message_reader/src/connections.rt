@@ -10,6 +10,7 @@ ghost use Rattle.message_reader.specs.Wires.{IsWire};
 
 use crate::bad_line::{BadLine, LineError};
 use crate::fields::{label_at, text_at};
+use crate::members::{HasMembers, NestedKey};
 use crate::wire::{Connect, Wire, WireRef};
 use mt_base::names::Name;
 use mt_base::numbers::Label;
@@ -59,12 +60,12 @@ fn reference(alloc: Global, texts: &RefTexts) -> Result<WireRef, LineError>
 /// A connection that is kept or dropped, or to which the rules apply again. `Bad` has the first
 /// fault: `Shape` or else `Time`. `OutOfMemory` where there is no memory.
 #[tactic(auto, unfolding(crate::specs::Messages::connect_of))]
-pub fn connect(alloc: Global, kind: Connect, value: &Value) -> Result<Wire, LineError>
-    ensures exact { Gives bad_in result (connect_of kind (view value.now)) }
+pub fn connect<M: HasMembers>(alloc: Global, kind: Connect, object: &M) -> Result<Wire, LineError>
+    ensures exact { Gives bad_in result (connect_of kind (M.stands_for object.now)) }
     ensures kept { IfOk result IsWire }
 {
-    let feeder = value.get("feeder").ok_or(BadLine::Shape)?;
-    let train = value.get("train").ok_or(BadLine::Shape)?;
+    let feeder = object.nested(NestedKey::Feeder).ok_or(BadLine::Shape)?;
+    let train = object.nested(NestedKey::Train).ok_or(BadLine::Shape)?;
     let feeder = reference_texts(feeder)?;
     let train = reference_texts(train)?;
     let feeder = reference(alloc, &feeder)?;

@@ -2,18 +2,17 @@
 
 ghost use Rattle.std.specs.Prelude.{◌≡◌, ◌≤◌, IfOk, IfSome, option_map};
 ghost use Rattle.std.specs.Result.{result_map_both};
-ghost use Rattle.serde_json.specs.View.{view};
 ghost use Rattle.message_reader.specs.Errors.{Gives, bad_in};
 ghost use Rattle.message_reader.specs.Messages.{named_event, event_of, seconds_if_any, correct_of, withdraw_of, cancel_of};
 ghost use Rattle.message_reader.specs.Wires.{IsWire};
 
 use crate::bad_line::{BadLine, LineError};
-use crate::fields::{departure, label_at, text_at, text_or_null_at};
+use crate::fields::departure;
+use crate::members::{HasMembers, Key, label};
 use crate::wire::Wire;
 use mt_base::names::Name;
 use mt_base::numbers::Label;
 use mt_base::texts::{date, seconds};
-use serde_json::Value;
 use std::alloc::Global;
 use train_nodes::kinds::ValueKind;
 
@@ -29,16 +28,16 @@ struct NamedEvent<'v> {
 
 /// The event that an object names. `Shape` where a member of it is missing or of another kind.
 #[tactic(auto, unfolding(crate::specs::Messages::named_event))]
-fn event_at<'v>(value: &'v Value) -> Result<NamedEvent<'v>, BadLine>
+fn event_at<'v, M: HasMembers>(object: &'v M) -> Result<NamedEvent<'v>, BadLine>
     ensures { result_map_both
         (λ r. record { trip = r.trip.now; date = r.date.now; call = r.call; dep = r.dep })
         (λ bad. bad) result
-        ≡ named_event (view value.now) }
+        ≡ named_event (M.stands_for object.now) }
 {
-    let trip = text_at(value, "trip").ok_or(BadLine::Shape)?;
-    let date = text_at(value, "date").ok_or(BadLine::Shape)?;
-    let call = label_at(value, "call").ok_or(BadLine::Shape)?;
-    let event = text_at(value, "event").ok_or(BadLine::Shape)?;
+    let trip = object.text(Key::Trip).ok_or(BadLine::Shape)?;
+    let date = object.text(Key::Date).ok_or(BadLine::Shape)?;
+    let call = label(object, Key::Call).ok_or(BadLine::Shape)?;
+    let event = object.text(Key::Event).ok_or(BadLine::Shape)?;
     let dep = departure(event).ok_or(BadLine::Shape)?;
     Ok(NamedEvent {
         trip,
@@ -51,12 +50,12 @@ fn event_at<'v>(value: &'v Value) -> Result<NamedEvent<'v>, BadLine>
 /// A report or a forecast. `Bad` has the first fault: `Shape` or else `Time`. `OutOfMemory` where
 /// there is no memory.
 #[tactic(auto, unfolding(crate::specs::Messages::event_of))]
-pub fn event(alloc: Global, kind: ValueKind, value: &Value) -> Result<Wire, LineError>
-    ensures exact { Gives bad_in result (event_of kind (view value.now)) }
+pub fn event<M: HasMembers>(alloc: Global, kind: ValueKind, object: &M) -> Result<Wire, LineError>
+    ensures exact { Gives bad_in result (event_of kind (M.stands_for object.now)) }
     ensures kept { IfOk result IsWire }
 {
-    let named = event_at(value)?;
-    let time = text_at(value, "time").ok_or(BadLine::Shape)?;
+    let named = event_at(object)?;
+    let time = object.text(Key::Time).ok_or(BadLine::Shape)?;
     let date = date(named.date.as_bytes()).ok_or(BadLine::Time)?;
     let secs = seconds(time.as_bytes()).ok_or(BadLine::Time)?;
     Ok(Wire::Event {
@@ -84,12 +83,12 @@ fn seconds_if_any(text: Option<&str>) -> Option<Option<u32>>
 /// A corrected report. `Bad` has the first fault: `Shape` or else `Time`. `OutOfMemory` where there
 /// is no memory.
 #[tactic(auto, unfolding(crate::specs::Messages::correct_of))]
-pub fn correct(alloc: Global, value: &Value) -> Result<Wire, LineError>
-    ensures exact { Gives bad_in result (correct_of (view value.now)) }
+pub fn correct<M: HasMembers>(alloc: Global, object: &M) -> Result<Wire, LineError>
+    ensures exact { Gives bad_in result (correct_of (M.stands_for object.now)) }
     ensures kept { IfOk result IsWire }
 {
-    let named = event_at(value)?;
-    let time = text_or_null_at(value, "time").ok_or(BadLine::Shape)?;
+    let named = event_at(object)?;
+    let time = object.text_or_null(Key::Time).ok_or(BadLine::Shape)?;
     let date = date(named.date.as_bytes()).ok_or(BadLine::Time)?;
     let secs = seconds_if_any(time).ok_or(BadLine::Time)?;
     Ok(Wire::Correct {
@@ -104,11 +103,11 @@ pub fn correct(alloc: Global, value: &Value) -> Result<Wire, LineError>
 /// A withdrawn forecast. `Bad` has the first fault: `Shape` or else `Time`. `OutOfMemory` where
 /// there is no memory.
 #[tactic(auto, unfolding(crate::specs::Messages::withdraw_of))]
-pub fn withdraw(alloc: Global, value: &Value) -> Result<Wire, LineError>
-    ensures exact { Gives bad_in result (withdraw_of (view value.now)) }
+pub fn withdraw<M: HasMembers>(alloc: Global, object: &M) -> Result<Wire, LineError>
+    ensures exact { Gives bad_in result (withdraw_of (M.stands_for object.now)) }
     ensures kept { IfOk result IsWire }
 {
-    let named = event_at(value)?;
+    let named = event_at(object)?;
     let date = date(named.date.as_bytes()).ok_or(BadLine::Time)?;
     Ok(Wire::Withdraw {
         trip: Name::build(alloc, named.trip)?,
@@ -121,14 +120,14 @@ pub fn withdraw(alloc: Global, value: &Value) -> Result<Wire, LineError>
 /// A cancelled stretch. `Bad` has the first fault: `Shape` or else `Time`. `OutOfMemory` where
 /// there is no memory.
 #[tactic(auto, unfolding(crate::specs::Messages::cancel_of))]
-pub fn cancel(alloc: Global, value: &Value) -> Result<Wire, LineError>
-    ensures exact { Gives bad_in result (cancel_of (view value.now)) }
+pub fn cancel<M: HasMembers>(alloc: Global, object: &M) -> Result<Wire, LineError>
+    ensures exact { Gives bad_in result (cancel_of (M.stands_for object.now)) }
     ensures kept { IfOk result IsWire }
 {
-    let trip = text_at(value, "trip").ok_or(BadLine::Shape)?;
-    let day = text_at(value, "date").ok_or(BadLine::Shape)?;
-    let from = label_at(value, "from").ok_or(BadLine::Shape)?;
-    let to = label_at(value, "to").ok_or(BadLine::Shape)?;
+    let trip = object.text(Key::Trip).ok_or(BadLine::Shape)?;
+    let day = object.text(Key::Date).ok_or(BadLine::Shape)?;
+    let from = label(object, Key::From).ok_or(BadLine::Shape)?;
+    let to = label(object, Key::To).ok_or(BadLine::Shape)?;
     let date = date(day.as_bytes()).ok_or(BadLine::Time)?;
     Ok(Wire::Cancel {
         trip: Name::build(alloc, trip)?,

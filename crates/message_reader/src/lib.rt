@@ -12,9 +12,12 @@ mod claims;
 mod connections;
 mod events;
 mod fields;
+mod flat;
 mod kinds;
 mod laws;
+mod line_room;
 mod lines;
+mod members;
 mod numbers;
 mod queries;
 mod resolve_claims;
@@ -33,6 +36,7 @@ pub use laws::{
     dates_are_read_back, lines_are_the_same_to_check, messages_are_read_back,
     queries_are_read_back, queries_are_resolved, times_are_read_back,
 };
+pub use line_room::LineRoom;
 pub use lines::{read_line, read_value, said};
 pub use numbers::{node, time_on};
 pub use queries::wire_time;

@@ -11,8 +11,9 @@ ghost use Rattle.message_reader.specs.Wires.{IsLine};
 use crate::bad_line::{BadLine, LineError};
 use crate::connections::connect;
 use crate::events::{cancel, correct, event, withdraw};
-use crate::fields::{number_at, text_at};
 use crate::kinds::{Kind, has_version, kind_named};
+use crate::line_room::LineRoom;
+use crate::members::{HasMembers, Key};
 use crate::queries::query;
 use crate::routes::{extra, reroute};
 use crate::wire::{Connect, Line};
@@ -55,11 +56,11 @@ pub fn read_value(alloc: Global, bytes: &[u8]) -> Result<Value, LineError>
 }
 
 #[tactic(auto, unfolding(crate::specs::Lines::head_of))]
-fn head(value: &Value) -> Result<Kind, BadLine>
-    ensures { result ≡ head_of (view value.now) }
+fn head<M: HasMembers>(object: &M) -> Result<Kind, BadLine>
+    ensures { result ≡ head_of (M.stands_for object.now) }
 {
-    let version = number_at(value, "v").ok_or(BadLine::Shape)?;
-    let name = text_at(value, "type").ok_or(BadLine::Shape)?;
+    let version = object.number(Key::Version).ok_or(BadLine::Shape)?;
+    let name = object.text(Key::Kind).ok_or(BadLine::Shape)?;
     let kind = kind_named(name).ok_or(BadLine::Shape)?;
     if !has_version(kind, version) {
         return Err(BadLine::Shape);
@@ -68,50 +69,62 @@ fn head(value: &Value) -> Result<Kind, BadLine>
 }
 
 #[tactic(auto, unfolding(crate::specs::Lines::message_of))]
-fn message(alloc: Global, kind: Kind, value: &Value) -> Result<Line, LineError>
-    requires few { HasFewItems (view value.now) }
-    ensures exact { Gives bad_in result (message_of kind (view value.now)) }
+fn message<M: HasMembers>(alloc: Global, kind: Kind, object: &M) -> Result<Line, LineError>
+    requires few { HasFewItems (M.stands_for object.now) }
+    ensures exact { Gives bad_in result (message_of kind (M.stands_for object.now)) }
     ensures kept { IfOk result IsLine }
 {
     let wire = match kind {
-        Kind::Forecast => event(alloc, ValueKind::Forecast, value)?,
-        Kind::Report => event(alloc, ValueKind::Report, value)?,
-        Kind::Correct => correct(alloc, value)?,
-        Kind::Withdraw => withdraw(alloc, value)?,
-        Kind::Cancel => cancel(alloc, value)?,
-        Kind::Reroute => reroute(alloc, value)?,
-        Kind::Extra => extra(alloc, value)?,
-        Kind::Keep => connect(alloc, Connect::Keep, value)?,
-        Kind::Drop => connect(alloc, Connect::Drop, value)?,
-        Kind::Rule => connect(alloc, Connect::Rule, value)?,
-        Kind::Query => return Ok(Line::Query(query(alloc, value)?)),
+        Kind::Forecast => event(alloc, ValueKind::Forecast, object)?,
+        Kind::Report => event(alloc, ValueKind::Report, object)?,
+        Kind::Correct => correct(alloc, object)?,
+        Kind::Withdraw => withdraw(alloc, object)?,
+        Kind::Cancel => cancel(alloc, object)?,
+        Kind::Reroute => reroute(alloc, object)?,
+        Kind::Extra => extra(alloc, object)?,
+        Kind::Keep => connect(alloc, Connect::Keep, object)?,
+        Kind::Drop => connect(alloc, Connect::Drop, object)?,
+        Kind::Rule => connect(alloc, Connect::Rule, object)?,
+        Kind::Query => return Ok(Line::Query(query(alloc, object)?)),
         Kind::Flush => return Ok(Line::Flush),
     };
     Ok(Line::Message(wire))
 }
 
+/// What an object says, as `said`.
+#[tactic(auto, unfolding(crate::specs::Lines::said_by_value))]
+pub(crate) fn said_by<M: HasMembers>(alloc: Global, object: &M) -> Result<Line, LineError>
+    requires few { HasFewItems (M.stands_for object.now) }
+    ensures exact { Gives bad_in result (said_by_value (M.stands_for object.now)) }
+    ensures kept { IfOk result IsLine }
+{
+    let kind = head(object)?;
+    message(alloc, kind, object)
+}
+
 /// What the value of a line says, or the first fault that holds: `Shape`, or in a message `Time`.
 /// `OutOfMemory` where there is no memory. No message has more new calls than its value has items.
-#[tactic(auto, unfolding(crate::specs::Lines::said_by_value))]
 pub fn said(alloc: Global, value: &Value) -> Result<Line, LineError>
     requires few { HasFewItems (view value.now) }
     ensures exact { Gives bad_in result (said_by_value (view value.now)) }
     ensures kept { IfOk result IsLine }
 {
-    let kind = head(value)?;
-    message(alloc, kind, value)
+    said_by(alloc, value)
 }
 
 /// What a line says, or the first fault that holds: `Utf8`, `Json`, `Shape`, or in a message
 /// `Time`. The faults of a query's places, date and time are told by `resolve_query`. `OutOfMemory`
 /// may come at any line. No message has more new calls than its line has bytes.
 #[tactic(auto, unfolding(crate::specs::Lines::line_of))]
-pub fn read_line(alloc: Global, bytes: &[u8]) -> Result<Line, LineError>
+pub fn read_line(alloc: Global, room: &mut LineRoom, bytes: &[u8]) -> Result<Line, LineError>
     requires few { length bytes.now < 2 ^ 31 }
     ensures exact { Gives bad_in result (line_of bytes.now) }
     ensures kept { IfOk result IsLine }
 {
     let text = utf8(bytes)?;
+    if let Some(line) = room.read_flat_line(alloc, text) {
+        return line;
+    }
     let value = json(alloc, text)?;
     said(alloc, &value)
 }

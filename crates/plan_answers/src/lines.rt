@@ -11,7 +11,7 @@ use crate::queries::query_text;
 use crate::search::PlanSearch;
 use delay_report::{Reply, reply_text};
 use information_service::{AnswerLines, InformationService, InputLine, LinesFault};
-use message_reader::{BadLine, Line, LineError, read_line};
+use message_reader::{BadLine, Line, LineError};
 use mt_base::memory::OutOfMemory;
 use mt_io::Sink;
 use std::alloc::{AllocError, Global};
@@ -55,7 +55,7 @@ fn short_text(
     ensures counts { service.new.count ≤ service.old.count + 1 }
     ensures rides { search.new ≡ search.old }
 {
-    match read_line(alloc, bytes) {
+    match service.read_line(alloc, bytes) {
         Ok(said) => said_text(alloc, service, search, line, &said),
         Err(LineError::Bad(bad)) => {
             reply_text(alloc, &Reply::Bad { line, bad }, service.directory())

@@ -7,7 +7,7 @@ ghost use Rattle.mt_io.specs.Reader.{GivesNext};
 ghost use Rattle.query_crew.specs.Reading.{IsNextLine, StopsAt, IsReadWindow, StopsWindow};
 
 use crate::window::Window;
-use crate::window_line::{WindowLine, read_window_line};
+use crate::window_line::WindowLine;
 use information_service::LinesFault;
 use message_reader::BadLine;
 use mt_io::{LineReader, Next, Source};
@@ -31,6 +31,7 @@ fn next_line<S: Source>(
     reader: &mut LineReader,
     input: &mut S,
     directory: &Directory,
+    window: &mut Window,
 ) -> Result<Option<WindowLine>, LinesFault>
     ensures taken { (lines : List Line)
         × GivesNext reader.old reader.new (S.left input.old) (S.left input.new) lines
@@ -38,9 +39,10 @@ fn next_line<S: Source>(
         × IfErr result (λ fault. StopsAt fault lines reader.new) }
     ensures reads { Some (S.faults input.new) ≡ reads_failed result (S.faults input.old) }
     ensures ended { reader.old.ended ≡ true → input.new ≡ input.old }
+    ensures unchanged { window.new ≡ window.old }
 {
     match reader.next(input) {
-        Next::Line(line) => Ok(Some(read_window_line(alloc, directory, line)?)),
+        Next::Line(line) => Ok(Some(window.read_line(alloc, directory, line)?)),
         Next::LongLine => Ok(Some(WindowLine::Bad(BadLine::Long))),
         Next::End => Ok(None),
         Next::ReadFault => Err(LinesFault::ReadFault),
@@ -74,7 +76,7 @@ pub fn read_window<S: Source>(
 {
     window.clear();
     'lines: while !window.is_full() {
-        let Some(line) = next_line(alloc, reader, input, directory)? else {
+        let Some(line) = next_line(alloc, reader, input, directory, window)? else {
             return Ok(WindowEnd::End);
         };
         let ends = line.is_flush();

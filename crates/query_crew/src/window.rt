@@ -1,11 +1,15 @@
 //! The lines of a window.
 
-ghost use Rattle.std.specs.Prelude.{◌≡◌, ◌<◌, ◌≤◌, ◌++◌, ◌∷◌, [], All, IfOk, length, nat_eq};
+ghost use Rattle.std.specs.Prelude.{◌≡◌, ◌<◌, ◌≤◌, ◌^◌, ◌++◌, ◌∷◌, [], All, IfOk, length, nat_eq};
 ghost use Rattle.delay_model.specs.Windows.{lines_per_window};
-ghost use Rattle.query_crew.specs.WindowLines.{IsWindowLine};
+ghost use Rattle.information_service.specs.Lines.{said_by};
+ghost use Rattle.mt_io.specs.Lines.{short};
+ghost use Rattle.query_crew.specs.WindowLines.{window_line, IsWindowLine};
 
-use crate::window_line::WindowLine;
+use crate::window_line::{WindowLine, read_window_line};
+use message_reader::LineRoom;
 use mt_base::memory::OutOfMemory;
+use schedule_build::Directory;
 use std::alloc::Global;
 use std::marker::Model;
 
@@ -17,6 +21,7 @@ pub const LINES_PER_WINDOW: usize = 256;
 #[derive(Drop)]
 pub struct Window {
     lines: Vec<WindowLine>,
+    room: LineRoom,
 }
 
 impl Model for Window {
@@ -40,6 +45,7 @@ impl Window {
     {
         Ok(Window {
             lines: Vec::with_capacity(alloc, LINES_PER_WINDOW)?,
+            room: LineRoom::build(alloc)?,
         })
     }
 
@@ -57,6 +63,23 @@ impl Window {
         ensures { result ≡ nat_eq (length self.now) lines_per_window }
     {
         self.lines.len() == LINES_PER_WINDOW
+    }
+
+    /// What a line of the input, without its line end and of fewer than 2^31 bytes, says in a
+    /// window. It is not put in. The names of a query are looked up in the directory. `OutOfMemory`
+    /// where there is no memory.
+    pub(crate) fn read_line(
+        &mut self,
+        alloc: Global,
+        directory: &Directory,
+        line: &[u8],
+    ) -> Result<WindowLine, OutOfMemory>
+        requires few { length line.now < 2 ^ 31 }
+        ensures said { IfOk result (λ w. w ≡ window_line directory.now (said_by (short line.now))) }
+        ensures kept { IfOk result IsWindowLine }
+        ensures unchanged { self.new ≡ self.old }
+    {
+        read_window_line(alloc, directory, &mut self.room, line)
     }
 
     /// Takes all lines out.

@@ -10,7 +10,7 @@ ghost use Rattle.query_crew.specs.WindowLines.{window_line, is_flush_line, asks,
 
 use crate::clients::Client;
 use message_reader::{
-    AskedQuery, BadLine, Line, LineError, Wire, WireQuery, read_line, resolve_query,
+    AskedQuery, BadLine, Line, LineError, LineRoom, Wire, WireQuery, read_line, resolve_query,
 };
 use mt_base::memory::OutOfMemory;
 use schedule_build::Directory;
@@ -95,13 +95,14 @@ fn line_in_window(directory: &Directory, said: Line) -> WindowLine
 pub(crate) fn read_window_line(
     alloc: Global,
     directory: &Directory,
+    room: &mut LineRoom,
     line: &[u8],
 ) -> Result<WindowLine, OutOfMemory>
     requires few { length line.now < 2 ^ 31 }
     ensures said { IfOk result (λ w. w ≡ window_line directory.now (said_by (short line.now))) }
     ensures kept { IfOk result IsWindowLine }
 {
-    match read_line(alloc, line) {
+    match read_line(alloc, room, line) {
         Ok(said) => Ok(line_in_window(directory, said)),
         Err(LineError::Bad(bad)) => Ok(WindowLine::Bad(bad)),
         Err(LineError::OutOfMemory) => Err(AllocError),

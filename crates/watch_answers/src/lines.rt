@@ -13,7 +13,7 @@ use crate::queries::query_text;
 use delay_report::{Reply, reply_text};
 use information_service::{AnswerLines, InformationService, InputLine, LinesFault};
 use journey_watch::Watch;
-use message_reader::{BadLine, Line, LineError, read_line};
+use message_reader::{BadLine, Line, LineError};
 use mt_base::memory::OutOfMemory;
 use mt_io::Sink;
 use std::alloc::{AllocError, Global};
@@ -62,7 +62,7 @@ fn short_text(
     ensures fits { OnOk result (are_kept service.new.network service.new.state kept.new) }
     ensures counts { service.new.count ≤ service.old.count + 1 }
 {
-    match read_line(alloc, bytes) {
+    match service.read_line(alloc, bytes) {
         Ok(said) => said_text(alloc, service, kept, line, &said),
         Err(LineError::Bad(bad)) => {
             reply_text(alloc, &Reply::Bad { line, bad }, service.directory())

@@ -4,7 +4,7 @@ ghost use Rattle.std.specs.Prelude.{◌≡◌, Some};
 
 use crate::tests::exhaustion::{TakenBlocks, is_all_refused, take_all, take_small};
 use crate::tests::refused_memory::loaded_feed;
-use message_reader::{Line, read_line, resolve};
+use message_reader::{Line, LineRoom, read_line, resolve};
 use mt_base::memory::OutOfMemory;
 use schedule_build::Directory;
 use snapshot_board::{NewHistory, Opening, Publisher, Viewer, open_board};
@@ -45,7 +45,10 @@ fn message_of(alloc: Global, directory: &Directory, line: &str) -> Option<Msg> {
     if line.len() > 1_000 {
         return None;
     }
-    match read_line(alloc, line.as_bytes()) {
+    let Ok(mut room) = LineRoom::build(alloc) else {
+        return None;
+    };
+    match read_line(alloc, &mut room, line.as_bytes()) {
         Ok(Line::Message(wire)) => resolve(alloc, &wire, directory).ok(),
         _ => None,
     }

@@ -17,7 +17,7 @@ returns-in_err-line-clause-taken g c =
     let f = c.in_err-line.field-0.0 in
     let few : length b.0 < 256 = fewer c.args.directory.now b.0 c.lines.window b.1.shown b.1.most (sym c.is_full.ensures ∙ c.lines-test.true) in
     let all = stopped b.1 got.1 (λ is. ap g.S.Source.left (c.in_err-line.ensures.ended is)) f few got.3 in
-    (all.0, all.1, IfOk-from_err c.from_residual.result _ c.from_residual.ensures.0, handed-on c.from_residual.result f _ c.from_residual.ensures.1 all.2)
+    rw c.in_err-line.ensures.unchanged (all.0, all.1, IfOk-from_err c.from_residual.result _ c.from_residual.ensures.0, handed-on c.from_residual.result f _ c.from_residual.ensures.1 all.2)
 
 pub returns-in_err-line-clause-reads : goal.returns-in_err-line-clause-reads
 returns-in_err-line-clause-reads g c = same-reads (Option WindowLine) c.from_residual.result c.in_err-line.field-0.0 _ _ _ c.from_residual.ensures.1 c.lines.invariant.reads c.in_err-line.ensures.reads
@@ -29,7 +29,7 @@ returns-then-ends-clause-taken g c =
     let one = rw c.in-Some.is at got.2 in
     let few : length b.0 < 256 = fewer c.args.directory.now b.0 c.lines.window b.1.shown b.1.most (sym c.is_full.ensures ∙ c.lines-test.true) in
     let all = filled b.1 got.1 (λ is. ap g.S.Source.left (c.in_ok-line.ensures.ended is)) c.in-Some.line one few (sym c.is_flush-ends.ensures ∙ c.if-ends.true) in
-    rw c.push.ensures (all.0, all.1, all.2, tt)
+    rw (c.push.ensures, c.in_ok-line.ensures.unchanged) (all.0, all.1, all.2, tt)
 
 pub lines-preserved : goal.lines-preserved
 lines-preserved g c =
@@ -40,7 +40,7 @@ lines-preserved g c =
     let few : length b.0 < 256 = fewer c.args.directory.now b.0 c.lines.window b.1.shown b.1.most (sym c.is_full.ensures ∙ c.lines-test.true) in
     let same = c.in_ok-line.ensures.ended in
     record {
-      begun = (b.0 ++ one.line ∷ [], rw c.push.ensures (begun-more b.1 got.1 (λ is. ap g.S.Source.left (same is)) c.in-Some.line one few (sym c.is_flush-ends.ensures ∙ c.if-ends.false)));
+      begun = (b.0 ++ one.line ∷ [], rw (c.push.ensures, c.in_ok-line.ensures.unchanged) (begun-more b.1 got.1 (λ is. ap g.S.Source.left (same is)) c.in-Some.line one few (sym c.is_flush-ends.ensures ∙ c.if-ends.false)));
       reads = same_Some _ _ c.in_ok-line.ensures.reads ∙ inv.reads;
       ended = λ is. same (b.1.taken.1.still_ended is).0 ∙ inv.ended is;
     }
@@ -52,4 +52,4 @@ returns-in_default-clause-taken g c =
     let none = rw c.in_default.is at got.2 in
     let few : length b.0 < 256 = fewer c.args.directory.now b.0 c.lines.window b.1.shown b.1.most (sym c.is_full.ensures ∙ c.lines-test.true) in
     let all = none-came b.1 got.1 (λ is. ap g.S.Source.left (c.in_ok-line.ensures.ended is)) none.0 few none.1 in
-    (all.0, all.1, all.2, tt)
+    rw c.in_ok-line.ensures.unchanged (all.0, all.1, all.2, tt)
