@@ -3,7 +3,10 @@ use Rattle.window_service.proofs.Words.{◌≡◌, ◌⊎◌, ◌∙◌, ◌++�
 use Rattle.window_service.proofs.Words.{IsNotOfInput, WhereLinesStop, IsTaken, Line, Reader, IsDone, Names, Reply, IsClosedWindow, AreFirstReceived, AreAllReceived, IsReceivedWhole, IsReceivedInPart, IsReceivedAtFirst, HasEnded, HasStopped, HasBegun}
 use Rattle.std.specs.Prelude.{Result, Ok, Err, IfErr, Some}
 use Rattle.mt_io.specs.Causes.{Faults}
-use Rattle.information_service.specs.Causes.{reads_failed}
+use Rattle.information_service.specs.Causes.{reads_failed, HasCounts}
+use Rattle.information_service.proofs.Ends.{none_taken}
+use Rattle.std.proofs.Common.{rules, subst, sym}
+use Rattle.std.specs.Result.{IsErrAnd}
 use Rattle.information_service.specs.declared.fault.LinesFault.TheVariants.{ReadFault, WriteFault, OutOfMemory, TooLong}
 use Rattle.information_service.specs.Fronts.{EndWasRead}
 use Rattle.information_service.proofs.Fronts.{end_was_read, first_lines}
@@ -77,3 +80,17 @@ no-more-reads (Err ReadFault) n none = absurd none
 no-more-reads (Err WriteFault) n none = refl
 no-more-reads (Err OutOfMemory) n none = refl
 no-more-reads (Err TooLong) n none = absurd none
+
+-- what is counted of a run that found no memory before it took anything
+pub nothing-counted : {T : Type 0} (budget : ℕ) (run : Result T LinesFault) (left : Option (List ℕ)) (reads writes : Faults) (Full : Type 0) → IsErrAnd run (λ e. e ≡ OutOfMemory) → HasCounts budget run left left reads reads writes writes Full
+nothing-counted budget (Ok x) left reads writes Full is = absurd is
+nothing-counted {T} budget (Err f) left reads writes Full is =
+    subst (λ (f : LinesFault). HasCounts {T = T} budget (Err f) left left reads reads writes writes Full) (sym is) (record {
+      reads = search rules;
+      writes = search rules;
+      full = search rules;
+      at_most = none_taken budget left;
+      fewer = search rules;
+      read_early = search rules;
+      too_long = search rules;
+    })

@@ -2,7 +2,7 @@ use Rattle.std.proofs.Common.{rules}
 use Rattle.window_service.proofs.Words.{handed_on, on_ok_weaker, IfErr-weaker, where_also}
 use Rattle.information_service.proofs.Ends.{at_most_taken, either-way, fewer_taken, memory_not_write, none_taken}
 use Rattle.information_service.specs.declared.fault.LinesFault.TheVariants.{OutOfMemory}
-use Rattle.window_service.proofs.Inputs.{received-whole, received-in-part, received-at-first, nothing-received}
+use Rattle.window_service.proofs.Inputs.{received-whole, received-in-part, received-at-first, nothing-received, nothing-counted}
 use Rattle.window_service.proofs.output.receive_windows.Goals as goal
 
 pub returns-clause-all : goal.returns-clause-all
@@ -27,15 +27,7 @@ pub returns-in_err-crew-clause-begun : goal.returns-in_err-crew-clause-begun
 returns-in_err-crew-clause-begun g c = handed_on c.from_residual-in_err-crew.result OutOfMemory _ c.from_residual-in_err-crew.ensures.1 (nothing-received memory_not_write)
 
 pub returns-in_err-reader-clause-counts : goal.returns-in_err-reader-clause-counts
-returns-in_err-reader-clause-counts g c = record {
-  reads = search rules;
-  writes = search rules;
-  full = search rules;
-  at_most = none_taken c.args.budget (g.S.Source.left c.args.input.now);
-  fewer = search rules;
-  read_early = search rules;
-  too_long = search rules;
-}
+returns-in_err-reader-clause-counts g c = nothing-counted c.args.budget c.from_residual.result (g.S.Source.left c.args.input.now) _ _ _ c.from_residual.ensures.1
 
 pub returns-in_err-crew-clause-counts : goal.returns-in_err-crew-clause-counts
 returns-in_err-crew-clause-counts g c = record {
