@@ -1,5 +1,5 @@
 -- How stored overrides are seen, and what holds of them.
-use Rattle.std.specs.Prelude.{◌≡◌, ℕ, ◌+◌, ◌<◌, ◌≤◌, ◌^◌, List, length, vec_capacity, refl, true}
+use Rattle.std.specs.Prelude.{◌≡◌, ℕ, List, length, refl, true}
 use Rattle.std.specs.Coded.{Coded, code_by, coded×, coded_ℕ}
 use Rattle.std.specs.FinMap.{FinMap, code, find, from_sorted, is_sorted}
 use Rattle.delay_model.specs.declared.overrides.Connection.{Connection}
@@ -21,7 +21,7 @@ coded_overrides =
     (λ p. record { choices = p.0; spare = p.1 }) (λ _. refl)
 
 abbrev pub seen : Inside → Overrides
-seen a = record { choices = from_sorted a.by_arrival.items; spare = a.spare }
+seen a = record { choices = from_sorted a.by_arrival.items; spare = a.by_arrival.room }
 
 -- the same choices in the order of the arrivals and in that of the departures
 pub record AreTurned (by_arrival by_departure : List (Connection × Override)) : Type 0 where
@@ -30,10 +30,8 @@ pub record AreTurned (by_arrival by_departure : List (Connection × Override)) :
   pub same : (p : Connection) → find (end_cmp Departure) p by_departure
       ≡ find connection_cmp p by_arrival
 
--- there is room for the spare ones in both orders, in numbers of 32 bits
+-- there is the same room in both orders
 pub record AreStored (a : Inside) : Type 0 where
   pub choices : AreTurned a.by_arrival.items a.by_departure.items
   pub count : length a.by_departure.items ≡ length a.by_arrival.items
-  pub room : length a.by_arrival.items + a.spare ≤ vec_capacity a.by_arrival
-  pub turned_room : length a.by_arrival.items + a.spare ≤ vec_capacity a.by_departure
-  pub small : length a.by_arrival.items + a.spare < 2 ^ 32
+  pub room : a.by_departure.room ≡ a.by_arrival.room

@@ -3,6 +3,7 @@
 ghost use Rattle.std.specs.Iterator.{YieldsFirst, item_count};
 
 use crate::override_rows::End;
+use block_lists::Elements;
 use delay_model::overrides::{Connection, Override};
 use mt_base::keys::Node;
 use std::marker::Model;
@@ -12,7 +13,7 @@ use std::marker::Model;
 #[derive(Drop)]
 pub struct Keeps<'a> {
     /// The rows of the connections that are still to come.
-    pub(crate) rows: &'a [(Connection, Override)],
+    pub(crate) rows: Elements<'a, (Connection, Override)>,
     /// The end at which these have the event.
     pub(crate) end: End,
 }
@@ -24,7 +25,7 @@ impl<'a> Model for Keeps<'a> {
 
     ghost Value = { List Node };
 
-    ghost view = { λ s. kept_across s.end s.rows.now };
+    ghost view = { λ s. kept_across s.end s.rows };
 }
 
 impl<'a> Iterator for Keeps<'a> {
@@ -35,10 +36,9 @@ impl<'a> Iterator for Keeps<'a> {
     ghost remaining = { item_count (λ s. s) };
 
     fn next(&mut self) -> Option<Node> {
-        while let Some((row, later)) = self.rows.split_first() {
-            self.rows = later;
-            if row.1 == Override::Keep {
-                return Some(self.end.across(&row.0));
+        while let Some((connection, choice)) = self.rows.next() {
+            if choice == Override::Keep {
+                return Some(self.end.across(&connection));
             }
         }
         None

@@ -1,11 +1,12 @@
 //! Rows of what was chosen for connections, in the order of one end of the connections and then of
 //! the other.
 
-ghost use Rattle.std.specs.Prelude.{◌≡◌, ◌<◌, ◌≤◌, None, IfOk, IfErr, is_some, length, not, slice_range, vec_capacity};
+ghost use Rattle.std.specs.Prelude.{◌≡◌, ◌+◌, ◌-◌, ◌<◌, ◌≤◌, None, IfOk, IfErr, if◌then◌else◌, is_some, length, slice_range};
 ghost use Rattle.std.specs.List.Sorted.{IsSearchInRange};
 ghost use Rattle.std.specs.FinMap as map;
 ghost use Rattle.connection_choices.specs.OverrideRows.{AreSorted, IsGapAt, IsRowAt, choice_in, end_cmp, event_across, event_at, rows_at, rows_without};
 
+use block_lists::{BlockList, Elements};
 use delay_model::overrides::{Connection, Override};
 use mt_base::keys::Node;
 use std::cmp::Ordering;
@@ -49,83 +50,78 @@ impl End {
 
 /// The place of a connection among rows in order, or the place where it would be inserted.
 pub(crate) fn search(
-    rows: &[(Connection, Override)],
+    rows: &BlockList<(Connection, Override)>,
     end: End,
     connection: &Connection,
 ) -> Result<usize, usize>
-    requires { AreSorted end rows.now }
-    ensures within { IsSearchInRange result (length rows.now) }
-    ensures found { IfOk result (IsRowAt end connection.now rows.now) }
-    ensures absent { IfErr result (IsGapAt end connection.now rows.now) }
+    requires { AreSorted end rows.now.items }
+    ensures within { IsSearchInRange result (length rows.now.items) }
+    ensures found { IfOk result (IsRowAt end connection.now rows.now.items) }
+    ensures absent { IfErr result (IsGapAt end connection.now rows.now.items) }
 {
     rows.binary_search_by(|row| end.compare(&row.0, connection))
 }
 
-/// Puts a choice in its place, for what was chosen for the connection before, and tells whether
-/// nothing was. It takes no memory.
+/// Puts a choice in its place, for what was chosen for the connection before. It takes no memory.
 pub(crate) fn put(
-    rows: &mut Vec<(Connection, Override)>,
+    rows: &mut BlockList<(Connection, Override)>,
     end: End,
     connection: &Connection,
     choice: Override,
-) -> bool
+)
     requires sorted { AreSorted end rows.old.items }
-    requires room { choice_in end connection.now rows.old.items ≡ None
-        → length rows.old.items < vec_capacity rows.old }
-    ensures new { result ≡ not (is_some (choice_in end connection.now rows.old.items)) }
+    requires room { choice_in end connection.now rows.old.items ≡ None → 0 < rows.old.room }
     ensures items { rows.new.items ≡ map.put (end_cmp end) connection.now choice rows.old.items }
-    ensures capacity { vec_capacity rows.old ≤ vec_capacity rows.new }
+    ensures room { rows.new.room
+        ≡ (if is_some (choice_in end connection.now rows.old.items) then rows.old.room
+        else rows.old.room - 1) }
 {
     match search(rows, end, connection) {
         Ok(place) => {
-            rows[place].1 = choice;
-            false
+            let (own, _) = *rows.get(place);
+            rows.set(place, (own, choice));
         }
-        Err(place) => {
-            // There is room, so that it succeeds.
-            let _ = rows.insert(place, (*connection, choice));
-            true
-        }
+        Err(place) => rows.insert(place, (*connection, choice)),
     }
 }
 
-/// Takes the row of a connection out, and tells whether there was one.
+/// Takes the row of a connection out if there is one, and gives its room back.
 pub(crate) fn take_out(
-    rows: &mut Vec<(Connection, Override)>,
+    rows: &mut BlockList<(Connection, Override)>,
     end: End,
     connection: &Connection,
-) -> bool
-    requires sorted { AreSorted end rows.old.items }
-    ensures there { result ≡ is_some (choice_in end connection.now rows.old.items) }
+)
+    requires { AreSorted end rows.old.items }
     ensures items { rows.new.items ≡ rows_without end connection.now rows.old.items }
-    ensures capacity { vec_capacity rows.new ≡ vec_capacity rows.old }
+    ensures room { rows.new.room
+        ≡ (if is_some (choice_in end connection.now rows.old.items) then rows.old.room + 1
+        else rows.old.room) }
 {
     if let Ok(place) = search(rows, end, connection) {
         let _ = rows.remove(place);
-        return true;
     }
-    false
 }
 
 /// The rows of the connections that have an event at the end by which the rows are in order.
 pub(crate) fn rows_at<'a>(
-    rows: &'a [(Connection, Override)],
+    rows: &'a BlockList<(Connection, Override)>,
     end: End,
     event: &Node,
-) -> &'a [(Connection, Override)]
-    requires { AreSorted end rows.now }
-    ensures { result.now ≡ rows_at end event.now rows.now }
+) -> Elements<'a, (Connection, Override)>
+    requires { AreSorted end rows.now.items }
+    ensures { result ≡ rows_at end event.now rows.now.items }
 {
     let (first, last) = bounds(rows, end, event);
-    &rows[first..last]
+    rows.range(first, last)
 }
 
 /// Where these rows begin, and where they end.
-fn bounds(rows: &[(Connection, Override)], end: End, event: &Node) -> (usize, usize)
-    requires { AreSorted end rows.now }
+fn bounds(rows: &BlockList<(Connection, Override)>, end: End, event: &Node) -> (usize, usize)
+    requires { AreSorted end rows.now.items }
     ensures order { result.0 ≤ result.1 }
-    ensures within { result.1 ≤ length rows.now }
-    ensures rows { slice_range rows.now result.0 result.1 ≡ rows_at end event.now rows.now }
+    ensures within { result.1 ≤ length rows.now.items }
+    ensures rows { slice_range rows.now.items result.0 result.1
+        ≡ rows_at end event.now rows.now.items }
 {
     let first = rows.partition_point(|row| end.event(&row.0).cmp(event).is_lt());
     let last = rows.partition_point(|row| end.event(&row.0).cmp(event).is_le());

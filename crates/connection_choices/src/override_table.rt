@@ -1,7 +1,7 @@
 //! What dispatchers chose for connections, found by either of their events, with room that was
 //! taken when it was made.
 
-ghost use Rattle.std.specs.Prelude.{◌≡◌, ◌+◌, ◌-◌, ◌<◌, ◌≤◌, not, false, IfOk, if◌then◌else◌, filter, length, nat_eq, vec_capacity};
+ghost use Rattle.std.specs.Prelude.{◌≡◌, ◌+◌, ◌-◌, ◌<◌, ◌≤◌, not, false, IfOk, if◌then◌else◌, filter, length, nat_eq};
 ghost use Rattle.std.specs.FinMap as map;
 ghost use Rattle.delay_model.specs.Overrides.{connection as a_connection};
 ghost use Rattle.connection_choices.specs.Keeps.{kept_from, kept_into};
@@ -10,9 +10,10 @@ ghost use Rattle.connection_choices.specs.OverrideRows.{names_event};
 use crate::event_set::EventSet;
 use crate::keeps::Keeps;
 use crate::override_rows::{End, put, rows_at, search, take_out};
+use block_lists::BlockList;
 use delay_model::overrides::{Connection, Override};
 use mt_base::keys::Node;
-use mt_base::memory::{OutOfMemory, copy_with_room};
+use mt_base::memory::OutOfMemory;
 use std::alloc::Global;
 use std::marker::Model;
 
@@ -21,9 +22,8 @@ use std::marker::Model;
 /// kept connections of either are found at once.
 #[derive(Drop)]
 pub struct OverrideTable {
-    by_arrival: Vec<(Connection, Override)>,
-    by_departure: Vec<(Connection, Override)>,
-    spare: u32,
+    by_arrival: BlockList<(Connection, Override)>,
+    by_departure: BlockList<(Connection, Override)>,
 }
 
 impl Model for OverrideTable {
@@ -46,9 +46,8 @@ impl OverrideTable {
         ensures { IfOk result (λ table. table ≡ record { choices = map.empty; spare = spare }) }
     {
         Ok(OverrideTable {
-            by_arrival: Vec::with_capacity(alloc, spare as usize)?,
-            by_departure: Vec::with_capacity(alloc, spare as usize)?,
-            spare,
+            by_arrival: BlockList::with_room(alloc, spare)?,
+            by_departure: BlockList::with_room(alloc, spare)?,
         })
     }
 
@@ -57,9 +56,8 @@ impl OverrideTable {
         ensures { IfOk result (λ copy. copy ≡ self.now) }
     {
         Ok(OverrideTable {
-            by_arrival: copy_with_room(alloc, self.by_arrival.as_slice(), self.spare)?,
-            by_departure: copy_with_room(alloc, self.by_departure.as_slice(), self.spare)?,
-            spare: self.spare,
+            by_arrival: self.by_arrival.copy(alloc)?,
+            by_departure: self.by_departure.copy(alloc)?,
         })
     }
 
@@ -67,7 +65,7 @@ impl OverrideTable {
     pub fn spare(&self) -> u32
         ensures { result ≡ self.now.spare }
     {
-        self.spare
+        self.by_arrival.room()
     }
 
     /// Whether nothing is chosen.
@@ -83,7 +81,7 @@ impl OverrideTable {
         ensures { result ≡ map.get self.now.choices connection.now }
     {
         match search(&self.by_arrival, End::Arrival, connection) {
-            Ok(place) => Some(self.by_arrival[place].1),
+            Ok(place) => Some(self.by_arrival.get(place).1),
             Err(_) => None,
         }
     }
@@ -119,9 +117,8 @@ impl OverrideTable {
             ≡ (if map.contains_key self.old.choices connection then self.old.spare
             else self.old.spare - 1) }
     {
-        let is_new = put(&mut self.by_arrival, End::Arrival, &connection, choice);
+        put(&mut self.by_arrival, End::Arrival, &connection, choice);
         put(&mut self.by_departure, End::Departure, &connection, choice);
-        self.spare -= u32::from(is_new);
     }
 
     /// Takes back what was chosen for a connection, and gives its room back.
@@ -132,9 +129,8 @@ impl OverrideTable {
             ≡ (if map.contains_key self.old.choices connection.now then self.old.spare
             + 1 else self.old.spare) }
     {
-        let was_there = take_out(&mut self.by_arrival, End::Arrival, connection);
+        take_out(&mut self.by_arrival, End::Arrival, connection);
         take_out(&mut self.by_departure, End::Departure, connection);
-        self.spare += u32::from(was_there);
     }
 
     /// Takes back what was chosen for connections that name one of these events, and gives its room
@@ -145,19 +141,17 @@ impl OverrideTable {
         ensures spare { self.new.spare ≡ self.old.spare
             + (map.len self.old.choices - map.len self.new.choices) }
     {
-        let before = self.by_arrival.len();
         retain(&mut self.by_arrival, events);
         retain(&mut self.by_departure, events);
-        self.spare += (before - self.by_arrival.len()) as u32;
     }
 }
 
 /// Keeps the choices for connections that name none of these events.
-fn retain<E: EventSet>(rows: &mut Vec<(Connection, Override)>, events: &E)
+fn retain<E: EventSet>(rows: &mut BlockList<(Connection, Override)>, events: &E)
     ensures items { rows.new.items
         ≡ filter (λ row. not (names_event (E.holds events.now) row.0)) rows.old.items }
-    ensures bound { length rows.new.items ≤ length rows.old.items }
-    ensures capacity { vec_capacity rows.new ≡ vec_capacity rows.old }
+    ensures room { rows.new.room + length rows.new.items
+        ≡ rows.old.room + length rows.old.items }
 {
     rows.retain(|row| !(events.has(&row.0.arrival) || events.has(&row.0.departure)));
 }

@@ -109,22 +109,15 @@ second-fails q false false e h = e
 second-fails q a true e h = cc
 
 -- the entries of a range, from the two places that a search finds
-pub range-at : (stop : ℕ) (dep : Bool) (lo hi : ℕ) (es : List Entry) (first count : ℕ) → first ≤ length es → count ≤ length (drop first es) → IsPartitionPoint (λ e. is_before_range stop dep lo e ≡ true) (λ e. is_before_range stop dep lo e ≡ false) es first → IsPartitionPoint (λ e. not (is_past_range stop dep hi e) ≡ true) (λ e. not (is_past_range stop dep hi e) ≡ false) (drop first es) count → IsRangeAt (is_in_range stop dep lo hi) es first (first + count)
-range-at stop dep lo hi es first count within room low high =
+pub range-at : (stop : ℕ) (dep : Bool) (lo hi : ℕ) (es : List Entry) (first last end : ℕ) → first ≤ end → last ≤ end → end ≤ length es → ((k : ℕ) → k < end → first ≤ k → k < last) → IsPartitionPoint (λ e. is_before_range stop dep lo e ≡ true) (λ e. is_before_range stop dep lo e ≡ false) es first → IsPartitionPoint (λ e. not (is_past_range stop dep hi e) ≡ true) (λ e. not (is_past_range stop dep hi e) ≡ false) es last → IsRangeAt (is_in_range stop dep lo hi) es first end
+range-at stop dep lo hi es first last end from upto within inner low high =
     let test = in-range stop dep lo hi in
-    let behind = length-drop first es in
-    let back : (k : ℕ) (d : Entry) → first ≤ k → get_or (drop first es) (k - first) d ≡ get_or es k d = λ k d l.
-    get_or-drop first es (k - first) d ∙ ap (λ i. get_or es i d) (omega arith) in
     record {
-      order = omega arith;
-      within = omega (arith, behind, room);
+      order = from;
+      within = within;
       before = λ k d l m. first-fails _ _ _ (test (get_or es k d)) (ap not (low.0 k d (omega arith) m));
-      inside = λ k d l m.
-          let not_past : not (is_past_range stop dep hi (get_or es k d)) ≡ true = rw (← back k d l) (high.0 (k - first) d (omega arith) (omega (arith, l, m))) in
-          both-pass _ _ _ (test (get_or es k d)) (ap not (low.1 k d l (omega (arith, behind, room, m)))) not_past;
-      after = λ k d l m.
-          let past : not (is_past_range stop dep hi (get_or es k d)) ≡ false = rw (← back k d (omega (arith, l))) (high.1 (k - first) d (omega (arith, l)) (omega (arith, behind, l, m))) in
-          second-fails _ _ _ (test (get_or es k d)) past;
+      inside = λ k d l m. both-pass _ _ _ (test (get_or es k d)) (ap not (low.1 k d l (omega (arith, within, m)))) (high.0 k d (omega arith) (inner k m l));
+      after = λ k d l m. second-fails _ _ _ (test (get_or es k d)) (high.1 k d (omega (arith, upto, l)) m);
     }
 
 module _ (p : Entry → Bool) (es : List Entry) (first last : ℕ) (h : IsRangeAt p es first last) where

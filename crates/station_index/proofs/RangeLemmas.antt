@@ -1,8 +1,11 @@
 -- What comes next in a range.
 use Rattle.station_index.proofs.Words.{◌≡◌, ℕ, ◌+◌, ◌-◌, ◌<◌, ◌≤◌, List, [], ◌∷◌, Bool, true, false, length, get_or, take, drop, map, min, refl, sym, ◌∙◌, ap, arith, All, drop-map, get_or-drop, length-drop, length-map, length-take, between_to_end, All-nil, All-tail, Entry, before_entry-itself, AreInOrder, loaded_left, entry_of, comes_first, kept, merged}
+use Rattle.std.proofs.Common.{None, Option, Some}
+use Rattle.std.specs.Iterator.{MakesProgress, item_count}
+use Rattle.std.specs.Option.{MatchOption}
 use Rattle.station_index.specs.declared.range.Range.TheInside.{Inside}
 use Rattle.station_index.specs.Ranged.{IsRange}
-use Rattle.station_index.proofs.OrderLemmas.{AreInOrder-tail}
+use Rattle.station_index.proofs.OrderLemmas.{AreInOrder-nil, AreInOrder-tail}
 use Rattle.station_index.proofs.PlaceLemmas.{AreInOrder-drop}
 use Rattle.station_index.proofs.KeptLemmas.{kept-holds, kept-dead}
 use Rattle.station_index.proofs.MergeLemmas.{IsNotBefore, first-before-all, merged-all, merged-first, none-before, with-first}
@@ -61,6 +64,11 @@ rest-is n xs = between_to_end xs n (length xs) (omega arith)
 pub rest-map : {X : Type 0} (f : X → Entry) (n : ℕ) (xs : List X) → rest_of n (map f xs) ≡ map f (rest_of n xs)
 rest-map f n xs = rest-is n (map f xs) ∙ drop-map f n xs ∙ ap (map f) (sym (rest-is n xs))
 
+-- a call that gave the first of what was left, or nothing where nothing was, comes nearer to the end
+pub comes-nearer : (left later : List Entry) (r : Option Entry) → MatchOption r ((left ≡ []) × (later ≡ [])) (λ x. left ≡ x ∷ later) → MakesProgress (λ (es : List Entry). Unit {0}) (item_count (λ (es : List Entry). es)) left r later
+comes-nearer left later None h = record { on = λ _. tt; keeps = tt; rests = λ _. tt }
+comes-nearer left later (Some x) h = let less = ap length h in record { on = λ _. (tt, tt, omega arith); keeps = tt; rests = λ _. tt }
+
 -- what the loaded entries, their flags and the added entries are, and how many loaded ones at the front are not live
 pub record IsFront (es : List Entry) (flags : List Bool) (fs : List Entry) (n : ℕ) : Type 0 where
   pub loaded : AreInOrder es
@@ -70,7 +78,7 @@ pub record IsFront (es : List Entry) (flags : List Bool) (fs : List Entry) (n : 
   pub dead : (k : ℕ) → k < n → get_or flags k true ≡ false
   pub live : n < length flags → get_or flags n false ≡ true
 
-pub front-from : (s : Inside) (n : ℕ) → IsRange s → n ≤ length s.live.now → ((k : ℕ) → k < n → get_or s.live.now k true ≡ false) → (n < length s.live.now → get_or s.live.now n false ≡ true) → IsFront (loaded_left s) s.live.now s.added.now n
+pub front-from : (s : Inside) (n : ℕ) → IsRange s → n ≤ length s.live.now → ((k : ℕ) → k < n → get_or s.live.now k true ≡ false) → (n < length s.live.now → get_or s.live.now n false ≡ true) → IsFront (loaded_left s) s.live.now s.added n
 front-from s n h within dead live = record { loaded = h.loaded; count = h.flags ∙ sym (length-map s.loaded.now (entry_of s.stop s.dep)); added = h.added; within = within; dead = dead; live = live }
 
 module _ (es : List Entry) (flags : List Bool) (fs : List Entry) (n : ℕ) (h : IsFront es flags fs n) where
@@ -125,3 +133,15 @@ module _ (es : List Entry) (flags : List Bool) (fs : List Entry) (n : ℕ) (h : 
 
   pub added-later : (y : Entry) (ys : List Entry) → fs ≡ y ∷ ys → AreInOrder ys
   added-later y ys is = AreInOrder-tail y ys (rw is at h.added)
+
+  -- what is next of the added entries, if there is one, is next
+  pub next-step : (r : Option Entry) (ys : List Entry) → MatchOption r ((fs ≡ []) × (ys ≡ [])) (λ y. fs ≡ y ∷ ys) → Waits (drop n es) fs → MatchOption r ((merged (kept es flags) fs ≡ []) × (merged (kept (rest_of n es) (rest_of n flags)) ys ≡ [])) (λ y. merged (kept es flags) fs ≡ y ∷ merged (kept (rest_of n es) (rest_of n flags)) ys)
+  next-step None ys left waits =
+      let none = none-step (ap length left.0) waits in
+      let same : ys ≡ fs = left.1 ∙ sym left.0 in
+      (none.0, rw same none.1)
+  next-step (Some y) ys left waits = added-step y ys left waits
+
+  pub next-ordered : (r : Option Entry) (ys : List Entry) → MatchOption r ((fs ≡ []) × (ys ≡ [])) (λ y. fs ≡ y ∷ ys) → AreInOrder ys
+  next-ordered None ys left = rw left.1 AreInOrder-nil
+  next-ordered (Some y) ys left = added-later y ys left

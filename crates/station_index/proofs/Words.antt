@@ -11,7 +11,7 @@ pub use Rattle.station_index.specs.Places.{IsRangeAt, is_before_range, is_past_r
 pub use Rattle.station_index.specs.Ranged.{loaded_left}
 pub use Rattle.station_index.specs.Slots.{IsSlot, entry_of, event_in, is_at, slot_number, slot_of}
 pub use Rattle.station_index.specs.declared.loaded_event.LoadedEvent.{LoadedEvent}
-pub use Rattle.std.proofs.Common.{All, Bool, List, Ordering, [], ap, arith, cond, drop, false, get_or, inl, inr, leb, length, ltb, map, min, nat_eq, nat_le, not, refl, rules, subst, suc, sym, take, true, zero, ℕ, ◌%◌, ◌&&◌, ◌+◌, ◌-◌, ◌/◌, ◌<◌, ◌∙◌, ◌∷◌, ◌≡◌, ◌≢◌, ◌≤◌}
+pub use Rattle.std.proofs.Common.{All, Bool, List, Ordering, [], ap, arith, cond, drop, false, get_or, inl, inr, leb, length, ltb, map, max, min, nat_eq, nat_le, not, refl, rules, subst, suc, sym, take, true, zero, ℕ, ◌%◌, ◌&&◌, ◌+◌, ◌-◌, ◌/◌, ◌<◌, ◌∙◌, ◌∷◌, ◌≡◌, ◌≢◌, ◌≤◌}
 pub use Rattle.std.proofs.Math.ListN.{set}
 pub use Rattle.std.proofs.lemmas.Bool.{and_parts, cases_Bool, cases_lt, eq-eqb, eqb-true}
 pub use Rattle.std.proofs.lemmas.Bool.Decides.{nat_tests}

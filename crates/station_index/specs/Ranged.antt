@@ -12,10 +12,10 @@ loaded_left s = map (entry_of s.stop s.dep) s.loaded.now
 
 -- the live loaded entries and the added ones, in their order
 abbrev pub entries_left : Inside → List Entry
-entries_left s = merged (kept (loaded_left s) s.live.now) s.added.now
+entries_left s = merged (kept (loaded_left s) s.live.now) s.added
 
 -- both lists are in order, and each loaded entry has its flag
 pub record IsRange (s : Inside) : Type 0 where
   pub loaded : AreInOrder (loaded_left s)
   pub flags : length s.live.now ≡ length s.loaded.now
-  pub added : AreInOrder s.added.now
+  pub added : AreInOrder s.added

@@ -1,5 +1,5 @@
 -- How a stored index is seen, and what holds of it.
-use Rattle.std.specs.Prelude.{◌≡◌, List, ◌+◌, ◌<◌, ◌≤◌, ◌^◌, length, vec_capacity, true}
+use Rattle.std.specs.Prelude.{◌≡◌, List, ◌≤◌, length, true}
 use Rattle.std.specs.List.{All, slice_index_or}
 use Rattle.mt_base.specs.declared.index_entries.Entry.{Entry}
 use Rattle.station_index.specs.declared.index.StationIndex.TheInside.{Inside}
@@ -24,5 +24,4 @@ pub record IsStored (a : Inside) : Type 0 where
   pub ordered : AreInOrder (all_entries a)
   pub ever_added : All (λ e. slice_index_or a.ever_added.items (slot_of e) true ≡ true)
       a.added.items
-  pub room : length a.added.items + a.spare ≤ vec_capacity a.added
-  pub small : length a.added.items + a.spare < 2 ^ 32
+  pub room : a.spare ≤ a.added.room

@@ -8,6 +8,7 @@ ghost use Rattle.station_index.specs.Slots as slots;
 use crate::entries::part;
 use crate::loaded::last_slot;
 use crate::loaded_event::slot_number;
+use block_lists::{BlockList, Elements};
 use mt_base::index_entries::Entry;
 use mt_base::memory::OutOfMemory;
 use mt_base::numbers::StopNo;
@@ -35,22 +36,22 @@ pub(crate) fn note_added(ever_added: &mut Vec<bool>, entry: &Entry)
 /// The added entries at a stop, arrivals or departures as asked for, that are scheduled from `lo`
 /// to `hi`, both included. They are not looked at where none was ever added.
 pub(crate) fn added_part<'a>(
-    added: &'a [Entry],
+    added: &'a BlockList<Entry>,
     ever_added: &[bool],
     stop: StopNo,
     dep: bool,
     lo: u64,
     hi: u64,
-) -> &'a [Entry]
-    requires order { AreInOrder added.now }
+) -> Elements<'a, Entry>
+    requires order { AreInOrder added.now.items }
     requires ever_added { All (λ e. slice_index_or ever_added.now (slots.slot_of e) true ≡ true)
-        added.now }
-    ensures { result.now ≡ filter (is_in_range stop dep lo hi) added.now }
+        added.now.items }
+    ensures { result ≡ filter (is_in_range stop dep lo hi) added.now.items }
 {
     if is_ever_added(ever_added, stop, dep) {
         part(added, stop, dep, lo, hi)
     } else {
-        &added[..0]
+        added.range(0, 0)
     }
 }
 

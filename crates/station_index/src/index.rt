@@ -12,9 +12,10 @@ use crate::live::{all_live, clear};
 use crate::loaded::LoadedEntries;
 use crate::range::Range;
 use crate::sorting::sort_entries;
+use block_lists::BlockList;
 use mt_base::index_entries::Entry;
 use mt_base::keys::Node;
-use mt_base::memory::{OutOfMemory, copy_with_room};
+use mt_base::memory::OutOfMemory;
 use mt_base::numbers::{StopNo, Time};
 use std::alloc::Global;
 use std::marker::Model;
@@ -28,7 +29,7 @@ pub struct StationIndex {
     /// For each of these whether it is live.
     live: Vec<bool>,
     /// The entries that were put in later and are live, in order.
-    added: Vec<Entry>,
+    added: BlockList<Entry>,
     /// For each stop and kind of event whether an entry was ever added there.
     ever_added: Vec<bool>,
     /// For how many more entries there is room.
@@ -66,7 +67,7 @@ impl StationIndex {
             loaded: LoadedEntries::build(alloc, &sorted)?,
             ever_added: none_added(alloc, &sorted)?,
             live: all_live(alloc, sorted.len())?,
-            added: Vec::with_capacity(alloc, room as usize)?,
+            added: BlockList::with_room(alloc, room)?,
             spare: room,
         })
     }
@@ -78,7 +79,7 @@ impl StationIndex {
         Ok(StationIndex {
             loaded: self.loaded.copy(alloc)?,
             live: Vec::from_slice(alloc, &self.live)?,
-            added: copy_with_room(alloc, &self.added, self.spare)?,
+            added: self.added.copy(alloc)?,
             ever_added: Vec::from_slice(alloc, &self.ever_added)?,
             spare: self.spare,
         })

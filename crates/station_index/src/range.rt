@@ -5,6 +5,7 @@ ghost use Rattle.std.specs.Iterator.{YieldsFirst, item_count};
 ghost use Rattle.station_index.specs.Merged.{comes_first};
 
 use crate::loaded_event::{LoadedEvent, entry_of};
+use block_lists::Elements;
 use mt_base::index_entries::Entry;
 use mt_base::numbers::StopNo;
 use std::marker::Model;
@@ -23,7 +24,7 @@ pub struct Range<'a> {
     /// For each of these whether it is live.
     pub(crate) live: &'a [bool],
     /// The added entries that are still to come.
-    pub(crate) added: &'a [Entry],
+    pub(crate) added: Elements<'a, Entry>,
 }
 
 impl<'a> Model for Range<'a> {
@@ -52,15 +53,13 @@ impl<'a> Iterator for Range<'a> {
         self.live = &self.live[dead..];
         if let Some((event, later)) = self.loaded.split_first() {
             let entry = entry_of(self.stop, self.dep, event);
-            if comes_first(&entry, self.added) {
+            if comes_first(&entry, &self.added) {
                 self.loaded = later;
                 self.live = &self.live[1..];
                 return Some(entry);
             }
         }
-        let (entry, later) = self.added.split_first()?;
-        self.added = later;
-        Some(*entry)
+        self.added.next()
     }
 }
 
@@ -79,11 +78,11 @@ fn dead_at_front(live: &[bool]) -> usize
 }
 
 /// Whether an entry stands before the first of others, if there is one.
-fn comes_first(entry: &Entry, others: &[Entry]) -> bool
+fn comes_first(entry: &Entry, others: &Elements<'_, Entry>) -> bool
     ensures { result ≡ comes_first entry.now others.now }
 {
     match others.first() {
-        Some(other) => entry.is_before(other),
+        Some(other) => entry.is_before(&other),
         None => true,
     }
 }

@@ -4,7 +4,7 @@ use Rattle.connection_choices.proofs.override_rows.bounds.Goals as goal
 
 pub returns : goal.returns
 returns c =
-    let rows = c.args.rows.now in
+    let rows = c.args.rows.now.items in
     let v = c.args.event.now in
     let part = part-is c.args.end v rows _ _ c.requires
     (λ parted. IsPartitionPoint-from_clause (λ e. is_lt (node_cmp (event_at c.args.end e.0) v)) rows _ c.partition_point-first.ensures.partitioned parted (λ a r f h. search rules))

@@ -7,4 +7,4 @@ use Rattle.connection_choices.proofs.override_rows.search.Goals as goal
 pub returns : goal.returns
 returns c =
     let by_row = c.binary_search_by.ensures.position (λ row. end_cmp c.args.end row.0 c.args.connection.now) (always_returns_same _ _ _ (λ a r f called. search rules)) in
-    searched (ends_total c.args.end) c.args.rows.now c.args.connection.now c.binary_search_by.result c.requires c.binary_search_by.ensures.bound by_row
+    searched (ends_total c.args.end) c.args.rows.now.items c.args.connection.now c.binary_search_by.result c.requires c.binary_search_by.ensures.bound by_row

@@ -1,5 +1,6 @@
-use Rattle.station_index.proofs.Words.{◌≡◌, arith, ◌∙◌, All-permutation, IsPermutation-sym, length_permutation}
+use Rattle.station_index.proofs.Words.{◌≡◌, Entry, ap, arith, ◌∙◌, All-permutation, IsPermutation-sym, length_permutation}
 use Rattle.std.proofs.lemmas.List.{length-replicate}
+use Rattle.block_lists.specs.Blocks.{Blocks}
 use Rattle.station_index.proofs.KeptLemmas.{kept-all}
 use Rattle.station_index.proofs.OrderLemmas.{AreInOrder-nil}
 use Rattle.station_index.proofs.index.StationIndex.build.Goals as goal
@@ -18,20 +19,20 @@ invariant_of-result c =
     let up = c.in_ok-sort_entries.ensures.order in
     let same = c.in_ok-build.ensures ∙ c.deref.ensures.value in
     let count = c.len.ensures ∙ c.sort_entries.new.entries.ok.0 in
+    let none = ap (λ (b : Blocks Entry). b.items) c.in_ok-with_room.ensures in
     record {
       loaded = rw same up;
       flags = rw (same, c.in_ok-all_live.ensures, length-replicate) count;
-      added = rw c.in_ok-with_capacity.ensures.items AreInOrder-nil;
-      ever_added = rw c.in_ok-with_capacity.ensures.items (λ k d l. absurd (omega arith));
-      ordered = rw (c.in_ok-with_capacity.ensures.items, c.in_ok-all_live.ensures, same, kept-all es c.len.result count) up;
-      room = rw (c.in_ok-with_capacity.ensures.items, c.in_ok-with_capacity.ensures.exact) (omega arith);
-      small = rw c.in_ok-with_capacity.ensures.items (omega arith);
+      added = rw none AreInOrder-nil;
+      ever_added = rw none (λ k d l. absurd (omega arith));
+      ordered = rw (none, c.in_ok-all_live.ensures, same, kept-all es c.len.result count) up;
+      room = rw c.in_ok-with_room.ensures (omega arith);
     }
 
 pub returns-clause-entries : goal.returns-clause-entries
 returns-clause-entries c =
-    rw (c.in_ok-with_capacity.ensures.items, c.in_ok-all_live.ensures, c.in_ok-build.ensures ∙ c.deref.ensures.value, kept-all _ c.len.result (c.len.ensures ∙ c.sort_entries.new.entries.ok.0)) (IsPermutation-sym _ _ c.in_ok-sort_entries.ensures.permutation)
+    rw (ap (λ (b : Blocks Entry). b.items) c.in_ok-with_room.ensures, c.in_ok-all_live.ensures, c.in_ok-build.ensures ∙ c.deref.ensures.value, kept-all _ c.len.result (c.len.ensures ∙ c.sort_entries.new.entries.ok.0)) (IsPermutation-sym _ _ c.in_ok-sort_entries.ensures.permutation)
 
 pub returns-clause-order : goal.returns-clause-order
 returns-clause-order c =
-    rw (c.in_ok-with_capacity.ensures.items, c.in_ok-all_live.ensures, c.in_ok-build.ensures ∙ c.deref.ensures.value, kept-all _ c.len.result (c.len.ensures ∙ c.sort_entries.new.entries.ok.0)) c.in_ok-sort_entries.ensures.order
+    rw (ap (λ (b : Blocks Entry). b.items) c.in_ok-with_room.ensures, c.in_ok-all_live.ensures, c.in_ok-build.ensures ∙ c.deref.ensures.value, kept-all _ c.len.result (c.len.ensures ∙ c.sort_entries.new.entries.ok.0)) c.in_ok-sort_entries.ensures.order

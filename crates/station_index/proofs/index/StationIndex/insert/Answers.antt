@@ -1,5 +1,5 @@
-use Rattle.station_index.proofs.Words.{◌≢◌, ◌-◌, arith, ap, length_permutation, Indexed, entry_at, kept, merged}
-use Rattle.station_index.proofs.OrderLemmas.{with-ascends, with-moves, absent-differs}
+use Rattle.station_index.proofs.Words.{◌≢◌, ◌-◌, arith, ap, Indexed, entry_at, kept, merged}
+use Rattle.station_index.proofs.OrderLemmas.{with-ascends, absent-differs}
 use Rattle.station_index.proofs.MergeLemmas.{merged-with, merged-second}
 use Rattle.station_index.proofs.AddedLemmas.{with-added}
 use Rattle.station_index.proofs.index.StationIndex.insert.Goals as goal
@@ -13,15 +13,13 @@ invariant_of-self c =
     let spare = rw (← c.self.view_is) at c.requires.spare in
     let absent = rw (← c.self.view_is) at c.requires.absent in
     let apart = absent-differs e (merged es fs) absent in
-    let count = length_permutation _ _ (with-moves e fs) in
     record {
       loaded = c.self.invariant.loaded;
       flags = c.self.invariant.flags;
       added = rw (c.put.ensures.items, c.entry-entry.ensures) (with-ascends e fs c.self.invariant.added (merged-second (λ x. x ≢ e) es fs apart));
       ever_added = rw (c.note_added.ensures, c.put.ensures.items, c.entry-entry.ensures) (with-added a.ever_added.items e fs c.self.invariant.ever_added);
       ordered = rw (c.put.ensures.items, c.entry-entry.ensures, merged-with e es fs) (with-ascends e (merged es fs) c.self.invariant.ordered apart);
-      room = rw (c.put.ensures.items, c.entry-entry.ensures) (omega (arith, count, spare, c.self.invariant.room, c.put.ensures.capacity));
-      small = rw (c.put.ensures.items, c.entry-entry.ensures) (omega (arith, count, spare, c.self.invariant.small));
+      room = omega (arith, spare, c.self.invariant.room, c.put.ensures.room);
     }
 
 pub returns : goal.returns

@@ -15,7 +15,7 @@ invariant_of-result c =
     record {
       loaded = rw c.part-first.ensures.events (AreInOrder-take n (drop first a.loaded) (AreInOrder-drop first a.loaded c.self.invariant.loaded));
       flags = rw (c.deref.ensures.value, count) (length-take-le n (drop first a.live.items) room);
-      added = rw (c.added_part.ensures, c.deref-2.ensures.value) (filter-ascends p a.added.items c.self.invariant.added);
+      added = rw c.added_part.ensures (filter-ascends p a.added.items c.self.invariant.added);
     }
 
 pub returns : goal.returns
@@ -26,5 +26,5 @@ returns c =
     let n = length c.part-first.result.1.now in
     let count : first + n - first ≡ n = omega arith in
     let parted = rw count at (range-kept p a.loaded first (first + n) c.part-first.ensures.range a.live.items) in
-    rw (← c.self.view_is, c.part-first.ensures.events, c.deref.ensures.value, count, c.added_part.ensures, c.deref-2.ensures.value)
+    rw (← c.self.view_is, c.part-first.ensures.events, c.deref.ensures.value, count, c.added_part.ensures)
     (ap (λ xs. merged xs (filter p a.added.items)) parted ∙ sym (filter-merged p (kept a.loaded a.live.items) a.added.items c.self.invariant.ordered))

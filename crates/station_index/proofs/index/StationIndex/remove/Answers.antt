@@ -1,5 +1,5 @@
 use Rattle.station_index.proofs.Words.{arith, not, ap, sym, ◌∙◌, ◌≡◌, Entry, Indexed, entry_at, is_same_entry, without_entry, kept, merged, All-filter}
-use Rattle.station_index.proofs.OrderLemmas.{filter-ascends, filter-fewer}
+use Rattle.station_index.proofs.OrderLemmas.{filter-ascends}
 use Rattle.station_index.proofs.MergeLemmas.{filter-merged}
 use Rattle.station_index.proofs.AddedLemmas.{IsEverAdded}
 use Rattle.station_index.proofs.index.StationIndex.remove.Goals as goal
@@ -17,15 +17,13 @@ invariant_of-self c =
     let a = c.self.inside in
     let e = entry_at c.args.stop c.args.time c.args.n in
     let p = λ (x : Entry). not (is_same_entry x e) in
-    let fewer = filter-fewer p a.added.items in
     record {
       loaded = c.self.invariant.loaded;
       flags = c.clear.ensures.flags ∙ c.self.invariant.flags;
       added = rw (c.take_out.ensures.items, c.entry-entry.ensures) (filter-ascends p a.added.items c.self.invariant.added);
       ever_added = rw (c.take_out.ensures.items, c.entry-entry.ensures) (All-filter p (IsEverAdded a.ever_added.items) a.added.items c.self.invariant.ever_added);
       ordered = rw (left c) (filter-ascends p _ c.self.invariant.ordered);
-      room = rw (c.take_out.ensures.items, c.entry-entry.ensures) (omega (arith, fewer, c.self.invariant.room, c.take_out.ensures.capacity));
-      small = rw (c.take_out.ensures.items, c.entry-entry.ensures) (omega (arith, fewer, c.self.invariant.small));
+      room = omega (arith, c.self.invariant.room, c.take_out.ensures.room);
     }
 
 pub returns : goal.returns
