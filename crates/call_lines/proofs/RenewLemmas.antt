@@ -2,7 +2,8 @@
 use Rattle.call_lines.proofs.Words.{slice_get-set_same, slice_get-set_other, ◌≡◌, ◌≢◌, ℕ, zero, suc, ◌+◌, ◌-◌, ◌<◌, ◌≤◌, List, ◌∷◌, length, get_or, map, refl}
 use Rattle.call_lines.proofs.Words.{◌∙◌, arith, Option, Some, slice_get, set, slice_get-get_or, slice_get_within, length-set, cases_eq}
 use Rattle.call_lines.proofs.Words.{inl, inr, option_or, StoredCall, walk, call_of, call_report, report_of, next_report_of, All, slice_get_cases, slice_get_past}
-use Rattle.call_lines.proofs.Words.{IsLineCall, IsPlaced, HasNextReports, IsRenewedCall, IsLine, HasDistinctLabels}
+use Rattle.call_lines.proofs.Words.{IsLineCall, IsPlaced, HasNextReports, IsRenewed, IsRenewedCall, IsLine, HasDistinctLabels, AreKnown, Call, [], same-gets, sym, subst, slice_get-map}
+use Rattle.std.proofs.lemmas.Option.{get_or_from_slice_get}
 use Rattle.call_lines.proofs.TrainLines.{line-at}
 
 abbrev Alike : ℕ → List StoredCall → List StoredCall → Type 0
@@ -67,3 +68,63 @@ module _ {train first last len : ℕ} {old : List StoredCall} (h : IsLine train 
     goes-on =
         let alike : Alike train old (set new slot y) = λ i z e. grind (arith, e, cases_eq i slot, w.slot_is, step, was, same_y, slice_get-set_same new slot y inside, slice_get-set_other new slot i y, w.alike i z e) in
         grind (arith, w, rest, alike, λ (j : ℕ). w.places (j - 1), placed, step, noted, told, leads, same_y, length-set new slot y, was.before_is)
+
+-- to set what stands in a slot changes nothing
+set-itself : {X : Type 0} (xs : List X) (i : ℕ) (x : X) → slice_get xs i ≡ Some x → set xs i x ≡ xs
+set-itself xs i x h =
+    same-gets (set xs i x) xs (λ k. grind (arith, h, cases_eq k i, slice_get-set_same xs i x (slice_get_within xs i x h), slice_get-set_other xs i k x))
+
+-- calls at two places have different labels
+labels-differ : (cs : List Call) (j k : ℕ) (c d : Call) → HasDistinctLabels cs → j < k → slice_get cs j ≡ Some c → slice_get cs k ≡ Some d → c.label ≢ d.label
+labels-differ [] j k c d h l e f = absurd (cc)
+labels-differ (b ∷ bs) zero (suc k) c d h l e f = grind (arith, e, f, h.0 k d (slice_get_within bs k d f), slice_get-get_or bs k d (slice_get_within bs k d f))
+labels-differ (b ∷ bs) (suc j) (suc k) c d h l e f = labels-differ bs j k c d h.1 (omega arith) e f
+labels-differ (b ∷ bs) j zero c d h l e f = absurd (omega arith)
+
+-- the calls at the places that are still to come are as they were
+abbrev pub StaysBelow : ℕ → (ℕ → ℕ) → List StoredCall → List StoredCall → Type 0
+StaysBelow todo at old new = (j : ℕ) → j < todo → slice_get new (at j) ≡ slice_get old (at j)
+
+module _ {train first last len : ℕ} {old : List StoredCall} (h : IsLine train first last len old) where
+  walk-at : (j : ℕ) → j < len → slice_get (walk old len first) j ≡ slice_get old (h.at j)
+  walk-at j l = rw h.begins at (line-at old train len h.at h.calls j l)
+
+  -- at two places stand two calls
+  slots-differ : (j k : ℕ) → j < k → k < len → h.at j ≢ h.at k
+  slots-differ j k l m e =
+      let c = h.calls j (omega arith) in
+      let d = h.calls k m in
+      let calls = walk old len first in
+      let stands : (i : ℕ) (x : StoredCall) → i < len → slice_get old (h.at i) ≡ Some x → slice_get (map call_of calls) i ≡ Some (call_of x) = λ i x n g. grind (arith, slice_get-map call_of calls i, walk-at i n, g) in
+      labels-differ (map call_of calls) j k (call_of c.call) (call_of d.call) h.apart l (stands j c.call (omega arith) c.stored) (stands k d.call m d.stored) (grind (arith, e, c.stored, d.stored))
+
+  pub stays-below : (q slot : ℕ) (y : StoredCall) (new : List StoredCall) → q < len → slot ≡ h.at q → StaysBelow (suc q) h.at old new → StaysBelow q h.at old (set new slot y)
+  stays-below q slot y new l e k j m = slice_get-set_other new slot (h.at j) y (λ same. slots-differ j q m l (same ∙ e)) ∙ k j (omega arith)
+
+  slot-at : {q slot : ℕ} {new : List StoredCall} {next : Option ℕ} → IsPartlyRenewed train len (suc q) h.at old new slot next → slot ≡ h.at q
+  slot-at {q} w = let back : suc q - 1 ≡ q = omega arith in rw back at (w.slot_is (omega arith))
+
+  -- once all were gone through they are renewed
+  pub all-renewed : (new : List StoredCall) (slot : ℕ) (next : Option ℕ) → IsPartlyRenewed train len 0 h.at old new slot next → IsRenewed train first len old new
+  all-renewed new slot next w = grind (arith, h.begins, w)
+
+  module _ {known : ℕ} (knows : AreKnown known (walk old len first)) where
+    -- a call that knows its place and the first report after it is gone through as it is
+    known-one : (q slot : ℕ) (new : List StoredCall) (next : Option ℕ) (x : StoredCall) → IsPartlyRenewed train len (suc q) h.at old new slot next → StaysBelow (suc q) h.at old new → q < known → slice_get new slot ≡ Some x → next_report_of x ≡ next → IsPartlyRenewed train len q h.at old new x.before (option_or (call_report (call_of x)) next)
+    known-one q slot new next x w stays l there noted =
+        let is = slot-at w in
+        let place : x.place ≡ q = knows.places q x l (walk-at q (omega (arith, w.within)) ∙ sym (stays q (omega arith)) ∙ (rw is at there)) in
+        let placed : IsPlaced q x x = grind (arith, place) in
+        rw (set-itself new slot x there) at (goes-on h w q refl {x = x} {y = x} {report = option_or (call_report (call_of x)) next} {before = x.before} (sym (get_or_from_slice_get new slot x x there)) placed noted refl refl)
+
+    -- and so are those before it
+    pub known-rest : (q slot : ℕ) (new : List StoredCall) (next : Option ℕ) (x : StoredCall) → IsPartlyRenewed train len (suc q) h.at old new slot next → StaysBelow (suc q) h.at old new → q < known → slice_get new slot ≡ Some x → next_report_of x ≡ next → IsRenewed train first len old new
+    known-rest zero slot new next x w stays l there noted = all-renewed new _ _ (known-one zero slot new next x w stays l there noted)
+    known-rest (suc q) slot new next x w stays l there noted =
+        let more = known-one (suc q) slot new next x w stays l there noted in
+        let c = h.calls q (omega (arith, w.within)) in
+        let before = walk-at q (omega (arith, w.within)) ∙ c.stored in
+        let here = walk-at (suc q) (omega (arith, w.within)) ∙ sym (stays (suc q) (omega arith)) ∙ (rw (slot-at w) at there) in
+        let more-is : suc q ≡ q + 1 = omega arith in
+        let report : next_report_of c.call ≡ option_or (call_report (call_of x)) next = grind (arith, knows.reports q c.call x (omega (arith, l)) before (subst (λ (i : ℕ). slice_get (walk old len first) i ≡ Some x) more-is here), noted) in
+        known-rest q x.before new (option_or (call_report (call_of x)) next) c.call more (λ j m. stays j (omega arith)) (omega (arith, l)) (rw (slot-at more) (stays q (omega arith) ∙ c.stored)) report

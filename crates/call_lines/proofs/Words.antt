@@ -2,7 +2,7 @@
 pub use Rattle.call_lines.specs.Calls.{call_named, has_call, label_after, label_before, last_label, values_of}
 pub use Rattle.call_lines.specs.Edits.{edited}
 pub use Rattle.call_lines.specs.Lines.{AreAppended, AreReplaced, AreTakenOut, IsKilled, IsKilledCall, IsLine, IsLineAt, IsLineCall, IsPart, IsPlacedAt}
-pub use Rattle.call_lines.specs.Linked.{AreLaid, HasNextReports, IsEdited, IsPlaced, IsRenewed, IsRenewedCall}
+pub use Rattle.call_lines.specs.Linked.{AreKnown, AreLaid, HasNextReports, IsEdited, IsPlaced, IsRenewed, IsRenewedCall}
 pub use Rattle.call_lines.specs.Linked.{call_of, call_report, next_report_of, report_of, walk}
 pub use Rattle.call_lines.specs.Loaded.{by_table, loaded_from, loaded_train, table_call, table_calls}
 pub use Rattle.call_lines.specs.Places.{AreInOrder, IsFirst}

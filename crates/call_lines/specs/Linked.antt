@@ -83,6 +83,15 @@ abbrev pub HasNextReports : List StoredCall → Type 0
 HasNextReports [] = Unit {0}
 HasNextReports (x ∷ xs) = (next_report_of x ≡ report_of (map call_of xs)) × HasNextReports xs
 
+-- each of these calls at a place below `known` knows that place; and where the next one is below it
+-- too, the first report after the call is what that one and the report after it tell
+pub record AreKnown (known : ℕ) (cs : List StoredCall) : Type 0 where
+  pub places : (place : ℕ) (x : StoredCall) → place < known → slice_get cs place ≡ Some x
+      → x.place ≡ place
+  pub reports : (place : ℕ) (x y : StoredCall) → place + 1 < known → slice_get cs place ≡ Some x
+      → slice_get cs (place + 1) ≡ Some y
+      → next_report_of x ≡ option_or (call_report (call_of y)) (next_report_of y)
+
 -- the call differs in its place and next report at most, and not at all where it is another train's
 pub record IsRenewedCall (train : ℕ) (old new : List StoredCall) (i : ℕ)
     (x : StoredCall) : Type 0 where

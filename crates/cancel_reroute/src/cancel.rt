@@ -36,7 +36,7 @@ fn check_stretch(g: &Graph, departure: &Node, arrival: &Node) -> Result<(), Refu
         (Cuts.from (is_event departure.now) (train_events g.now.state departure.now.train)))) }
 {
     let mut departed = false;
-    for event in g.trains().events(departure.train) {
+    for event in g.trains().events_from(departure.train, departure.label) {
         let node = event.key.node();
         departed = departed || node.is_same(departure);
         if departed {

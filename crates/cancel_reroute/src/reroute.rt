@@ -97,11 +97,12 @@ fn check_behind(g: &Graph, n: &Node) -> Result<(), Refusal>
     ensures { Gives result
         (any_reported (after (is_event n.now) (train_events g.now.state n.now.train))) }
 {
-    if g.trains().next_report(*n).is_none() {
+    let trains = g.trains();
+    if trains.next_report(*n).is_none() {
         return Ok(());
     }
     let mut passed = false;
-    for event in g.trains().events(n.train) {
+    for event in trains.events_from(n.train, n.label) {
         if passed {
             check_unreported(&event)?;
         }
@@ -199,7 +200,7 @@ fn check_back(g: &Graph, check: &mut RankCheck, arrival: &Node) -> Result<(), Re
         (Cuts.from (is_event arrival.now) (train_events g.now.state arrival.now.train))) }
 {
     let mut arrived = false;
-    for event in g.trains().events(arrival.train) {
+    for event in g.trains().events_from(arrival.train, arrival.label) {
         arrived = arrived || event.key.node().is_same(arrival);
         if arrived {
             check.next(g, &event)?;

@@ -22,6 +22,7 @@ pub mod Marked
 pub mod Since
 pub mod Turns
 pub mod Feeds
+pub mod MadeLabels
 pub mod Renewed
 pub mod Lines
 pub mod HeldLemmas

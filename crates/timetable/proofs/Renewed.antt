@@ -377,6 +377,10 @@ routed-by nw st new n from to cs step =
       trains = (stays-valid nw st (Reroute n from to cs) step.valid step.well_formed step.accepted).trains;
     })
 
+-- after an accepted message the trains are well-formed
+pub stepped-trains : (nw : Network) (st new : State) (m : Message) → IsStateAfter nw st new m → All IsTrain new.trains
+stepped-trains nw st new m step = subst (λ (s : State). All IsTrain s.trains) (sym step.made) (stays-valid nw st m step.valid step.well_formed step.accepted).trains
+
 -- so after the marks of dead events were taken off
 pub stepped-fit : (g : GraphState) (s : Shape) (old : Marked) → IsMarkedAndApplied g (message_of_shape s) old → (kept : Marked) → AreKept g.state old kept → AreMarksOf (events g.state) kept
 stepped-fit g s old stepped kept are = step-fit g.network stepped.old g.state s stepped.step old stepped.before kept are

@@ -2,7 +2,7 @@
 use Rattle.timetable.proofs.Words.{◌≡◌, ◌+◌, ◌≤◌, ℕ, Bool, true, false, cond, List, [], ◌∷◌, ◌++◌, length, refl, sym, ◌∙◌, ap, arith, inl, inr, cases_Bool}
 use Rattle.timetable.proofs.Words.{Node, Event, live_events, is_event, list_any, Vec, Global, vec_len, vec_capacity, names_of, live_keys, length-map, All, All-nil, All-cons, Contains, State, events, train_events, train_events-there, suc}
 use Rattle.timetable.proofs.Prepared.{fewer-own}
-use Rattle.delay_model.specs.Cuts.{before}
+use Rattle.delay_model.specs.Cuts.{before, from}
 use Rattle.delay_model.specs.Touched.{is_reported, since_report}
 
 -- part of a listing: with those to come all are listed, and there is room for those that are left
@@ -60,6 +60,15 @@ module _ {room : ℕ} {n : Node} {all left : List Event} {list : Vec Node Global
 
 pub naming-begin : (all come left : List Event) (list : Vec Node Global) → come ≡ all → list.items ≡ [] → length (live_events left) ≤ vec_capacity list → IsNaming (vec_capacity list) all come left list
 naming-begin all come left list is none room = record { whole = rw (is, none) refl; fits = omega (arith, ap length none, list.ok.0, room); capacity = refl }
+
+-- no more events are live from one on than of all
+pub fewer-from : (p : Event → Bool) (vs : List Event) → length (live_events (from p vs)) ≤ length (live_events vs)
+fewer-from p [] = omega arith
+fewer-from p (v ∷ vs) =
+    elim (cases_Bool (p v)) [
+      | inl hit ↦ rw hit (omega arith)
+      | inr miss ↦ rw miss (omega (arith, live-first v vs, fewer-from p vs))
+    ]
 
 -- there is room for the live events of a train where there is for all
 pub own-fit : (st : State) (n room : ℕ) → length (live_keys (events st)) ≤ room → length (live_events (train_events st n)) ≤ room

@@ -12,7 +12,7 @@ use Rattle.delay_model.specs.declared.state.Event.{Event}
 use Rattle.delay_model.specs.declared.state.State.{State}
 use Rattle.delay_model.specs.Edges.{edges}
 use Rattle.delay_model.specs.Effect.{effect, events_between, stretch}
-use Rattle.delay_model.specs.Events.{events}
+use Rattle.delay_model.specs.Events.{events, is_live}
 use Rattle.delay_model.specs.Messages.{IsWellFormed}
 use Rattle.delay_model.specs.Refusals.{refusal}
 use Rattle.delay_model.specs.Touched.{is_fed_by, live_only, named}
@@ -62,6 +62,12 @@ is_fed_from_new g k n = leads_to (filter (may_change no_time no_time) (edges_fro
 abbrev pub is_marked_by : GraphState → ℕ → Key → Event → Bool
 is_marked_by g first k v = (v.live && nat_le first v.key.label)
     && (is_same v.key k || is_fed_from_new g k (node_of v.key))
+
+-- the event of this name is live, and this key is its own or that of an event whose time it may
+-- change
+abbrev pub is_marked_from : GraphState → Key → Node → Bool
+is_marked_from g k n =
+    is_live g.state n && (is_same_node (node_of k) n || is_fed_from_new g k n)
 
 -- the events that a message names, where they are known before it is applied
 abbrev pub named_before : State → Message → List Node

@@ -42,7 +42,7 @@ fn list_stretch(list: &mut Vec<Node>, trains: &Trains, t: TrainNo, from: Label, 
     let departure = Node::departure(t, from);
     let arrival = Node::arrival(t, to);
     let mut departed = false;
-    for event in trains.events(t) {
+    for event in trains.events_from(t, from) {
         let node = event.key.node();
         departed = departed || node.is_same(&departure);
         if departed {
@@ -64,7 +64,7 @@ fn list_between(list: &mut Vec<Node>, trains: &Trains, t: TrainNo, from: Label, 
     let departure = Node::departure(t, from);
     let arrival = Node::arrival(t, to);
     let mut departed = false;
-    for event in trains.events(t) {
+    for event in trains.events_from(t, from) {
         let node = event.key.node();
         if departed {
             if node.is_same(&arrival) {

@@ -2,7 +2,7 @@
 //! and those that are fed by an event that it takes away, and after it the events that it makes and
 //! those whose times these may change.
 
-ghost use Rattle.std.specs.Prelude.{◌≡◌, ◌≤◌, List, ◌||◌, ◌&&◌, nat_le, [], None, All, Contains, IsTrue, filter, length, vec_capacity};
+ghost use Rattle.std.specs.Prelude.{◌≡◌, ◌<◌, ◌≤◌, List, ◌||◌, [], None, All, Contains, IsTrue, filter, length, vec_capacity};
 ghost use Rattle.std.specs.List.{list_any};
 ghost use Rattle.mt_base.specs.declared.keys.Key.{Key as AKey};
 ghost use Rattle.mt_base.specs.Order.{is_same, is_same_node, node_of};
@@ -16,13 +16,12 @@ ghost use Rattle.delay_model.specs.Valid.{IsTrain, IsValid};
 ghost use Rattle.train_nodes.specs.Kinds.{changed_event, message_of_shape, message_of_value};
 ghost use Rattle.rank_order.specs.Marked.{is_marked};
 ghost use Rattle.timetable.specs.LiveTimes.{live_keys};
-ghost use Rattle.timetable.specs.Marking.{AreMarksOf, AreUnsettled, CanBeMarked, IsMarkedBefore, IsStateAfter, IsMarkedAndApplied, is_fed_from_new, is_fed_from, is_marked_by};
+ghost use Rattle.timetable.specs.Marking.{AreMarksOf, AreUnsettled, CanBeMarked, IsMarkedBefore, IsStateAfter, IsMarkedAndApplied, is_fed_from_new, is_fed_from, is_marked_by, is_marked_from};
 
 use crate::leaving::{list_since_report, list_taken};
-use delay_model::state::Event;
 use edge_rules::Graph;
 use mt_base::keys::{Key, Node};
-use mt_base::numbers::{Time, TrainNo};
+use mt_base::numbers::{Label, Time, TrainNo};
 use propagate::mark_successors;
 use rank_order::Marks;
 use train_nodes::kinds::{Kind, Shape, Value};
@@ -113,16 +112,25 @@ fn mark_one_made(graph: &Graph, k: &Key, marks: &mut Marks)
     mark_successors(graph, &k.node(), no_time, no_time, marks);
 }
 
-/// Whether an event is live, and its label is one of those from `first` on.
-fn is_made(event: &Event, first: u32) -> bool
-    ensures { result ≡ (event.now.live && nat_le first event.now.key.label) }
+/// Marks an event of a new call, if it is live, and each event whose time it may change.
+fn mark_made_event(graph: &Graph, n: &Node, marks: &mut Marks)
+    requires trains { All IsTrain graph.now.state.trains }
+    requires fit { AreMarksOf (events graph.now.state) marks.old }
+    ensures fit { AreMarksOf (events graph.now.state) marks.new }
+    ensures marked { (q : AKey) → Contains (live_keys (events graph.now.state)) q
+        → is_marked marks.new q ≡ (is_marked marks.old q || is_marked_from graph.now q n.now) }
+    ensures room { marks.new.room ≡ marks.old.room }
 {
-    event.live && first <= event.key.label.get()
+    if graph.trains().live(*n) {
+        mark_one_made(graph, &graph.live_event(n).key, marks);
+    }
 }
 
 /// Marks the live events of a train whose labels are new, those from `first` on, and each event
 /// whose time these may change.
 fn mark_made(graph: &Graph, t: TrainNo, first: u32, marks: &mut Marks)
+    requires trains { All IsTrain graph.now.state.trains }
+    requires there { t < length graph.now.state.trains }
     requires fit { AreMarksOf (events graph.now.state) marks.old }
     ensures fit { AreMarksOf (events graph.now.state) marks.new }
     ensures marked { (q : AKey) → Contains (live_keys (events graph.now.state)) q
@@ -130,10 +138,10 @@ fn mark_made(graph: &Graph, t: TrainNo, first: u32, marks: &mut Marks)
         || list_any (is_marked_by graph.now first q) (train_events graph.now.state t)) }
     ensures room { marks.new.room ≡ marks.old.room }
 {
-    for event in graph.trains().events(t) {
-        if is_made(&event, first) {
-            mark_one_made(graph, &event.key, marks);
-        }
+    for number in first..graph.trains().next_label(t).get() {
+        let label = Label::new(number);
+        mark_made_event(graph, &Node::arrival(t, label), marks);
+        mark_made_event(graph, &Node::departure(t, label), marks);
     }
 }
 

@@ -7,13 +7,15 @@ use Rattle.train_nodes.proofs.Words.{slice_get-set_other, slots-from, AreReplace
 use Rattle.train_nodes.proofs.Words.{Numbering, slots_from, with_more, names_removed, first_slot, line_of, train_by, seen, AreLabelled, IsStored}
 use Rattle.train_nodes.proofs.Words.{IsTrainStored, Overrides, TrainRecord, Part, StoredCall, Inside, effect, get-old, IsSplice, spliced, spliced-begins}
 use Rattle.train_nodes.proofs.Words.{spliced-calls, spliced-ends, spliced-last, spliced-line, line-length, slice_get_within, line-of, renewed-line, some-of}
+use Rattle.train_nodes.proofs.Words.{HasNextReports, call_report, line-at, next_report_of, option_or, ◌∙◌}
 use Rattle.train_nodes.proofs.Words.{nat_tests, begins, ends, length-map, nat_eq-same, nat_eq-apart, one-of}
 use Rattle.std.proofs.Common.{add-one}
 use Rattle.std.proofs.lemmas.Grind.{elements}
 use Rattle.event_numbers.proofs.ListLemmas.{change-get}
 use Rattle.train_nodes.proofs.ChangeLemmas.{IsTrainChange, change-anew, change-stored}
 use Rattle.train_nodes.proofs.FoundParts.{IsFoundPart, among-test, found-part, part-found, removed-left}
-use Rattle.train_nodes.proofs.StoredLemmas.{row-last, row-of, row-calls, one-changed}
+use Rattle.train_nodes.proofs.StoredLemmas.{line-by, row-last, row-of, row-calls, one-changed}
+use Rattle.call_lines.specs.Linked.{AreKnown}
 
 -- labels differ where new calls, with labels that are all greater, stand in place of some in between
 joined-distinct : (first last next : ℕ) (via : List NewCall) (cs : List Call) → first ≤ last → last < length cs → HasDistinctLabels cs → All (λ c. c.label < next) cs → HasDistinctLabels (take first cs ++ (new_calls next via ++ drop last cs))
@@ -26,6 +28,15 @@ joined-distinct (suc first) (suc last) next via (c ∷ cs) l m h below =
     let own : c.label < next = below 0 c (omega arith) in
     (grind (arith, elements, own, numbered-new next via, h.0), joined-distinct first last next via cs (omega arith) (omega arith) h.1 (λ k d l. below (suc k) d (omega arith)))
 joined-distinct first last next via cs l m h below = absurd (omega arith)
+
+-- the first report after a call by what the next one tells
+next-told : (xs : List StoredCall) (k j : ℕ) (x y : StoredCall) → j ≡ suc k → HasNextReports xs → slice_get xs k ≡ Some x → slice_get xs j ≡ Some y → next_report_of x ≡ option_or (call_report (call_of y)) (next_report_of y)
+next-told [] k j x y is h e f = absurd (cc)
+next-told (u ∷ xs) k zero x y is h e f = absurd (omega arith)
+next-told (u ∷ []) k (suc j) x y is h e f = absurd (cc)
+next-told (u ∷ v ∷ xs) zero (suc zero) x y is h e f = grind (arith, h.0, h.1.0, e, f)
+next-told (u ∷ v ∷ xs) zero (suc (suc j)) x y is h e f = absurd (omega arith)
+next-told (u ∷ v ∷ xs) (suc k) (suc j) x y is h e f = next-told (v ∷ xs) k j x y (omega arith) h.1 e f
 
 -- a rerouting of a train: the calls strictly within a part were replaced by new ones, the row tells how many the train makes now, and
 -- each of them knows its place and the first report after it
@@ -67,6 +78,25 @@ module _ {a : Inside} {t from to : ℕ} {p : Part} {r : TrainRecord} {n : Number
       let whole = line-of mid t size at (spliced-line splice).calls mid-labelled.distinct in
       let is : at (size - 1) ≡ last = grind (arith, spliced-ends splice, (calls-grown t (length via) a.slots n w.of.number).only t (n.loaded - 1) last (rw (← same) at slot), row-last a t r n w.of line, loaded) in
       rw (← is) whole
+
+  -- the calls up to the one with which the part begins are as they were
+  before-part : (k : ℕ) (x : StoredCall) → k ≤ p.first → slice_get (walk mid size (at 0)) k ≡ Some x → (z : StoredCall) × (slice_get (line_of a.calls.items r.len n) k ≡ Some z) × (z.place ≡ k) × (x ≡ record z { current = x.current; before = x.before; after = x.after })
+  before-part k x l h =
+      let inside : k < r.len = omega (arith, w.part.order, w.within) in
+      let c = line.placed.line.calls k inside in
+      let was = (line-by a.calls.items t r.len n line.at line.placed.line.calls line.begins).1 k inside in
+      let is = line-at mid t size at (spliced-line splice).calls k (omega (arith, w.part.order, w.within)) in
+      (c.call, was ∙ c.stored, line.placed.places k c.call inside c.stored, grind (arith, nat_tests, l, h, is, replaced.calls (line.at k) c.call c.stored))
+
+  -- so they know their places, and the first reports after them as far as the next one does
+  reroute-known : AreKnown (p.first + 1) (walk mid size (at 0))
+  reroute-known = record {
+    places = λ k x l h. grind (arith, before-part k x (omega (arith, l)) h);
+    reports = λ k x y l h g.
+        let u = before-part k x (omega (arith, l)) h in
+        let v = before-part (k + 1) y (omega (arith, l)) g in
+        grind (arith, u, v, next-told (line_of a.calls.items r.len n) k (k + 1) u.0 v.0 (omega arith) line.reports u.1 v.1);
+  }
 
   -- what became of a call that was there
   old-call : (ys : List StoredCall) → IsRenewed t (at 0) size mid ys → (i : ℕ) (x : StoredCall) → slice_get a.calls.items i ≡ Some x → (y : StoredCall) × (slice_get ys i ≡ Some y) × (y.train ≡ x.train) × (y.label ≡ x.label) × (x.train ≢ t → y ≡ x)
@@ -112,7 +142,7 @@ module _ {a : Inside} {t from to : ℕ} {p : Part} {r : TrainRecord} {n : Number
         (change-stored reroute-change, rw (trains, spare, removed-left w None (events_between (seen a) t from to) o same (λ v. (among-test w v).1) choices) refl)
 
 -- after all steps, trains are stored, and seen as the model's
-pub rerouted-as : {a : Inside} {cs ds : List StoredCall} {t from to label k l : ℕ} {p : Part} (x y : TrainRecord) (via : List NewCall) (mid : List StoredCall) (records : Vec TrainRecord Global) (ys : Vec StoredCall Global) (nb : Numbering) (st : State) (o : Overrides) → IsStored a → seen a ≡ st → cs ≡ a.calls.items → IsPartOf cs a.slots t from to p → length via ≤ st.spare_calls → ds ≡ a.calls.items → o.choices ≡ retain_keys a.overrides.choices (λ q. not (names_removed p.train (is_between ds a.slots p.train p.first p.last) None q)) → o.spare ≡ a.overrides.spare + (len a.overrides.choices - len o.choices) → ((u : ℕ) (n : NumberedTrain) → slice_get a.slots.trains u ≡ Some n → (1 ≤ n.loaded) × (n.loaded ≤ length n.slots)) → option_map (λ (n : NumberedTrain). length n.slots) (slice_get a.slots.trains t) ≡ Some label → nb ≡ with_more t (length via) a.slots → AreReplaced p.train p.from p.to p.first p.last label via a.calls.items mid → k ≡ t → x ≡ get_or a.records.items k x → l ≡ t → y ≡ get_or a.records.items l y → (let told : TrainRecord = record y { len = x.len - (p.last - p.first - 1) + length via } in records.items ≡ set a.records.items l told) → vec_capacity records ≡ vec_capacity a.records → vec_capacity ys ≡ vec_capacity a.calls → ((first : ℕ) → IsTrainLine nb t first (x.len - (p.last - p.first - 1) + length via) mid → IsRenewed t first (x.len - (p.last - p.first - 1) + length via) mid ys.items) → IsStored (record a { records = records; calls = ys; slots = nb; overrides = o }) × (seen (record a { records = records; calls = ys; slots = nb; overrides = o }) ≡ effect st (Reroute t from to via))
+pub rerouted-as : {a : Inside} {cs ds : List StoredCall} {t from to label k l : ℕ} {p : Part} (x y : TrainRecord) (via : List NewCall) (mid : List StoredCall) (records : Vec TrainRecord Global) (ys : Vec StoredCall Global) (nb : Numbering) (st : State) (o : Overrides) → IsStored a → seen a ≡ st → cs ≡ a.calls.items → IsPartOf cs a.slots t from to p → length via ≤ st.spare_calls → ds ≡ a.calls.items → o.choices ≡ retain_keys a.overrides.choices (λ q. not (names_removed p.train (is_between ds a.slots p.train p.first p.last) None q)) → o.spare ≡ a.overrides.spare + (len a.overrides.choices - len o.choices) → ((u : ℕ) (n : NumberedTrain) → slice_get a.slots.trains u ≡ Some n → (1 ≤ n.loaded) × (n.loaded ≤ length n.slots)) → option_map (λ (n : NumberedTrain). length n.slots) (slice_get a.slots.trains t) ≡ Some label → nb ≡ with_more t (length via) a.slots → AreReplaced p.train p.from p.to p.first p.last label via a.calls.items mid → k ≡ t → x ≡ get_or a.records.items k x → l ≡ t → y ≡ get_or a.records.items l y → (let told : TrainRecord = record y { len = x.len - (p.last - p.first - 1) + length via } in records.items ≡ set a.records.items l told) → vec_capacity records ≡ vec_capacity a.records → vec_capacity ys ≡ vec_capacity a.calls → ((first : ℕ) → IsTrainLine nb t first (x.len - (p.last - p.first - 1) + length via) mid → AreKnown (p.first + 1) (walk mid (x.len - (p.last - p.first - 1) + length via) first) → IsRenewed t first (x.len - (p.last - p.first - 1) + length via) mid ys.items) → IsStored (record a { records = records; calls = ys; slots = nb; overrides = o }) × (seen (record a { records = records; calls = ys; slots = nb; overrides = o }) ≡ effect st (Reroute t from to via))
 rerouted-as {a} {cs} {ds} {t} {from} {to} {label} {k} {l} {p} x y via mid records ys nb st o s view read part fits same choices spare loaded next more replaced at row at-2 row-2 told rows_same calls_same renew =
     let f = part-found s read part in
     let w = f.3 in
@@ -121,5 +151,5 @@ rerouted-as {a} {cs} {ds} {t} {from} {to} {label} {k} {l} {p} x y via mid record
     let law = loaded t f.1 w.of.number in
     let room = rw (← view) at fits in
     let x_is = row-of x w.of at row in
-    let renewed = (rw (more, x_is) at renew) _ (reroute-line w law room made) in
+    let renewed = (rw (more, x_is) at renew) _ (reroute-line w law room made) (reroute-known w law room made) in
     rw (more, ← view) (reroute-done w law room made records ys o (rw (at-2, x_is, row-of y w.of at-2 row-2) at told) renewed rows_same calls_same ds same choices spare)

@@ -11,7 +11,7 @@ ghost use Rattle.train_nodes.specs.Removed.{names_removed};
 
 use crate::removed::RemovedEvents;
 use crate::trains::Trains;
-use call_lines::line::renew_train;
+use call_lines::line::{renew_behind, renew_train};
 use call_lines::parts::{find_part, kill, replace};
 use call_lines::{Part, StoredCall};
 use connection_choices::OverrideTable;
@@ -64,7 +64,7 @@ impl Trains {
         replace(&mut self.calls, &part, label, via);
         let len = self.records[t.get() as usize].len - (part.last - part.first - 1) + new;
         self.records[t.get() as usize].len = len;
-        renew_train(&mut self.calls, &self.slots, t, len);
+        renew_behind(&mut self.calls, &self.slots, t, len, part.first + 1);
     }
 }
 

@@ -1,5 +1,5 @@
 use Rattle.call_lines.proofs.Words.{◌≡◌, ℕ, vec_capacity, IsLine}
-use Rattle.call_lines.proofs.RenewLemmas.{IsPartlyRenewed}
+use Rattle.call_lines.proofs.RenewLemmas.{IsPartlyRenewed, StaysBelow}
 use Rattle.call_lines.proofs.line.renew_line.Given as goal
 
 -- the calls from a place on were gone through, and those before it are to come
@@ -7,4 +7,5 @@ abbrev pub invariant-loop-place : goal.invariant-loop-place
 invariant-loop-place l =
     (vec_capacity l.calls ≡ vec_capacity l.fn.calls)
     × ((train first : ℕ) (h : IsLine train first l.fn.last l.fn.len l.fn.calls.items)
-    → IsPartlyRenewed train l.fn.len l.place h.at l.fn.calls.items l.calls.items l.slot l.next_report)
+    → IsPartlyRenewed train l.fn.len l.place h.at l.fn.calls.items l.calls.items l.slot l.next_report
+    × StaysBelow l.place h.at l.fn.calls.items l.calls.items)

@@ -1,11 +1,14 @@
-use Rattle.timetable.proofs.Words.{◌∙◌}
+use Rattle.timetable.proofs.Words.{◌∙◌, ap, arith, true, false, is_event, node_at, train_events}
+use Rattle.delay_model.specs.Cuts.{before}
 use Rattle.edge_rules.proofs.Walks.{between-events}
-use Rattle.timetable.proofs.Since.{naming-begin}
+use Rattle.train_nodes.proofs.FromCalls.{since-call}
+use Rattle.timetable.proofs.Since.{fewer-from, naming-begin}
 use Rattle.timetable.proofs.leaving.list_between.Goals as goal
 
 pub loop-event-init : goal.loop-event-init
 loop-event-init c =
     let a = c.args in
-    let all = c.into_iter-event-iterator.ensures.into_iter_gives ∙ c.events-event-items.ensures in
-    let is = between-events a.trains.now a.t a.from a.to in
-    rw all (naming-begin _ _ _ a.list.now is c.requires.empty c.requires.room)
+    let all = c.into_iter-event-iterator.ensures.into_iter_gives ∙ c.events_from-event-items.ensures in
+    let is = ap (before (is_event (node_at a.t a.to false))) (since-call a.trains.now (node_at a.t a.from true)).1 ∙ between-events a.trains.now a.t a.from a.to in
+    let fewer = fewer-from (is_event (node_at a.t a.from false)) (train_events a.trains.now a.t) in
+    rw all (naming-begin _ _ _ a.list.now is c.requires.empty (omega (arith, fewer, c.requires.room)))

@@ -1,5 +1,7 @@
-use Rattle.timetable.proofs.Words.{◌≤◌, ◌||◌, ◌∙◌, Some, length, sym, ap, arith, is_same_node, node_at, node_of, false}
-use Rattle.timetable.proofs.Renewed.{cancel-after, extra-after, or-false, reroute-after, routed-by, step-fed, stepped-fit}
+use Rattle.timetable.proofs.Words.{Extra, ◌≤◌, ◌||◌, ◌∙◌, Some, length, sym, ap, arith, is_same_node, node_at, node_of, false}
+use Rattle.timetable.proofs.Renewed.{cancel-after, extra-after, or-false, reroute-after, routed-by, step-fed, stepped-fit, stepped-trains}
+use Rattle.timetable.proofs.Onwards.{linked-there}
+use Rattle.timetable.specs.Marking.{IsStateAfter}
 use Rattle.timetable.proofs.marking.mark_shape.Goals as goal
 
 pub next_label-requires : goal.next_label-requires
@@ -23,22 +25,35 @@ overflow_sub-first c =
     let le : length r.via.now ≤ c.get.result = omega (arith, next.0, c.get.ensures) in le
 
 pub mark_made-requires : goal.mark_made-requires
-mark_made-requires c = record {
-  fit = stepped-fit c.args.graph.now c.args.s.now c.args.marks.now c.requires.stepped c.keep_live.new.marks (record {
-    keys = rw c.trains-trains.ensures.trains at c.keep_live.ensures.keys;
-    room = c.keep_live.ensures.room;
-    roomy = c.requires.room;
-  });
-}
+mark_made-requires c =
+    let g = c.args.graph.now in
+    let r = c.in-Reroute in
+    let routed = routed-by g.network c.requires.stepped.old g.state r.train r.from r.to r.via.now (rw r.is at c.requires.stepped.step) in
+    record {
+      trains = routed.trains;
+      there = routed.there;
+      fit = stepped-fit g c.args.s.now c.args.marks.now c.requires.stepped c.keep_live.new.marks (record {
+        keys = rw c.trains-trains.ensures.trains at c.keep_live.ensures.keys;
+        room = c.keep_live.ensures.room;
+        roomy = c.requires.room;
+      });
+    }
 
 pub mark_made-requires-in-Extra : goal.mark_made-requires-in-Extra
-mark_made-requires-in-Extra c = record {
-  fit = stepped-fit c.args.graph.now c.args.s.now c.args.marks.now c.requires.stepped c.keep_live.new.marks (record {
-    keys = rw c.trains-trains.ensures.trains at c.keep_live.ensures.keys;
-    room = c.keep_live.ensures.room;
-    roomy = c.requires.room;
-  });
-}
+mark_made-requires-in-Extra c =
+    let g = c.args.graph.now in
+    let r = c.in-Extra in
+    let m = Extra r.train r.day r.route r.calls.now in
+    let step : IsStateAfter g.network c.requires.stepped.old g.state m = rw r.is at c.requires.stepped.step in
+    record {
+      trains = stepped-trains g.network c.requires.stepped.old g.state m step;
+      there = linked-there g.network c.requires.stepped.old g.state m step;
+      fit = stepped-fit g c.args.s.now c.args.marks.now c.requires.stepped c.keep_live.new.marks (record {
+        keys = rw c.trains-trains.ensures.trains at c.keep_live.ensures.keys;
+        room = c.keep_live.ensures.room;
+        roomy = c.requires.room;
+      });
+    }
 
 pub mark_event-requires-clause-trains : goal.mark_event-requires-clause-trains
 mark_event-requires-clause-trains c =
