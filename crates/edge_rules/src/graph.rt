@@ -1,7 +1,7 @@
 //! The graph over the trains.
 
 ghost use Rattle.std.specs.Prelude.{◌≡◌, ◌+◌, ◌++◌, [], ◌<◌, ◌≤◌, ◌^◌, true};
-ghost use Rattle.std.specs.Prelude.{IsTrue, Some, All, IfOk, filter, map, length};
+ghost use Rattle.std.specs.Prelude.{IsTrue, Some, All, IfOk, filter, map, length, unwrap_or};
 ghost use Rattle.std.specs.Option.{option_to_list};
 ghost use Rattle.std.specs.List.{AllPairs};
 ghost use Rattle.std.specs.List.Sorted.{IsPermutation};
@@ -10,8 +10,9 @@ ghost use Rattle.mt_base.specs.Order.{node_of};
 ghost use Rattle.mt_base.specs.declared.keys.Node.{Node as ANode};
 ghost use Rattle.delay_model.specs.Edges.{DifferInEnds};
 ghost use Rattle.delay_model.specs.Effect.{effect};
-ghost use Rattle.delay_model.specs.Events.{calls_of, event_named, is_live};
+ghost use Rattle.delay_model.specs.Events.{calls_of, event_named, events, is_live};
 ghost use Rattle.delay_model.specs.Refusals.{are_at_stops, stands_before};
+ghost use Rattle.delay_model.specs.Timing.{cap, capped};
 ghost use Rattle.delay_model.specs.declared.messages.Message.TheVariants as messages;
 ghost use Rattle.train_nodes.specs.Times.{has_time};
 ghost use Rattle.waiting_rules.specs.WaitTable.{parent_station};
@@ -240,6 +241,19 @@ impl Graph {
         let along = self.later_along(at, floor(at), times, steps);
         let time = self.later_by_transfers(at, along, times, steps);
         by_reports(trains, at, time)
+    }
+
+    /// The time of an event for which this is the latest of its floor and of what the edges to it
+    /// ask for, in seconds from the base of day 0: its report, or else that, but no later than the
+    /// next report of its train.
+    pub fn reported(&self, at: &Event, asked: u32) -> Time
+        requires there { event_named self.now.state (node_of at.now.key) ≡ Some at.now }
+        requires small { asked < 2 ^ 25 }
+        ensures { result ≡ unwrap_or at.now.report
+            (capped (cap (events self.now.state) at.now) asked) }
+    {
+        let trains = self.trains();
+        by_reports(trains, at, asked)
     }
 
     /// A train does not run from the departure of one call to the arrival of a later one, and what

@@ -136,7 +136,7 @@ pub(crate) fn remove_stretch(
     let departure = Node::departure(t, from);
     let arrival = Node::arrival(t, to);
     let mut departed = false;
-    for event in trains.events(t) {
+    for event in trains.events_from(t, from) {
         let node = event.key.node();
         departed = departed || node.is_same(&departure);
         if departed {
@@ -164,7 +164,7 @@ pub(crate) fn remove_between(
     let departure = Node::departure(t, from);
     let arrival = Node::arrival(t, to);
     let mut departed = false;
-    for event in trains.events(t) {
+    for event in trains.events_from(t, from) {
         let node = event.key.node();
         if departed {
             if node.is_same(&arrival) {

@@ -19,7 +19,7 @@ module _ (g : GraphState) (valid : IsValid g.network g.state) {order : List Key}
   abbrev gs : List Edge
   gs = edges g.network g.state
 
-  named : (k : Key) (at : IsLiveAt es k) → event_named g.state (node_of k) ≡ Some at.0
+  pub named : (k : Key) (at : IsLiveAt es k) → event_named g.state (node_of k) ≡ Some at.0
   named k at = ap (λ q. event_named g.state (node_of q)) (sym at.2) ∙ event-found g.state at.0 valid.trains at.1
 
   -- the edges to its event, and from it

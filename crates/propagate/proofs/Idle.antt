@@ -1,5 +1,5 @@
 -- Edges that leave the rule's value at an event as it is, whatever times their origins have.
-use Rattle.propagate.proofs.Words.{◌≡◌, ℕ, ◌+◌, ◌≤◌, ◌||◌, ◌⊎◌, Bool, true, false, cond, max, List, [], ◌∷◌, Option, unwrap_or, refl, sym, ◌∙◌, ap, arith, inl, inr, fold, All}
+use Rattle.propagate.proofs.Words.{◌≡◌, ℕ, ◌+◌, ◌≤◌, ◌||◌, ◌⊎◌, Bool, true, false, cond, max, List, [], ◌∷◌, Option, unwrap_or, refl, sym, ◌∙◌, ap, arith, inl, inr, fold, All, All-contains, get_or, same-is}
 use Rattle.propagate.proofs.Words.{All-head, All-tail, All-append, All-nil, All-cons, cond_both, or_parts, Key, Event, Edge, Network, State}
 use Rattle.propagate.proofs.Words.{events, edges, incoming, cap, floor_of, later, capped, local, train_edges, transfer_edges, transfer, override_of, AlongTrain, Planned}
 use Rattle.propagate.proofs.Words.{may_change, may_decide, transfers-each}
@@ -8,6 +8,7 @@ use Rattle.delay_model.specs.declared.state.EdgeKind.{EdgeKind}
 use Rattle.delay_model.specs.declared.state.EdgeKind.TheVariants.{Kept as KeptEdge}
 use Rattle.delay_model.specs.declared.overrides.Override.{Override}
 use Rattle.delay_model.proofs.Ends.{train_edges-each}
+use Rattle.state_laws.proofs.Untouched.{incoming-are, incoming-ends}
 
 -- what decides nothing leaves a time that is not before the schedule as it is
 pub later-idle : (kind : EdgeKind) (s so_far asked : ℕ) → may_decide kind s asked ≡ false → s ≤ so_far → cond (counts kind s asked) (max so_far asked) so_far ≡ so_far
@@ -69,3 +70,23 @@ edges-depart nw st =
 -- a departure's floor is not before its schedule
 pub floor-departs : (v : Event) → v.key.dep ≡ true → v.key.time ≤ floor_of v
 floor-departs v h = rw h (omega arith)
+
+-- what may not decide asks for no more than the schedule, where it counts
+pub idle : (kind : EdgeKind) (s asked : ℕ) → may_decide kind s asked ≡ false → counts kind s asked ≡ true → asked ≤ s
+idle AlongTrain s asked h c = absurd (cc)
+idle KeptEdge s asked h c = absurd (cc)
+idle (Planned wait) s asked h c = grind arith
+
+-- the edge may decide the time of the event to which it leads
+abbrev pub decides : (Key → ℕ) → Edge → Bool
+decides t e = may_decide e.kind e.to.time (t e.from + e.weight)
+
+-- the floor of an event is not before its schedule, where an edge leads to it that may not decide
+pub floors : (nw : Network) (st : State) (t : Key → ℕ) (w : Event) → All (λ e. decides t e ≡ false → e.to.time ≤ floor_of w) (incoming (edges nw st) w.key)
+floors nw st t w = λ i d l fails.
+    let e = get_or (incoming (edges nw st) w.key) i d in
+    let to = same-is e.to w.key (incoming-ends (edges nw st) w.key i d l) in
+    let departs = All-contains LeadsToDeparture (edges nw st) e (edges-depart nw st) (incoming-are (edges nw st) w.key i d l) _ fails in
+    let floor = floor-departs w (ap (λ (a : Key). a.dep) (sym to) ∙ departs) in
+    let at : e.to.time ≡ w.key.time = ap (λ (a : Key). a.time) to in
+    omega arith

@@ -6,6 +6,10 @@ pub mod Sized
 pub mod Idle
 pub mod AtKeys
 pub mod Marking
+pub mod OneKey
+pub mod Asks
+pub mod Raising
+pub mod AskedWalk
 pub mod Walk
 pub mod StepWords
 pub mod StepStored

@@ -5,6 +5,7 @@ use Rattle.std.proofs.lemmas.List.Elements.{Contains-get_or}
 use Rattle.std.proofs.lemmas.List.Folds.{list_any-append}
 use Rattle.propagate.proofs.Named.{find-any}
 use Rattle.rank_order.proofs.RoomLemmas.{room-left}
+use Rattle.propagate.specs.Asked.{leads}
 
 -- what holds of each key that is marked holds of all of them, and the other way round
 pub each-marked : (P : Key → Type 0) (marks : Marked) → ((q : Key) → is_marked marks q ≡ true → P q) → All P marks.keys
@@ -14,10 +15,6 @@ pub of-marked : (P : Key → Type 0) (marks : Marked) → All P marks.keys → (
 of-marked P marks all q h =
     let r = find-any (λ a. is_same a q) marks.keys h in
     subst P (same-is r.one q r.passes) (All-contains P marks.keys r.one all r.there)
-
--- one of the edges leads to this key
-abbrev pub leads : List Edge → Key → Bool
-leads gs q = list_any (λ (e : Edge). is_same e.to q) gs
 
 -- one that passes does
 pub leads-filter : (may : Edge → Bool) (gs : List Edge) (q : Key) → leads (filter may gs) q ≡ list_any (λ (e : Edge). is_same e.to q && may e) gs
@@ -64,11 +61,13 @@ module _ {live : List Key} {gs : List Edge} {first : Marked} {left : List Edge} 
 
 -- the edge along the train, and then the others
 
-pub both-ends : (live : List Key) (along others gs : List Edge) → IsPermutation (along ++ others) gs → All (λ (e : Edge). Contains live e.to) gs → All (λ (e : Edge). Contains live e.to) along × All (λ (e : Edge). Contains live e.to) others
-both-ends live along others gs moved h =
-    let P : Edge → Type 0 = λ e. Contains live e.to in
+pub both-hold : (P : Edge → Type 0) (along others gs : List Edge) → IsPermutation (along ++ others) gs → All P gs → All P along × All P others
+both-hold P along others gs moved h =
     let all = All-permutation P gs (along ++ others) (IsPermutation-sym (along ++ others) gs moved) h in
     (λ i d l. All-contains P (along ++ others) (get_or along i d) all (Contains-append_left along others (get_or along i d) (Contains-get_or along i d l)), λ i d l. All-contains P (along ++ others) (get_or others i d) all (Contains-append_right along others (get_or others i d) (Contains-get_or others i d l)))
+
+pub both-ends : (live : List Key) (along others gs : List Edge) → IsPermutation (along ++ others) gs → All (λ (e : Edge). Contains live e.to) gs → All (λ (e : Edge). Contains live e.to) along × All (λ (e : Edge). Contains live e.to) others
+both-ends live = both-hold (λ (e : Edge). Contains live e.to)
 
 pub next-known : (live : List Key) (along : List Edge) (first next : Marked) → All (Contains live) first.keys → All (λ (e : Edge). Contains live e.to) along → ((q : Key) → is_marked next q ≡ (is_marked first q || leads along q)) → All (Contains live) next.keys
 next-known live along first next known ends now =

@@ -1,30 +1,17 @@
 -- What is stored for an event that a message leaves settled is what the rule gives it after the message.
-use Rattle.propagate.proofs.StepWords.{◌≡◌, ℕ, ◌+◌, ◌≤◌, Bool, true, false, List, Option, Some, None, refl, sym, ◌∙◌, ap, arith, inl, inr, filter, fold, get_or, list_any}
+use Rattle.propagate.proofs.StepWords.{◌≡◌, ℕ, ◌+◌, ◌≤◌, true, false, List, Option, Some, None, refl, sym, ◌∙◌, ap, arith, inl, inr, filter, fold, get_or, list_any}
 use Rattle.propagate.proofs.StepWords.{option_map, unwrap_or, cases_Bool, or_parts, All, All-contains, Contains, Contains-filter, Key, node_of, is_same_node, same-is}
-use Rattle.propagate.proofs.StepWords.{same_node-itself, Edge, Event, State, Network, Message, AlongTrain, Planned, edges, events, effect, refusal, incoming, local, time, event_time, later}
+use Rattle.propagate.proofs.StepWords.{same_node-itself, Edge, Event, State, Network, Message, edges, events, effect, refusal, incoming, local, time, event_time, later}
 use Rattle.propagate.proofs.StepWords.{floor_of, event_named, named, live_only, is_live_key, is_fed_by, IsLiveAt, IsValid, IsWellFormed, valid-graph, incoming-leads}
-use Rattle.propagate.proofs.StepWords.{subst, false_from_ne_true, All-contains_itself, live_keys, Marked, is_marked, incoming-there, time-local, stays-valid, StoredTimes, no_time, stored_time, may_decide, may_change, FollowsRule, is_fed_by_new, is_unsettled, AreStored}
-use Rattle.delay_model.specs.Timing.{counts}
-use Rattle.delay_model.specs.declared.state.EdgeKind.{EdgeKind}
-use Rattle.delay_model.specs.declared.state.EdgeKind.TheVariants.{Kept}
+use Rattle.propagate.proofs.StepWords.{subst, false_from_ne_true, All-contains_itself, live_keys, Marked, is_marked, incoming-there, time-local, stays-valid, StoredTimes, no_time, stored_time, may_change, FollowsRule, is_fed_by_new, is_unsettled, AreStored}
 use Rattle.delay_model.proofs.Bounds.{AsksUpTo, fold-asks, fold-le, fold-up}
 use Rattle.delay_model.proofs.Ends.{JoinsLive, edges-join}
 use Rattle.delay_model.proofs.Solve.{local-agree}
 use Rattle.state_laws.proofs.Left.{message-left}
 use Rattle.state_laws.proofs.Untouched.{IsLeft, incoming-are, incoming-ends, none-passes}
 use Rattle.edge_rules.proofs.Neighbours.{each-named}
-use Rattle.propagate.proofs.Idle.{LeadsToDeparture, edges-depart, floor-departs}
+use Rattle.propagate.proofs.Idle.{decides, floors, idle}
 use Rattle.propagate.proofs.StepStored.{keyed-live, live-at, new-time, old-time, origin-lives}
-
--- what may not decide asks for no more than the schedule, where it counts
-idle : (kind : EdgeKind) (s asked : ℕ) → may_decide kind s asked ≡ false → counts kind s asked ≡ true → asked ≤ s
-idle AlongTrain s asked h c = absurd (cc)
-idle Kept s asked h c = absurd (cc)
-idle (Planned wait) s asked h c = grind arith
-
--- the edge may decide the time of the event to which it leads
-abbrev decides : (Key → ℕ) → Edge → Bool
-decides t e = may_decide e.kind e.to.time (t e.from + e.weight)
 
 -- the latest of a time and of what edges ask for is no later than with other edges, where each that may decide is one of these, and
 -- the time is not before the schedule of what the others lead to
@@ -38,16 +25,6 @@ fold-fewer t a gs hs there until =
       | inl may ↦ All-contains (AsksUpTo t most) hs e (fold-asks t hs a) (there i d l may) c
       | inr fails ↦ (let asks = idle e.kind e.to.time (t e.from + e.weight) fails c in let scheduled = until i d l fails in omega arith)
     ])
-
--- so the floor of an event is not before its schedule, where an edge leads to it that may not decide
-floors : (nw : Network) (st : State) (t : Key → ℕ) (w : Event) → All (λ e. decides t e ≡ false → e.to.time ≤ floor_of w) (incoming (edges nw st) w.key)
-floors nw st t w = λ i d l fails.
-    let e = get_or (incoming (edges nw st) w.key) i d in
-    let to = same-is e.to w.key (incoming-ends (edges nw st) w.key i d l) in
-    let departs = All-contains LeadsToDeparture (edges nw st) e (edges-depart nw st) (incoming-are (edges nw st) w.key i d l) _ fails in
-    let floor = floor-departs w (ap (λ (a : Key). a.dep) (sym to) ∙ departs) in
-    let at : e.to.time ≡ w.key.time = ap (λ (a : Key). a.time) to in
-    omega arith
 
 module _ (nw : Network) (st : State) (m : Message) (valid : IsValid nw st) (well : IsWellFormed m) (accepted : refusal nw st m ≡ None) (times : StoredTimes) (stored : AreStored nw st (effect st m) times) where
   abbrev new : State

@@ -12,8 +12,17 @@ use Rattle.propagate.proofs.{Named.any-from, Named.find-any, Ordered.key-live, O
 use Rattle.delay_model.proofs.Lists.{count_by-lt}
 use Rattle.delay_model.specs.Valid.{IsForward}
 use Rattle.propagate.proofs.Words.{count_by, before-trans, same_node-itself}
+use Rattle.propagate.proofs.Words.{cases_Bool, nat_eq, incoming, None, Option, Event, event_named, IsSmall}
+use Rattle.std.specs.Option.{IfSome}
+use Rattle.std.proofs.lemmas.Bool.{true_from_ne_false}
+use Rattle.state_laws.proofs.Untouched.{incoming-are}
+use Rattle.propagate.specs.Asked.{AreRaised, IsRaised, TellsTime, entry_of, nothing}
+use Rattle.propagate.specs.declared.asked.Asked.{Asked}
+use Rattle.propagate.specs.declared.asked.AskedTable.{AskedTable}
 use Rattle.propagate.proofs.Idle.{or-right}
-use Rattle.propagate.proofs.Marking.{each-marked, of-marked}
+use Rattle.propagate.proofs.Asks.{AreCovered, covered-raised, covered-same, raised-none}
+use Rattle.propagate.proofs.AskedWalk.{AreAsked, IsAsked, asked-first, if-known, tells}
+use Rattle.propagate.proofs.Marking.{each-marked, leads-filter, of-marked}
 use Rattle.propagate.proofs.AtKeys.{into, out-of, live-name, by-rule, one-or-other, time-before, time-all, next-fits, next-held, next-local, value-is, value-left, value-own}
 
 -- how many keys are not before the least mark
@@ -35,7 +44,7 @@ ahead-less order k rest (m ∷ ms) h after =
 -- part of a walk along the keys in their order. The keys before the rest are passed: nothing marked is among them, and the events
 -- whose time differs are listed. What is stored for each event that is not marked is what the rule gives it, and for the rest it is
 -- what was stored at first
-pub record IsPart (g : GraphState) (order : List Key) (old : StoredTimes) (first : Marked) (before : Vec TimeChange Global) (start : ℕ) (times : StoredTimes) (marks : Marked) (changed : Vec TimeChange Global) (steps : ℕ) : Type 0 where
+pub record IsPart (g : GraphState) (order : List Key) (old : StoredTimes) (first : Marked) (before : Vec TimeChange Global) (start : ℕ) (times : StoredTimes) (marks : Marked) (table : AskedTable) (changed : Vec TimeChange Global) (steps : ℕ) : Type 0 where
   pub passed : List Key
   pub rest : List Key
   pub whole : order ≡ passed ++ rest
@@ -44,6 +53,7 @@ pub record IsPart (g : GraphState) (order : List Key) (old : StoredTimes) (first
   pub held : All (λ k. has_time times (node_of k) ≡ true) order
   pub values : (q : Key) → Contains order q → is_marked marks q ≡ false → FollowsRule g times q
   pub left : All (λ k. time_of times (node_of k) ≡ time_of old (node_of k)) rest
+  pub asked : AreAsked g old first rest times marks table
   pub listed : changed.items ≡ before.items ++ map (time_change_at g.network g.state old) (filter (has_another g.network g.state old) passed)
   pub room : vec_len changed + length rest ≤ vec_capacity changed
   pub limit : marks.room ≡ first.room
@@ -61,9 +71,9 @@ cut-at : {X : Type 0} (xs : List X) (x : X) (h : Contains xs x) → xs ≡ take 
 cut-at xs x h = sym (take-append-drop h.0 xs) ∙ ap (λ ys. take h.0 xs ++ ys) (drop-cons xs h.0 x h.1 ∙ ap (λ y. y ∷ drop (suc h.0) xs) h.2)
 
 -- at first
-pub part-first : (g : GraphState) (order : List Key) (old : StoredTimes) (first : Marked) (before : Vec TimeChange Global) (start : ℕ) → IsOrderOf (events g.state) order → All (λ k. has_time old (node_of k) ≡ true) (live_keys (events g.state)) → All (Contains (live_keys (events g.state))) first.keys
-    → All (λ k. is_marked first k ≡ false → FollowsRule g old k) (live_keys (events g.state)) → vec_len before + length (live_keys (events g.state)) ≤ vec_capacity before → IsPart g order old first before start old first before start
-part-first g order old first before start is held known values room =
+pub part-first : (g : GraphState) (order : List Key) (old : StoredTimes) (first : Marked) (table : AskedTable) (before : Vec TimeChange Global) (start : ℕ) → IsOrderOf (events g.state) order → All (λ k. has_time old (node_of k) ≡ true) (live_keys (events g.state)) → All (Contains (live_keys (events g.state))) first.keys
+    → All (λ k. is_marked first k ≡ false → FollowsRule g old k) (live_keys (events g.state)) → vec_len before + length (live_keys (events g.state)) ≤ vec_capacity before → ((q : Key) → entry_of table q ≡ None) → IsPart g order old first before start old first table before start
+part-first g order old first table before start is held known values room none =
     let live = live_keys (events g.state) in
     record {
       passed = [];
@@ -74,6 +84,7 @@ part-first g order old first before start is held known values room =
       held = All-permutation (λ k. has_time old (node_of k) ≡ true) live order is.moved held;
       values = λ q h. All-contains (λ k. is_marked first k ≡ false → FollowsRule g old k) order q (All-permutation (λ k. is_marked first k ≡ false → FollowsRule g old k) live order is.moved values) h;
       left = λ i d l. refl;
+      asked = asked-first g old first order table none;
       listed = sym (append-nil before.items);
       room = let long = length_permutation live order is.moved in omega arith;
       limit = refl;
@@ -82,7 +93,7 @@ part-first g order old first before start is held known values room =
       cost = omega arith;
     }
 
-module _ {g : GraphState} (valid : IsValid g.network g.state) {order : List Key} (is : IsOrderOf (events g.state) order) {old : StoredTimes} {first : Marked} {before : Vec TimeChange Global} {start : ℕ} {times : StoredTimes} {marks : Marked} {changed : Vec TimeChange Global} {steps : ℕ} (part : IsPart g order old first before start times marks changed steps) where
+module _ {g : GraphState} (valid : IsValid g.network g.state) {order : List Key} (is : IsOrderOf (events g.state) order) {old : StoredTimes} {first : Marked} {before : Vec TimeChange Global} {start : ℕ} {times : StoredTimes} {marks : Marked} {table : AskedTable} {changed : Vec TimeChange Global} {steps : ℕ} (part : IsPart g order old first before start times marks table changed steps) where
   abbrev live : List Key
   live = live_keys (events g.state)
 
@@ -160,11 +171,18 @@ module _ {g : GraphState} (valid : IsValid g.network g.state) {order : List Key}
     whole : order ≡ (part.passed ++ us) ++ k ∷ vs
     whole = part.whole ∙ ap (λ ks. part.passed ++ ks) (cut-at part.rest k place) ∙ sym (append_assoc part.passed us (k ∷ vs))
 
+    left-over-there : (q : Key) → Contains vs q → Contains part.rest q
+    left-over-there q h = subst (λ ks. Contains ks q) (sym (cut-at part.rest k place)) (Contains-append_right us (k ∷ vs) q (Contains-there k vs q h))
+
     pub k-there : Contains order k
     k-there = in-order k place
 
     before-k : (u : Key) → Contains us u → is_before u k ≡ true
     before-k u h = All-contains (λ w. is_before w k ≡ true) (part.passed ++ us) u (AllPairs-before (λ a b. is_before a b ≡ true) (part.passed ++ us) k vs (subst (AllPairs (λ a b. is_before a b ≡ true)) whole is.ascends)) (Contains-append_right part.passed us u h)
+
+    -- what is after the key is left
+    in-rest : (q : Key) → Contains order q → is_before k q ≡ true → Contains part.rest q
+    in-rest q there later = left-over-there q (stands-after (events g.state) order is (part.passed ++ us) k vs whole q there later)
 
     -- what is before the key is not marked
     own : (q : Key) → Contains order q → is_before q k ≡ true → FollowsRule g times q
@@ -200,6 +218,27 @@ module _ {g : GraphState} (valid : IsValid g.network g.state) {order : List Key}
           let e = (filtered (λ (e : Edge). is_same e.from k) (edges g.network g.state) _ (All-contains_itself (outgoing (edges g.network g.state) k) i d l)).0 in
           to-live _ (live-ordered (events g.state) order is _ (All-contains (JoinsLive (events g.state)) (edges g.network g.state) _ (edges-join g.network g.state) e).to_end))
 
+      -- the schedule leaves time enough for each edge from it
+      pub part-weights : All (λ (e : Edge). e.weight < 2 ^ 24) (edges_from g n)
+      unfolding outgoing
+      part-weights = rw (name, out-of g valid is k k-there) (λ i d l.
+          let e = get_or (outgoing (edges g.network g.state) k) i d in
+          let there = (filtered (λ (e : Edge). is_same e.from k) (edges g.network g.state) _ (All-contains_itself (outgoing (edges g.network g.state) k) i d l)).0 in
+          let to = (All-contains (JoinsLive (events g.state)) (edges g.network g.state) e (edges-join g.network g.state) there).to_end in
+          let small = (All-contains IsSmall (events g.state) to.0 valid.small to.1).scheduled in
+          let at : to.0.key.time ≡ e.to.time = ap (λ (a : Key). a.time) to.2 in
+          let room = (All-contains IsForward (edges g.network g.state) e valid.forward there).room in
+          omega (arith, small, at, room))
+
+      -- what the table knows to be asked of it tells its time
+      pub part-tells : All (λ k. is_marked first k ≡ false → FollowsRule g old k) live → (v : Event) → event_named g.state (node_of v.key) ≡ Some v → node_of v.key ≡ n → (o : Option Asked) → o ≡ entry_of table k → IfSome o (TellsTime g times v)
+      part-tells begin v there at o is_known =
+          if-known o (TellsTime g times v) (λ a e.
+          let h = part.asked.known k a (sym is_known ∙ e) in
+          let follows = All-contains (λ k. is_marked first k ≡ false → FollowsRule g old k) live k begin (to-live k k-there) h.fresh in
+          let kept = All-contains (λ k. time_of times (node_of k) ≡ time_of old (node_of k)) part.rest k part.left place in
+          tells g valid is old times a k k-there h.covered follows kept (next-fits g valid is times k k-there own) v there (at ∙ name))
+
       pub part-marked : All (Contains live) less.keys
       part-marked = each-marked (Contains live) less (λ q h. to-live q (in-order q (part.ahead q (still-marked q h))))
 
@@ -209,7 +248,7 @@ module _ {g : GraphState} (valid : IsValid g.network g.state) {order : List Key}
       pub part-smaller : ahead_by order less.keys < ahead_by order marks.keys
       part-smaller = rw taken (ahead-less order k less.keys less.keys k-there after-k)
 
-      module _ (x y : ℕ) (was : time_of times n ≡ Some x) (new : StoredTimes) (rule : local_at g times n ≡ Some y) (later : time_of new n ≡ Some y) (others : (m : Node) → is_same_node n m ≡ false → time_of new m ≡ time_of times m) (sizes : (st : State) → HasTimesFor st times → HasTimesFor st new) (count : ℕ) (reads : count ≡ steps + (1 + length (edges_to g n))) where
+      module _ (x y : ℕ) (was : time_of times n ≡ Some x) (new : StoredTimes) (rule : local_at g times n ≡ Some y) (later : time_of new n ≡ Some y) (others : (m : Node) → is_same_node n m ≡ false → time_of new m ≡ time_of times m) (sizes : (st : State) → HasTimesFor st times → HasTimesFor st new) (count : ℕ) (reads : count ≤ steps + (1 + length (edges_to g n))) where
         others-k : (m : Node) → is_same_node (node_of k) m ≡ false → time_of new m ≡ time_of times m
         others-k m h = others m (rw name h)
 
@@ -263,8 +302,103 @@ module _ {g : GraphState} (valid : IsValid g.network g.state) {order : List Key}
             let none = settled-none us (λ u h. let there : Contains part.rest u = rw (cut-at part.rest k place) (Contains-append_left us (k ∷ vs) u h) in (there, time-before g valid is times k own u (in-order u there) (before-k u h))) in
             rw (filter-append another part.passed us, none) (append-nil (filter another part.passed))
 
-        module _ (more : Marked) (more_room : more.room ≡ less.room) (ins : (q : Key) → is_marked more q ≡ true → (is_marked less q ≡ true) ⊎ ((x ≢ y) × (fed q ≡ true))) (outs : (q : Key) → is_marked more q ≡ false → (is_marked less q ≡ false) × ((x ≡ y) ⊎ (fed q ≡ false))) (next : Vec TimeChange Global) (added : next.items ≡ changed.items ++ map at_time (filter another (k ∷ []))) (room : vec_len next + length vs ≤ vec_capacity next) (same : vec_capacity next ≡ vec_capacity changed) where
-          part-more : IsPart g order old first before start new more next count
+        -- an edge to an event leaves one whose time stays, or this one
+        origins : (q : Key) → All (λ (e : Edge). (stored_time new e.from ≡ stored_time times e.from) ⊎ (e.from ≡ k)) (incoming (edges g.network g.state) q)
+        origins q = λ i d l.
+            let e = get_or (incoming (edges g.network g.state) q) i d in
+            let from = (All-contains (JoinsLive (events g.state)) (edges g.network g.state) e (edges-join g.network g.state) (incoming-are (edges g.network g.state) q i d l)).from_end in
+            elim (one-or-other g valid is k e.from k-there (live-ordered (events g.state) order is e.from from)) [
+              | inl own ↦ inr own
+              | inr other ↦ inl (ap (λ o. unwrap_or o 0) (others-k (node_of e.from) other))
+            ]
+
+        abbrev IsCoveredAt : StoredTimes → Key → Asked → Type 0
+        IsCoveredAt now q a = AreCovered (stored_time old) (stored_time now) (incoming (edges g.network g.state) q) a
+
+        stays-covered : x ≡ y → (q : Key) (a : Asked) → IsCoveredAt times q a → IsCoveredAt new q a
+        stays-covered e q a h = covered-same (edges g.network g.state) (stored_time old) (stored_time times) (stored_time new) k q x y x-old x-kept y-kept (origins q) e a h
+
+        abbrev reaching : List Edge
+        reaching = filter (may_change x y) (outgoing (edges g.network g.state) k)
+
+        more-covered : x ≢ y → (q : Key) (c a : Asked) → IsCoveredAt times q c → IsRaised x y reaching q c a → IsCoveredAt new q a
+        more-covered differ q c a h up = covered-raised (edges g.network g.state) (stored_time old) (stored_time times) (stored_time new) k q x y x-old x-kept y-kept (origins q) differ c a h up
+
+        -- what is left, and not marked then, was not marked
+        was-free : (q : Key) → is_before k q ≡ true → is_marked less q ≡ false → is_marked marks q ≡ false
+        was-free q later free =
+            let none = before-itself k in
+            let apart = false_from_ne_true (is_same k q) (λ s. let e = same-is k q s in let no = rw (← e) at later in cc) in
+            marked-now q ∙ rw (apart, free) refl
+
+        quiet-now : (q : Key) → Contains part.rest q → is_before k q ≡ true → is_marked less q ≡ false → (x ≡ y) ⊎ (fed q ≡ false) → IsCoveredAt new q nothing
+        quiet-now q there later free none =
+            let before = part.asked.quiet q there (was-free q later free) in
+            elim none [
+              | inl e ↦ stays-covered e q nothing before
+              | inr unfed ↦
+                  elim (cases_Bool (nat_eq x y)) [
+                    | inl e ↦ stays-covered (eqb-true x y e) q nothing before
+                    | inr apart ↦
+                        let quiet = raised-none x y reaching q nothing (leads-filter (may_change x y) (outgoing (edges g.network g.state) k) q ∙ unfed) in
+                        more-covered (λ e. let same = eq-eqb x y e in absurd (cc)) q nothing nothing before quiet
+                  ]
+            ]
+
+        -- what is asked of other events, where the table gives out what is asked of this one
+        module _ (took : AskedTable) (gone : entry_of took k ≡ None) (rest_known : (q : Key) → is_same k q ≡ false → entry_of took q ≡ entry_of table q) where
+          known-left : (q : Key) (a : Asked) → entry_of took q ≡ Some a → (is_marked less q ≡ true) × IsAsked g old first times marks q a
+          known-left q a h =
+              elim (cases_Bool (is_same k q)) [
+                | inl same ↦ (let e = same-is k q same in let none = rw e at gone in absurd (cc))
+                | inr apart ↦
+                    let asks = part.asked.known q a (sym (rest_known q apart) ∙ h) in
+                    (sym (marked-now q ∙ rw apart refl) ∙ asks.marked, asks)
+              ]
+
+          known-same : x ≡ y → (q : Key) (a : Asked) → entry_of took q ≡ Some a → IsAsked g old first new less q a
+          known-same e q a h =
+              let left = known-left q a h in
+              record { marked = left.0; fresh = left.1.fresh; covered = stays-covered e q a left.1.covered }
+
+          known-more : x ≢ y → (more : Marked) → ((q : Key) → is_marked more q ≡ (is_marked less q || fed q)) → (next : AskedTable) → AreRaised x y reaching less took next → (q : Key) (a : Asked) → entry_of next q ≡ Some a → IsAsked g old first new more q a
+          known-more differ more now next raised q a h =
+              let r = raised q a h in
+              elim r.1 [
+                | inl was ↦
+                    let left = known-left q r.0 was in
+                    record { marked = now q ∙ rw left.0 refl; fresh = left.1.fresh; covered = more-covered differ q r.0 a left.1.covered r.2 }
+                | inr free ↦
+                    let reached : fed q ≡ true = sym (leads-filter (may_change x y) (outgoing (edges g.network g.state) k) q) ∙ free.2 in
+                    let after = fed-after q reached in
+                    let unmarked = was-free q after.1 free.1 in
+                    let there = in-rest q after.0 after.1 in
+                    let up : IsRaised x y reaching q nothing a = rw (← free.0) r.2 in
+                    record {
+                      marked = now q ∙ or-right (is_marked less q) (fed q) reached;
+                      fresh = false_from_ne_true (is_marked first q) (λ m. let marked = part.asked.kept q there m in absurd (cc));
+                      covered = more-covered differ q nothing a (part.asked.quiet q there unmarked) up;
+                    }
+              ]
+
+        module _ (more : Marked) (more_room : more.room ≡ less.room) (ins : (q : Key) → is_marked more q ≡ true → (is_marked less q ≡ true) ⊎ ((x ≢ y) × (fed q ≡ true))) (outs : (q : Key) → is_marked more q ≡ false → (is_marked less q ≡ false) × ((x ≡ y) ⊎ (fed q ≡ false))) (next : Vec TimeChange Global) (added : next.items ≡ changed.items ++ map at_time (filter another (k ∷ []))) (room : vec_len next + length vs ≤ vec_capacity next) (same : vec_capacity next ≡ vec_capacity changed) (known_table : AskedTable) (knows : (q : Key) (a : Asked) → entry_of known_table q ≡ Some a → IsAsked g old first new more q a) where
+          asked-more : AreAsked g old first vs new more known_table
+          asked-more =
+              let after = each-after (events g.state) order is (part.passed ++ us) k vs whole in
+              record {
+                kept = λ q h marked.
+                    let later = All-contains (λ b. is_before k b ≡ true) vs q after h in
+                    true_from_ne_false (is_marked more q) (λ free.
+                    let none = was-free q later (outs q free).0 in
+                    let there = part.asked.kept q (left-over-there q h) marked in
+                    cc);
+                quiet = λ q h free.
+                    let r = outs q free in
+                    quiet-now q (left-over-there q h) (All-contains (λ b. is_before k b ≡ true) vs q after h) r.0 r.1;
+                known = knows;
+              }
+
+          part-more : IsPart g order old first before start new more known_table next count
           part-more =
               record {
                 passed = (part.passed ++ us) ++ k ∷ [];
@@ -294,13 +428,14 @@ module _ {g : GraphState} (valid : IsValid g.network g.state) {order : List Key}
                     ];
                 left = λ i d l.
                     let q = get_or vs i d in
-                    let inside : Contains part.rest q = subst (λ ks. Contains ks q) (sym (cut-at part.rest k place)) (Contains-append_right us (k ∷ vs) q (Contains-there k vs q (All-contains_itself vs i d l))) in
+                    let inside : Contains part.rest q = left-over-there q (All-contains_itself vs i d l) in
                     let after = each-after (events g.state) order is (part.passed ++ us) k vs whole i d l in
                     let none = before-itself k in
                     elim (one-or-other g valid is k q k-there (in-order q inside)) [
                       | inl e ↦ (let own = rw e at after in absurd (cc))
                       | inr other ↦ others-k (node_of q) other ∙ All-contains (λ k. time_of times (node_of k) ≡ time_of old (node_of k)) part.rest q part.left inside
                     ];
+                asked = asked-more;
                 listed = added ∙ ap (λ ns. ns ++ map at_time (filter another (k ∷ []))) part.listed ∙ rw (filter-append another (part.passed ++ us) (k ∷ []), passes, map-append at_time (filter another part.passed) (filter another (k ∷ [])), append_assoc before.items (map at_time (filter another part.passed)) (map at_time (filter another (k ∷ [])))) refl;
                 room = room;
                 limit = more_room ∙ same_room ∙ part.limit;
@@ -318,18 +453,22 @@ module _ {g : GraphState} (valid : IsValid g.network g.state) {order : List Key}
 
         -- an event more whose time differs, and marks more
         pub part-differs : x ≢ y → (more : Marked) → more.room ≡ less.room → ((q : Key) → is_marked more q ≡ (is_marked less q || list_any (λ (e : Edge). is_same e.to q && may_change x y e) (edges_from g n)))
-            → (next : Vec TimeChange Global) → next.items ≡ changed.items ++ record { key = k; was = x; is = y } ∷ [] → vec_len next ≡ vec_len changed + 1 → vec_capacity next ≡ vec_capacity changed → IsPart g order old first before start new more next count
-        part-differs differ more more_room marked next pushed long same =
+            → (next : Vec TimeChange Global) → next.items ≡ changed.items ++ record { key = k; was = x; is = y } ∷ [] → vec_len next ≡ vec_len changed + 1 → vec_capacity next ≡ vec_capacity changed
+            → (took : AskedTable) → entry_of took k ≡ None → ((q : Key) → is_same k q ≡ false → entry_of took q ≡ entry_of table q) → (known_table : AskedTable) → AreRaised x y (filter (may_change x y) (edges_from g n)) less took known_table → IsPart g order old first before start new more known_table next count
+        part-differs differ more more_room marked next pushed long same took gone rest_known known_table raised =
             let room = part.room in
+            let raised_k : AreRaised x y reaching less took known_table = rw (name, out-of g valid is k k-there) at raised in
             let now : (q : Key) → is_marked more q ≡ (is_marked less q || fed q) = λ q. marked q ∙ rw (name, out-of g valid is k k-there) refl in
             part-more more more_room (λ q h. elim (or_cases (is_marked less q) (fed q) (sym (now q) ∙ h)) [ inl stays ↦ inl stays | inr comes ↦ inr (differ, comes) ])
             (λ q h. let both = or_parts (is_marked less q) (fed q) (sym (now q) ∙ h) in (both.0, inr both.1)) next (pushed ∙ rw (counts differ, x-old, y-time) refl) (omega (arith, left-over)) same
+            known_table (known-more took gone rest_known differ more now known_table raised_k)
 
         -- or one whose time is as it was stored
-        pub part-same : x ≡ y → IsPart g order old first before start new less changed count
-        part-same e =
+        pub part-same : x ≡ y → (took : AskedTable) → entry_of took k ≡ None → ((q : Key) → is_same k q ≡ false → entry_of took q ≡ entry_of table q) → IsPart g order old first before start new less took changed count
+        part-same e took gone rest_known =
             let room = part.room in
             part-more less refl (λ q h. inl h) (λ q h. (h, inl e)) changed (sym (append-nil changed.items) ∙ rw (counts-not e) refl) (omega (arith, left-over)) refl
+            took (known-same took gone rest_known e)
 
         pub part-differs-smaller : (more : Marked) → ((q : Key) → is_marked more q ≡ (is_marked less q || list_any (λ (e : Edge). is_same e.to q && may_change x y e) (edges_from g n))) → ahead_by order more.keys < ahead_by order marks.keys
         part-differs-smaller more marked =

@@ -3,3 +3,4 @@ pub mod TimesFor
 pub mod Settling
 pub mod Unsettled
 pub mod Reads
+pub mod Asked

@@ -2,6 +2,7 @@
 //! keys.
 #![tactic(auto)]
 
+mod asked;
 mod settling;
 pub mod successors;
 pub mod time_changes;

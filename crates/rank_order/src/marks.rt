@@ -136,22 +136,25 @@ impl Marks {
         let _ = &self.keys;
     }
 
-    /// Marks an event. It takes no memory.
-    pub fn set(&mut self, k: &Key)
+    /// Marks an event, and answers whether it is sure that it was not marked. It takes no memory.
+    pub fn set(&mut self, k: &Key) -> bool
         requires room { is_marked self.old k.now ≡ false → length self.old.keys < self.old.room }
         ensures room { self.new.room ≡ self.old.room }
         ensures marked { (q : AKey) → is_marked self.new q
             ≡ (is_same k.now q || is_marked self.old q) }
+        ensures fresh { result ≡ true → is_marked self.old k.now ≡ false }
     {
         let Some(place) = free_place(&self.keys, k) else {
-            return;
+            return false;
         };
+        let fresh = self.late.is_empty();
         if set_far(&mut self.late, place, self.keys.len(), k) {
-            return;
+            return fresh;
         }
         // There is room, so that it succeeds.
         let _ = self.keys.insert(place, *k);
         gather_if_full(&mut self.keys, &mut self.late, &mut self.spare);
+        fresh
     }
 
     /// Takes out the least marked key. There is none exactly where no event is marked.

@@ -9,4 +9,4 @@ returns-clause-after g c =
     rw (t, same_node-itself n) refl
 
 pub returns-clause-has_times : goal.returns-clause-has_times
-returns-clause-has_times g c = λ st h. rw c.write.ensures.stored (write-fits st c.args.times.now c.node-2.result c.local_at-is.result h)
+returns-clause-has_times g c = λ st h. rw c.write.ensures.stored (write-fits st c.args.times.now c.node-2.result c.local_by-is.result h)

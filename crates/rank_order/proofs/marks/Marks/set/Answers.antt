@@ -1,8 +1,10 @@
-use Rattle.std.proofs.Common.{◌≡◌, ◌<◌, ◌||◌, ◌++◌, ◌∙◌, ap, arith, false, length, subst, sym}
+use Rattle.std.proofs.Common.{◌≡◌, ◌<◌, ◌||◌, ◌++◌, ◌∙◌, [], List, ap, arith, false, length, subst, sym}
 use Rattle.std.specs.List.{insert}
+use Rattle.mt_base.specs.declared.keys.Key.{Key}
 use Rattle.mt_base.specs.Order.{is_same}
 use Rattle.rank_order.specs.InOrder.{in_order}
-use Rattle.rank_order.specs.Marked.{Marked, has_key}
+use Rattle.rank_order.specs.Marked.{Ascends, Marked, has_key}
+use Rattle.rank_order.proofs.OrderLemmas.{in_order-alone}
 use Rattle.rank_order.proofs.GatherLemmas.{put-apart, put-in, still-there}
 use Rattle.rank_order.proofs.marks.Marks.set.Goals as goal
 
@@ -89,3 +91,19 @@ returns-clause-marked c = λ q.
     let put = put-in keys late c.insert.new.self.items c.set_far.new.late place room k c.self.invariant.ascends c.in-Some.ensures.bound c.in-Some.ensures.place c.in-Some.ensures.none c.self.invariant.fits less done (c.set_far.ensures.unset c.if-set_far.false) in
     let new = in_order (c.gather_if_full.new.keys.items ++ c.gather_if_full.new.late) in
     subst (λ (m : Marked). has_key new q ≡ (is_same k q || has_key m.keys q)) c.self.view_is (ap (λ ks. has_key ks q) c.gather_if_full.ensures.keys ∙ put.marks q)
+
+-- a key that is not among those in order is not marked, where there are no late marks
+unmarked-alone : (ks late : List Key) (k : Key) → Ascends ks → late ≡ [] → has_key ks k ≡ false → has_key (in_order (ks ++ late)) k ≡ false
+unmarked-alone ks late k up none free = rw (none, in_order-alone ks up) free
+
+pub returns-then-set_far-clause-fresh : goal.returns-then-set_far-clause-fresh
+returns-then-set_far-clause-fresh c = λ fresh.
+    let keys = c.self.inside.keys.items in
+    let free = unmarked-alone keys c.self.inside.late c.args.k.now c.self.invariant.ascends (c.is_empty-fresh.ensures fresh) c.in-Some.ensures.none in
+    subst (λ (m : Marked). has_key m.keys c.args.k.now ≡ false) c.self.view_is free
+
+pub returns-clause-fresh : goal.returns-clause-fresh
+returns-clause-fresh c = λ fresh.
+    let keys = c.self.inside.keys.items in
+    let free = unmarked-alone keys c.self.inside.late c.args.k.now c.self.invariant.ascends (c.is_empty-fresh.ensures fresh) c.in-Some.ensures.none in
+    subst (λ (m : Marked). has_key m.keys c.args.k.now ≡ false) c.self.view_is free
