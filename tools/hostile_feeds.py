@@ -201,7 +201,7 @@ def growing_feeds():
     )
     for make in (trips, equal_names, calls, one_train, transfers, rules, calendars, long_names, columns, padded):
         yield title(make), make
-    for make in (forbidden, moved, cancelled, reported, waited_for):
+    for make in (forbidden, moved, cancelled, reported, waited_for, added, kept, rerouted):
         yield title(make), make
 
 
@@ -293,7 +293,6 @@ def rerouted(n):
     return Case(input=[lines], output=[answers], words=["--spare-calls=40000"], tables={"waiting_rules.txt": None})
 
 
-KNOWN = (added, kept, rerouted)
 LARGEST = ((trips, 4), (calls, 2), (calendars, 8), (columns, 4))
 
 
