@@ -2,9 +2,10 @@
 use Rattle.call_lines.proofs.Words.{slice_get-set_same, slice_get-set_other, ◌≡◌, ◌≢◌, ℕ, zero, suc, ◌+◌, ◌-◌, ◌<◌, ◌≤◌, List, ◌∷◌, length, get_or, map, refl}
 use Rattle.call_lines.proofs.Words.{◌∙◌, arith, Option, Some, slice_get, set, slice_get-get_or, slice_get_within, length-set, cases_eq}
 use Rattle.call_lines.proofs.Words.{inl, inr, option_or, StoredCall, walk, call_of, call_report, report_of, next_report_of, All, slice_get_cases, slice_get_past}
+use Rattle.call_lines.proofs.Words.{None, drop, get_or_from_slice_get, length-drop, IsKnownFrom}
 use Rattle.call_lines.proofs.Words.{IsLineCall, IsPlaced, HasNextReports, IsRenewed, IsRenewedCall, IsLine, HasDistinctLabels, AreKnown, Call, [], same-gets, sym, subst, slice_get-map}
-use Rattle.std.proofs.lemmas.Option.{get_or_from_slice_get}
-use Rattle.call_lines.proofs.TrainLines.{line-at}
+use Rattle.call_lines.proofs.CallPlaces.{get-drop}
+use Rattle.call_lines.proofs.TrainLines.{line-at, line-length, same-within, walked}
 
 abbrev Alike : ℕ → List StoredCall → List StoredCall → Type 0
 Alike train old new = (i : ℕ) (x : StoredCall) → slice_get old i ≡ Some x → IsRenewedCall train old new i x
@@ -40,6 +41,46 @@ pub record IsPartlyRenewed (train len todo : ℕ) (at : ℕ → ℕ) (old new : 
   pub next_is : next ≡ report_of (map call_of (walk new (len - todo) (at todo)))
   pub places : (j : ℕ) (x : StoredCall) → slice_get (walk new (len - todo) (at todo)) j ≡ Some x → x.place ≡ todo + j
   pub reports : HasNextReports (walk new (len - todo) (at todo))
+
+-- the calls of a line from a place on
+rest-of : {train first last len : ℕ} {cs : List StoredCall} (h : IsLine train first last len cs) (place : ℕ) → place ≤ len → drop place (walk cs len first) ≡ walk cs (len - place) (h.at place)
+rest-of {train} {first} {last} {len} {cs} h place l =
+    let all = rw h.begins at (line-length cs train len h.at h.calls) in
+    let rest = walked cs train len h.at h.calls (len - place) place (h.at place) (omega (arith, l)) (λ m. refl) in
+    let by = rw h.begins at (line-at cs train len h.at h.calls) in
+    same-within _ _ (length-drop place (walk cs len first) ∙ (rw all (sym rest.0))) (λ k m.
+    let inside : k < len - place = omega (arith, m, length-drop place (walk cs len first), all) in
+    get-drop place (walk cs len first) k ∙ by (place + k) (omega (arith, inside)) ∙ sym (rest.1 k (place + k) inside refl))
+
+-- where those know their places and the first reports after them, they are gone through as they are
+pub from-known : {train first last len place slot : ℕ} {next : Option ℕ} {cs : List StoredCall} (w : IsKnownFrom train first last len place slot next cs) → IsPartlyRenewed train len place w.line.at cs cs slot next
+from-known {first = first} {len = len} {place = place} {cs = cs} w =
+    let rest = rest-of w.line place w.within in
+    record {
+      within = w.within;
+      same_count = refl;
+      alike = λ i x e. record { now = x; there = e; same = refl; other = λ ne. refl };
+      slot_is = w.slot_is;
+      next_is = rw rest at w.next_is;
+      places = λ j x e. w.places (place + j) x (omega arith) (sym (get-drop place (walk cs len first) j) ∙ (rw (← rest) at e));
+      reports = rw rest at w.reports;
+    }
+
+-- and behind the last of a line is none
+pub known-end : {train first last len : ℕ} {cs : List StoredCall} → IsLine train first last len cs → IsKnownFrom train first last len len last None cs
+known-end {train} {first} {last} {len} {cs} h =
+    let none : len - len ≡ 0 = omega arith in
+    let rest = rest-of {train = train} {last = last} h len (omega arith) in
+    let empty : drop len (walk cs len first) ≡ [] = rw none at rest in
+    let count = rw h.begins at (line-length cs train len h.at h.calls) in
+    record {
+      line = h;
+      within = omega arith;
+      slot_is = λ l. sym h.ends;
+      next_is = rw empty refl;
+      places = λ k x l e. absurd (omega (arith, l, count, slice_get_within (walk cs len first) k x e));
+      reports = rw empty tt;
+    }
 
 module _ {train first last len : ℕ} {old : List StoredCall} (h : IsLine train first last len old) {todo slot : ℕ} {new : List StoredCall} {next : Option ℕ} (w : IsPartlyRenewed train len todo h.at old new slot next) (q : ℕ) (step : todo ≡ suc q) where
   -- the call before the place, and what stands in its slot now

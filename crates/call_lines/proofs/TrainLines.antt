@@ -36,7 +36,7 @@ same-within xs ys e h = same-gets xs ys (λ k. grind (arith, h k, slice_get_past
 
 module _ (cs : List StoredCall) (train len : ℕ) (at : ℕ → ℕ) (calls : (place : ℕ) → place < len → IsLineCall cs train len at place) where
   -- a walk along it finds so many calls, those in the slots of the places
-  walked : (n j s : ℕ) → j + n ≤ len → (0 < n → s ≡ at j) → (length (walk cs n s) ≡ n) × ((k i : ℕ) → k < n → i ≡ j + k → slice_get (walk cs n s) k ≡ slice_get cs (at i))
+  pub walked : (n j s : ℕ) → j + n ≤ len → (0 < n → s ≡ at j) → (length (walk cs n s) ≡ n) × ((k i : ℕ) → k < n → i ≡ j + k → slice_get (walk cs n s) k ≡ slice_get cs (at i))
   walked zero j s l e = (refl, λ k i m f. absurd (omega arith))
   walked (suc n) j s l e = grind (arith, e, calls j, λ (z : ℕ). walked n (j + 1) z)
 

@@ -1,7 +1,7 @@
 -- The words that the proofs on lines of calls cite, passed on from one place.
 pub use Rattle.call_lines.specs.Calls.{call_named, has_call, label_after, label_before, last_label, values_of}
 pub use Rattle.call_lines.specs.Edits.{edited}
-pub use Rattle.call_lines.specs.Lines.{AreAppended, AreReplaced, AreTakenOut, IsKilled, IsKilledCall, IsLine, IsLineAt, IsLineCall, IsPart, IsPlacedAt}
+pub use Rattle.call_lines.specs.Lines.{AreAppended, AreReplaced, AreTakenOut, IsKilled, IsKilledCall, IsKnownFrom, IsLine, IsLineAt, IsLineCall, IsPart, IsPlacedAt}
 pub use Rattle.call_lines.specs.Linked.{AreKnown, AreLaid, HasNextReports, IsEdited, IsPlaced, IsRenewed, IsRenewedCall}
 pub use Rattle.call_lines.specs.Linked.{call_of, call_report, next_report_of, report_of, walk}
 pub use Rattle.call_lines.specs.Loaded.{by_table, loaded_from, loaded_train, table_call, table_calls}
@@ -34,7 +34,7 @@ pub use Rattle.std.proofs.lemmas.Bool.Decides.{nat_tests}
 pub use Rattle.std.proofs.lemmas.Grind.{common_steps, elements}
 pub use Rattle.std.proofs.lemmas.List.{get_or-map, get_or-set_same, length-append, length-drop, length-map, length-set, length-take-le, length_push, take-append-drop}
 pub use Rattle.std.proofs.lemmas.List.Elements.{All-drop}
-pub use Rattle.std.proofs.lemmas.Option.{gets, slice_get-get_or, slice_get-map, slice_get_cases, slice_get_past, slice_get_read}
+pub use Rattle.std.proofs.lemmas.Option.{get_or_from_slice_get, gets, slice_get-get_or, slice_get-map, slice_get_cases, slice_get_past, slice_get_read}
 pub use Rattle.std.proofs.lemmas.Option.{slice_get_within}
 pub use Rattle.std.specs.List.{list_any}
 pub use Rattle.std.specs.Option.{option_map, option_map_or, option_or}

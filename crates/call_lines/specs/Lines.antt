@@ -1,12 +1,12 @@
 -- The line of a train: the slots of its calls, by their places.
-use Rattle.std.specs.Prelude.{◌≡◌, ℕ, ◌+◌, ◌-◌, ◌<◌, ◌≤◌, ◌&&◌, not, nat_eq, nat_lt, nat_le, if◌then◌else◌, List, Some, true, false, Bool, length, slice_get, map}
+use Rattle.std.specs.Prelude.{◌≡◌, ℕ, ◌+◌, ◌-◌, ◌<◌, ◌≤◌, ◌&&◌, not, nat_eq, nat_lt, nat_le, if◌then◌else◌, List, Option, Some, true, false, Bool, length, slice_get, map, drop}
 use Rattle.mt_base.specs.declared.new_calls.NewCall.{NewCall}
 use Rattle.delay_model.specs.declared.state.Call.{Call}
 use Rattle.delay_model.specs.Effect.{killed, new_call}
 use Rattle.delay_model.specs.Valid.{HasDistinctLabels}
 use Rattle.call_lines.specs.declared.parts.Part.{Part}
 use Rattle.call_lines.specs.declared.stored_call.StoredCall.{StoredCall}
-use Rattle.call_lines.specs.Linked.{call_of, values_by, walk, IsEdited, IsCurrentAt}
+use Rattle.call_lines.specs.Linked.{call_of, report_of, values_by, walk, HasNextReports, IsEdited, IsCurrentAt}
 use Rattle.event_numbers.specs.Numbering.{NumberedTrain, Numbering, slot_of}
 
 -- the call at a place of a line of so many calls of a train: it leads to the ones beside it by
@@ -48,6 +48,18 @@ abbrev pub IsTrainLine : Numbering → ℕ → ℕ → ℕ → List StoredCall �
 IsTrainLine nb train first len cs =
     (n : NumberedTrain) (last : ℕ) → slice_get nb.trains train ≡ Some n
     → slot_of nb train (n.loaded - 1) ≡ Some last → IsLine train first last len cs
+
+-- of such a line the calls from a place on know their places and the first reports after them; the
+-- one before that place stands in the slot, and `next` is the first report from the place on
+pub record IsKnownFrom (train first last len place slot : ℕ) (next : Option ℕ)
+    (cs : List StoredCall) : Type 0 where
+  pub line : IsLine train first last len cs
+  pub within : place ≤ len
+  pub slot_is : 0 < place → slot ≡ line.at (place - 1)
+  pub next_is : next ≡ report_of (map call_of (drop place (walk cs len first)))
+  pub places : (k : ℕ) (x : StoredCall) → place ≤ k → slice_get (walk cs len first) k ≡ Some x
+      → x.place ≡ k
+  pub reports : HasNextReports (drop place (walk cs len first))
 
 -- a part of a train: the calls in two slots, which stand at two places of its line, the one before
 -- the other

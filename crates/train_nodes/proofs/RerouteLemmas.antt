@@ -7,15 +7,14 @@ use Rattle.train_nodes.proofs.Words.{slice_get-set_other, slots-from, AreReplace
 use Rattle.train_nodes.proofs.Words.{Numbering, slots_from, with_more, names_removed, first_slot, line_of, train_by, seen, AreLabelled, IsStored}
 use Rattle.train_nodes.proofs.Words.{IsTrainStored, Overrides, TrainRecord, Part, StoredCall, Inside, effect, get-old, IsSplice, spliced, spliced-begins}
 use Rattle.train_nodes.proofs.Words.{spliced-calls, spliced-ends, spliced-last, spliced-line, line-length, slice_get_within, line-of, renewed-line, some-of}
-use Rattle.train_nodes.proofs.Words.{HasNextReports, call_report, line-at, next_report_of, option_or, ◌∙◌}
+use Rattle.train_nodes.proofs.Words.{AreKnown, line-at, ◌∙◌}
 use Rattle.train_nodes.proofs.Words.{nat_tests, begins, ends, length-map, nat_eq-same, nat_eq-apart, one-of}
 use Rattle.std.proofs.Common.{add-one}
 use Rattle.std.proofs.lemmas.Grind.{elements}
 use Rattle.event_numbers.proofs.ListLemmas.{change-get}
 use Rattle.train_nodes.proofs.ChangeLemmas.{IsTrainChange, change-anew, change-stored}
 use Rattle.train_nodes.proofs.FoundParts.{IsFoundPart, among-test, found-part, part-found, removed-left}
-use Rattle.train_nodes.proofs.StoredLemmas.{line-by, row-last, row-of, row-calls, one-changed}
-use Rattle.call_lines.specs.Linked.{AreKnown}
+use Rattle.train_nodes.proofs.StoredLemmas.{line-by, next-told, row-last, row-of, row-calls, one-changed}
 
 -- labels differ where new calls, with labels that are all greater, stand in place of some in between
 joined-distinct : (first last next : ℕ) (via : List NewCall) (cs : List Call) → first ≤ last → last < length cs → HasDistinctLabels cs → All (λ c. c.label < next) cs → HasDistinctLabels (take first cs ++ (new_calls next via ++ drop last cs))
@@ -28,15 +27,6 @@ joined-distinct (suc first) (suc last) next via (c ∷ cs) l m h below =
     let own : c.label < next = below 0 c (omega arith) in
     (grind (arith, elements, own, numbered-new next via, h.0), joined-distinct first last next via cs (omega arith) (omega arith) h.1 (λ k d l. below (suc k) d (omega arith)))
 joined-distinct first last next via cs l m h below = absurd (omega arith)
-
--- the first report after a call by what the next one tells
-next-told : (xs : List StoredCall) (k j : ℕ) (x y : StoredCall) → j ≡ suc k → HasNextReports xs → slice_get xs k ≡ Some x → slice_get xs j ≡ Some y → next_report_of x ≡ option_or (call_report (call_of y)) (next_report_of y)
-next-told [] k j x y is h e f = absurd (cc)
-next-told (u ∷ xs) k zero x y is h e f = absurd (omega arith)
-next-told (u ∷ []) k (suc j) x y is h e f = absurd (cc)
-next-told (u ∷ v ∷ xs) zero (suc zero) x y is h e f = grind (arith, h.0, h.1.0, e, f)
-next-told (u ∷ v ∷ xs) zero (suc (suc j)) x y is h e f = absurd (omega arith)
-next-told (u ∷ v ∷ xs) (suc k) (suc j) x y is h e f = next-told (v ∷ xs) k j x y (omega arith) h.1 e f
 
 -- a rerouting of a train: the calls strictly within a part were replaced by new ones, the row tells how many the train makes now, and
 -- each of them knows its place and the first report after it

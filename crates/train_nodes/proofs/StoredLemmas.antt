@@ -6,6 +6,7 @@ use Rattle.train_nodes.proofs.Words.{slice_get_within, slice_get_cases, slice_ge
 use Rattle.train_nodes.proofs.Words.{change_train, change_calls, calls_of, TrainRecord, StoredCall, Inside, call_named, call_of, HasNextReports, IsCurrentAt}
 use Rattle.train_nodes.proofs.Words.{HasNoCurrent, IsRenewed, IsTrainLine, NumberedTrain, slot_of, IsCallAt, IsFirst, Overrides, first_slot, line_of}
 use Rattle.train_nodes.proofs.Words.{train_by, trains_by, seen, IsTrainStored, IsStored, nat_eq-apart, label_of, labels-length, All-labels, distinct-labels}
+use Rattle.train_nodes.proofs.Words.{HasDistinctLabels, call_report, next_report_of, option_or, walk, zero}
 use Rattle.train_nodes.proofs.Words.{at-label, same-gets, get_or, first-cut, IsLineChange, changed-back, last-at, cond, nat_eq, nat_tests}
 
 -- what stands at a place of the trains that are seen
@@ -193,12 +194,16 @@ module _ (a : Inside) (t : ℕ) (g : Call → Call) (ds : List StoredCall) (r : 
   labels-changed : map label_of (map call_of (line_of a.calls.items r.len n)) ≡ map label_of (map call_of (line_of ds r.len n))
   labels-changed = simp map-map (sym (line-maps (λ x. x.label) (λ x. x.label) (λ i x y h m e. grind (arith, k.at i x h, m))))
 
+  -- no two of its calls have one label
+  pub changed-apart : HasDistinctLabels (map call_of (walk ds r.len ((row-stored a t r n w).at 0)))
+  changed-apart = let own = row-stored a t r n w in rw (← own.begins) at (distinct-labels _ _ labels-changed own.labels.distinct)
+
   -- it is a line of the train still
   pub changed-line : IsTrainLine a.slots t (first_slot n) r.len ds
   changed-line m last number slot =
       let own = row-stored a t r n w in
       let ends : own.at (r.len - 1) ≡ last = grind (arith, number, w.number, slot, row-last a t r n w own) in
-      rw (← own.begins, ← ends) (line-of ds t r.len own.at line-changed.calls (rw (← own.begins) at (distinct-labels _ _ labels-changed own.labels.distinct)))
+      rw (← own.begins, ← ends) (line-of ds t r.len own.at line-changed.calls changed-apart)
 
   -- where each call knows its place and the first report after it, it is stored
   changed-stored : IsPlacedAt ds t r.len (row-stored a t r n w).at → HasNextReports (line_of ds r.len n) → IsTrainStored a.slots.spare_calls ds t r.len n
@@ -245,9 +250,23 @@ then-renewed : (t len first : ℕ) (g : Call → Call) (xs mid ys : List StoredC
 then-renewed t len first g xs mid ys w h = record { count = h.same_count ∙ w.count; at = λ i x is. let k = w.at i x is in grind (arith, k, h.alike i k.0 k.1) }
 
 -- calls that were changed and then renewed
+pub renewed-at : (a : Inside) (calls : Vec StoredCall Global) (t : ℕ) (g : Call → Call) (mid : List StoredCall) (r : TrainRecord) (n : NumberedTrain) (w : IsRowAt a t r n) → IsLineChange t g a.calls.items mid → IsRenewed t ((row-stored a t r n w).at 0) r.len mid calls.items → vec_capacity calls ≡ vec_capacity a.calls → IsEdit a calls t g r n
+renewed-at a calls t g mid r n w k done capacity =
+    let own = row-stored a t r n w in
+    let placed = renewed-line mid calls.items t r.len own.at (line-changed a t g mid r n w k) done in
+    record { of = w; change = then-renewed t r.len (own.at 0) g a.calls.items mid calls.items k done; capacity = capacity; placed = placed; reports = rw own.begins at done.reports }
+
+-- the same where any line of the train is renewed
 pub renewed-edit : (a : Inside) (calls : Vec StoredCall Global) (t len : ℕ) (g : Call → Call) (mid : List StoredCall) (r : TrainRecord) (n : NumberedTrain) → IsRowAt a t r n → IsLineChange t g a.calls.items mid → len ≡ r.len → ((first : ℕ) → IsTrainLine a.slots t first len mid → IsRenewed t first len mid calls.items) → vec_capacity calls ≡ vec_capacity a.calls → IsEdit a calls t g r n
 renewed-edit a calls t len g mid r n w k e renew capacity =
-    let own = row-stored a t r n w in
     let done = (rw e at renew) (first_slot n) (changed-line a t g mid r n w k) in
-    let placed = renewed-line mid calls.items t r.len own.at (line-changed a t g mid r n w k) (rw (← own.begins) at done) in
-    record { of = w; change = then-renewed t r.len (first_slot n) g a.calls.items mid calls.items k done; capacity = capacity; placed = placed; reports = done.reports }
+    renewed-at a calls t g mid r n w k (rw (← (row-stored a t r n w).begins) at done) capacity
+
+-- the first report after a call by what the next one tells
+pub next-told : (xs : List StoredCall) (k j : ℕ) (x y : StoredCall) → j ≡ suc k → HasNextReports xs → slice_get xs k ≡ Some x → slice_get xs j ≡ Some y → next_report_of x ≡ option_or (call_report (call_of y)) (next_report_of y)
+next-told [] k j x y is h e f = absurd (cc)
+next-told (u ∷ xs) k zero x y is h e f = absurd (omega arith)
+next-told (u ∷ []) k (suc j) x y is h e f = absurd (cc)
+next-told (u ∷ v ∷ xs) zero (suc zero) x y is h e f = grind (arith, h.0, h.1.0, e, f)
+next-told (u ∷ v ∷ xs) zero (suc (suc j)) x y is h e f = absurd (omega arith)
+next-told (u ∷ v ∷ xs) (suc k) (suc j) x y is h e f = next-told (v ∷ xs) k j x y (omega arith) h.1 e f

@@ -11,8 +11,8 @@ pub use Rattle.call_lines.proofs.RenewLemmas.{calls-alike}
 pub use Rattle.call_lines.proofs.RerouteLines.{IsSplice, spliced, spliced-begins, spliced-calls, spliced-ends, spliced-last, spliced-line}
 pub use Rattle.call_lines.proofs.TrainLines.{line-at, line-length, line-of, one-of, placed-at, renewed-line, same-within, some-of}
 pub use Rattle.call_lines.specs.Calls.{call_named, first_label, label_after, label_before, last_label}
-pub use Rattle.call_lines.specs.Lines.{IsTrainLine, AreReplaced, HasNoPart, IsKilled, IsLineAt, IsLineCall, IsPart, IsPartOf, IsPlacedAt, killed_by}
-pub use Rattle.call_lines.specs.Linked.{AreLaid, HasNextReports, HasNoCurrent, IsCurrentAt, IsEdited, IsLaid, IsRenewed, call_of}
+pub use Rattle.call_lines.specs.Lines.{IsTrainLine, AreReplaced, HasNoPart, IsKilled, IsKnownFrom, IsLineAt, IsLineCall, IsPart, IsPartOf, IsPlacedAt, killed_by}
+pub use Rattle.call_lines.specs.Linked.{AreKnown, AreLaid, HasNextReports, HasNoCurrent, IsCurrentAt, IsEdited, IsLaid, IsRenewed, call_of}
 pub use Rattle.call_lines.specs.Linked.{call_report, is_between, live_report, next_report_of, report_of, walk}
 pub use Rattle.call_lines.specs.Loaded.{by_table, call_at, loaded_from, loaded_train, with_train}
 pub use Rattle.call_lines.specs.Places.{AreInOrder, IsFirst}
@@ -45,7 +45,7 @@ unfoldable pub use Rattle.mt_base.specs.Order.{is_same_node}
 pub use Rattle.mt_base.specs.declared.keys.Node.{Node}
 pub use Rattle.mt_base.specs.declared.new_calls.NewCall.{NewCall}
 pub use Rattle.std.proofs.Common.{All, Bool, IsTrue, List, MatchOption, None, Option, Some, [], ap, append_assoc, arith, cond, drop, false, find}
-pub use Rattle.std.proofs.Common.{get_or, inl, inr, is_some, length, map, nat_eq, nat_le, nat_lt, not, refl, slice_get, suc, sym, take, true}
+pub use Rattle.std.proofs.Common.{get_or, inl, inr, is_some, length, map, nat_eq, nat_le, nat_lt, not, refl, slice_get, subst, suc, sym, take, true}
 pub use Rattle.std.proofs.Common.{vec_capacity, zero, ℕ, ◌&&◌, ◌++◌, ◌+◌, ◌-◌, ◌<◌, ◌^◌, ◌||◌, ◌∙◌, ◌∷◌, ◌≡◌, ◌≢◌, ◌≤◌, ◌⊎◌}
 pub use Rattle.std.proofs.Math.ListN.{set}
 pub use Rattle.std.proofs.lemmas.Bool.{cases_Bool, cases_eq, cases_lt, eq-eqb}

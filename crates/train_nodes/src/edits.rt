@@ -6,7 +6,7 @@ ghost use Rattle.delay_model.specs.Effect.{with_event, with_forecast, with_repor
 
 use crate::trains::Trains;
 use call_lines::calls::Edit;
-use call_lines::line::{current_slot, renew_train};
+use call_lines::line::{current_slot, renew_before};
 use mt_base::keys::Node;
 use mt_base::numbers::Time;
 
@@ -28,8 +28,7 @@ impl Trains {
     {
         if let Some(slot) = current_slot(&self.calls, &self.slots, n.train, n.label) {
             self.calls[slot as usize].edit(n.dep, Edit::Report(report));
-            let len = self.records[n.train.get() as usize].len;
-            renew_train(&mut self.calls, &self.slots, n.train, len);
+            renew_before(&mut self.calls, slot);
         }
     }
 

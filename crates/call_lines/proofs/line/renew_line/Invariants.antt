@@ -1,4 +1,4 @@
-use Rattle.call_lines.proofs.Words.{◌≡◌, ℕ, vec_capacity, IsLine}
+use Rattle.call_lines.proofs.Words.{◌≡◌, ℕ, vec_capacity, IsKnownFrom}
 use Rattle.call_lines.proofs.RenewLemmas.{IsPartlyRenewed, StaysBelow}
 use Rattle.call_lines.proofs.line.renew_line.Given as goal
 
@@ -6,6 +6,6 @@ use Rattle.call_lines.proofs.line.renew_line.Given as goal
 abbrev pub invariant-loop-place : goal.invariant-loop-place
 invariant-loop-place l =
     (vec_capacity l.calls ≡ vec_capacity l.fn.calls)
-    × ((train first : ℕ) (h : IsLine train first l.fn.last l.fn.len l.fn.calls.items)
-    → IsPartlyRenewed train l.fn.len l.place h.at l.fn.calls.items l.calls.items l.slot l.next_report
-    × StaysBelow l.place h.at l.fn.calls.items l.calls.items)
+    × ((train first to len : ℕ) (w : IsKnownFrom train first to len l.fn.end l.fn.last l.fn.behind l.fn.calls.items)
+    → IsPartlyRenewed train len l.place w.line.at l.fn.calls.items l.calls.items l.slot l.next_report
+    × StaysBelow l.place w.line.at l.fn.calls.items l.calls.items)
