@@ -1,3 +1,4 @@
 pub mod ChoiceLemmas
 pub mod ConnectionLemmas
+pub mod RoomLemmas
 pub mod ValueLemmas

@@ -7,4 +7,4 @@ pub mod connections;
 pub mod values;
 
 pub use connections::{apply_choice, check_choice};
-pub use values::{apply_value, check_value};
+pub use values::{apply_value, check_value_of_valid};
