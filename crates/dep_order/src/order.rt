@@ -240,6 +240,36 @@ impl DepartureOrder {
         }
     }
 
+    /// Lets the train do something else after the departure that has a number: it arrives at a stop
+    /// at a time, in seconds from the base of day 0, and goes on from there with the departure of
+    /// another call.
+    pub fn set_onward(
+        &mut self,
+        number: u32,
+        departure: &Departure,
+        to: StopNo,
+        arrival: Time,
+        next: Label,
+    )
+        requires { held self.old.entries number ≡ Some departure.now }
+        ensures onwards { (n : ℕ) (d : ADeparture) → held self.old.entries n ≡ Some d
+            → onward_at self.new n
+            ≡ (if is_of_call departure.now.key.train departure.now.key.label d then record {
+              arrival = arrival;
+              to = to;
+              next = number_or_past self.old.entries departure.now.key.train next;
+            } else onward_at self.old n) }
+        ensures departures { self.new.departures ≡ self.old.departures }
+        ensures entries { self.new.entries ≡ self.old.entries }
+        ensures used { self.new.used ≡ self.old.used }
+        ensures room { KeepsRoom self.old self.new }
+    {
+        self.numbered.numbers_are_lawful();
+        let next = self.number_or_past(departure.key.train, next);
+        self.numbered
+            .set_onward(number, &Onward { arrival, to, next });
+    }
+
     /// What the train does after its departure from a call, if there is such a departure.
     pub fn onward_after(&self, t: TrainNo, l: Label) -> Option<Onward>
         ensures { result ≡ option_map (onward_at self.now) (number_of self.now.entries t l) }

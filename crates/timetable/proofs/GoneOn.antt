@@ -14,7 +14,7 @@ use Rattle.timetable.specs.Settled.{HasItsTime, IsSettled, live_keys}
 use Rattle.propagate.proofs.{Ordered.live-keyed}
 use Rattle.timetable.proofs.CarriedLemmas.{AreNumbered, GoesOn, goes-on, held-live, numbered-next}
 use Rattle.timetable.proofs.HeldLemmas.{held-within, of-call, is-of-call}
-use Rattle.timetable.proofs.LinkLemmas.{renewed-then, room-same, room-then}
+use Rattle.timetable.proofs.LinkLemmas.{room-same, room-then}
 use Rattle.timetable.proofs.LiveCalls.{call-event, key_at}
 
 -- a number that stands beside a departure was given, or no departure ever has it
@@ -49,13 +49,18 @@ given-within o w fits (inl less) = omega arith
 given-within o w fits (inr same) = omega arith
 
 -- so what stands beside the departure of a call is renewed
-pub stored-one : (nw : Network) (st : State) (times : StoredTimes) (t l next time to : ℕ) (a b c : Ordered) → label_after (calls_of st t) l ≡ Some next → time_of times (node_at t next false) ≡ Some time → to ≡ alighting_stop nw st t next → AreRenewed (λ d o. cond (is_of_call t l d) (record o { to = to; next = number_or_past a.entries t next }) o) a b → AreRenewed (λ d o. cond (is_of_call t l d) (record o { arrival = time }) o) b c → AreRenewed (with_stored nw st times a.entries t l) a c
-stored-one nw st times t l next time to a b c after stored stop links arrival =
-    renewed-then (λ d o. cond (is_of_call t l d) (record o { to = to; next = number_or_past a.entries t next }) o) (λ d o. cond (is_of_call t l d) (record o { arrival = time }) o) (with_stored nw st times a.entries t l) a b c
-    (λ d o. elim (cases_Bool (is_of_call t l d)) [
-      | inl hit ↦ rw (after, hit, stored, stop) refl
-      | inr miss ↦ rw (after, miss) refl
-    ]) links arrival
+pub stored-one : (nw : Network) (st : State) (times : StoredTimes) (t l next time to : ℕ) (a b : Ordered) → label_after (calls_of st t) l ≡ Some next → time_of times (node_at t next false) ≡ Some time → to ≡ alighting_stop nw st t next
+    → AreRenewed (λ d o. cond (is_of_call t l d) (record { arrival = time; to = to; next = number_or_past a.entries t next }) o) a b → AreRenewed (with_stored nw st times a.entries t l) a b
+stored-one nw st times t l next time to a b after stored stop told = record {
+  onwards = λ n d there. told.onwards n d there ∙ elim (cases_Bool (is_of_call t l d)) [
+    | inl hit ↦ rw (after, hit, stored, stop) refl
+    | inr miss ↦ rw (after, miss) refl
+  ];
+  departures = told.departures;
+  entries = told.entries;
+  used = told.used;
+  room = told.room;
+}
 
 stored-other : (nw : Network) (st : State) (times : StoredTimes) (es : List (Option Departure)) (t l : ℕ) (d : Departure) (o : Onward) → is_of_call t l d ≡ false → with_stored nw st times es t l d o ≡ o
 stored-other nw st times es t l d o miss = grind arith

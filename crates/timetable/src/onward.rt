@@ -1,11 +1,12 @@
 //! What stands beside each departure: where and when its train arrives next, and the number of its
 //! departure from there.
 
-ghost use Rattle.std.specs.Prelude.{◌≡◌, ◌<◌, ◌≤◌, None, All, IsTrue, length};
+ghost use Rattle.std.specs.Prelude.{◌≡◌, ◌<◌, ◌≤◌, None, Some, All, IsTrue, length};
 ghost use Rattle.delay_model.specs.Refusals.{refusal};
 ghost use Rattle.delay_model.specs.Valid.{IsValid};
 ghost use Rattle.train_nodes.specs.Calls.{has_call};
 ghost use Rattle.train_nodes.specs.Kinds.{message_of_shape};
+ghost use Rattle.dep_order.specs.Departing.{held};
 ghost use Rattle.dep_order.specs.Ordered.{KeepsRoom};
 ghost use Rattle.timetable.specs.Carried.{IsCarriedTo, IsNoted};
 ghost use Rattle.timetable.specs.Departures.{live_departures};
@@ -17,7 +18,7 @@ ghost use Rattle.timetable.specs.Linking.{with_noted, with_shape_linked, with_st
 ghost use Rattle.timetable.specs.Onward.{IsDepartureOrder};
 ghost use Rattle.timetable.specs.Settled.{IsSettled};
 
-use dep_order::DepartureOrder;
+use dep_order::{Departure, DepartureOrder};
 use edge_rules::Graph;
 use mt_base::keys::Node;
 use mt_base::numbers::{Label, StopNo, Time, TrainNo};
@@ -223,25 +224,26 @@ pub(crate) fn noted_arrival(departures: &DepartureOrder, g: &Graph, m: &Msg) -> 
     }
 }
 
-/// Lets where a train goes on to from a call stand beside its departure, with the time that is
+/// Lets where a train goes on to stand beside its departure that has a number, with the time that is
 /// stored for its arrival there.
 fn go_on<L: Ledger>(
     departures: &mut DepartureOrder,
     g: &Graph,
     times: &NodeTimes,
-    t: TrainNo,
-    l: Label,
+    number: u32,
+    d: &Departure,
     steps: &mut Steps<L>,
 )
-    requires call { IsTrue (has_call g.now.state t l) }
-    requires time { HasNextTime g.now.state times.now t l }
+    requires there { held departures.old.entries number ≡ Some d.now }
+    requires call { IsTrue (has_call g.now.state d.now.key.train d.now.key.label) }
+    requires time { HasNextTime g.now.state times.now d.now.key.train d.now.key.label }
     ensures { AreRenewed (with_stored g.now.network g.now.state times.now departures.old.entries
-        t l) departures.old departures.new }
+        d.now.key.train d.now.key.label) departures.old departures.new }
 {
-    if let Some(next) = g.trains().next_call(t, l) {
+    let t = d.key.train;
+    if let Some(next) = g.trains().next_call(t, d.key.label) {
         let time = times.read(Node::arrival(t, next), steps);
-        departures.set_links(t, l, alighting_stop(g, t, next), next);
-        departures.set_arrival(t, l, time);
+        departures.set_onward(number, d, alighting_stop(g, t, next), time, next);
     }
 }
 
@@ -263,7 +265,7 @@ pub(crate) fn go_on_all<L: Ledger>(
     departures.departures_are_in_order();
     for number in 0..departures.numbers() {
         if let Some(d) = departures.departure(number) {
-            go_on(departures, g, times, d.key.train, d.key.label, steps);
+            go_on(departures, g, times, number, &d, steps);
         }
     }
 }

@@ -7,6 +7,9 @@ use Rattle.timetable.proofs.onward.go_on_all.Goals as goal
 pub loop-number-init : goal.loop-number-init
 loop-number-init g c = none-gone c.args.g.now.network c.args.g.now.state c.args.departures.now
 
+pub go_on-requires-clause-there : goal.go_on-requires-clause-there
+go_on-requires-clause-there g c = sym c.departure.ensures ∙ c.in-Some.is
+
 pub go_on-requires-clause-call : goal.go_on-requires-clause-call
 go_on-requires-clause-call g c =
     let law = c.departures_are_in_order.ensures in
