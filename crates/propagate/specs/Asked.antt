@@ -35,7 +35,7 @@ later_asked a b = record { before = max a.before b.before; after = max a.after b
 
 -- the slot of an event of this key
 abbrev pub slot_of : Key → ℕ
-slot_of k = (k.train + k.label) % 128
+slot_of k = (k.train + k.label) % 32
 
 -- what is asked of the event of this key, if that is in a slot with this entry
 abbrev pub asked_in : Option Entry → Key → Option Asked

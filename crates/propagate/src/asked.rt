@@ -95,7 +95,7 @@ fn raised(entry: Option<Entry>, k: &Key, more: Asked, fresh: bool) -> Option<Ent
 }
 
 /// How many slots there are.
-const SLOTS: usize = 128;
+const SLOTS: usize = 32;
 
 /// What is asked of some of the events that are marked. Each has one slot where that may stand, by
 /// its name.
@@ -107,7 +107,7 @@ pub(crate) struct AskedTable {
 /// The slot of an event.
 fn slot_of(k: &Key) -> usize
     ensures slot { result ≡ slot_of k.now }
-    ensures within { result < 128 }
+    ensures within { result < 32 }
 {
     (k.train.get() as usize + k.label.get() as usize) % SLOTS
 }

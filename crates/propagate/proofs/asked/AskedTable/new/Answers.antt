@@ -11,4 +11,4 @@ blank (suc n) zero = refl
 blank (suc n) (suc i) = blank n i
 
 pub returns : goal.returns
-returns c = λ q. ap (λ o. asked_in o q) (blank 128 (slot_of q))
+returns c = λ q. ap (λ o. asked_in o q) (blank 32 (slot_of q))
