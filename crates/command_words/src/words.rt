@@ -19,25 +19,27 @@ use std::alloc::{AllocError, Global};
 /// What the program is asked to do with a feed.
 #[derive(Clone, Copy, Debug, PartialEq, Eq)]
 pub enum Command {
-    /// Answers each line at once, and writes the table of all times at the end.
+    /// Answers each line before it waits for more, and writes the table of all times at the end.
     Times,
 
     /// Answers queries in several threads while the messages are applied.
     Serve,
 
-    /// Answers each line at once, each query with what shows that its answer is right, and says of
-    /// each claim whether what comes with it shows that it is right.
+    /// Answers each line before it waits for more, each query with what shows that its answer is
+    /// right, and says of each claim whether what comes with it shows that it is right.
     Check,
 
-    /// Answers each line at once, each query with all best plans by arrival and number of rides.
+    /// Answers each line before it waits for more, each query with all best plans by arrival and
+    /// number of rides.
     Plans,
 
-    /// Answers each line at once, and watches the journey that it shows to a query: behind the
-    /// reply to an accepted message it tells of each watched journey whose standing changes.
+    /// Answers each line before it waits for more, and watches the journey that it shows to a query:
+    /// behind the reply to an accepted message it tells of each watched journey whose standing
+    /// changes.
     Watch,
 
-    /// Answers each line at once, and questions for the next departures of a station and for what
-    /// decides the time of an event.
+    /// Answers each line before it waits for more, and questions for the next departures of a
+    /// station and for what decides the time of an event.
     Desk,
 
     /// Writes the journal of the messages that are accepted, and no replies.

@@ -134,10 +134,10 @@ fn answer_words<T: AnswerLines<C>, L: LoadBehind<C>, C: Drop, F: Feed, S: Source
 /// All that the program does for a command that answers line by line, by the words and options of
 /// `times`: it reads the tables of the feed and, where `L` says so, a table of the feed's folder
 /// that is the command's own, and begins with what it makes of them, or refuses them. Then it
-/// answers each line of the input at once, as `T` says, with what stands before the first line and
-/// behind the last. Whatever it begins with, the service and what is kept have to fit each other as
-/// `T` says. It stops where `budget` bytes of the input were taken and no end was read. It waits for
-/// nobody and returns.
+/// answers each line of the input before more of it is read, as `T` says, with what stands before
+/// the first line and behind the last. Whatever it begins with, the service and what is kept have to
+/// fit each other as `T` says. It stops where `budget` bytes of the input were taken and no end was
+/// read. It waits for nobody and returns.
 pub fn run_lines<
     T: AnswerLines<C>,
     L: LoadBehind<C>,
@@ -170,9 +170,9 @@ pub fn run_lines<
 }
 
 /// All that the program does for `times`. It reads the tables of the feed, answers each line of the
-/// input at once, and at the end of the input writes the table of all times. A query is answered by
-/// the times after the messages of the lines before it. It stops where `budget` bytes of the input
-/// were taken and no end was read. It waits for nobody and returns.
+/// input before more of it is read, and at the end of the input writes the table of all times. A
+/// query is answered by the times after the messages of the lines before it. It stops where `budget`
+/// bytes of the input were taken and no end was read. It waits for nobody and returns.
 pub fn run_times<F: Feed, S: Source, K: Sink, E: Sink>(
     alloc: Global,
     words: &[String],

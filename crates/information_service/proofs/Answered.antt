@@ -7,8 +7,9 @@ use Rattle.mt_io.specs.Reader.{IsDone}
 use Rattle.mt_io.specs.Runs.{fresh}
 use Rattle.mt_io.specs.declared.lines.Next.{Next}
 use Rattle.information_service.specs.Answering.{Answering, AreAnsweredBy, AreFirstAnswers, IsBeginning, IsWhole, LineOutput}
-use Rattle.information_service.specs.Fronts.{AppendsAll, AppendsAnswer, AppendsAnswerFront, AppendsFirst, AppendsTakenFront, AreAnswered, Begun, IsTaken}
+use Rattle.information_service.specs.Fronts.{AppendsAll, AppendsFirst, AppendsGatheredFront, AppendsTakenFront, AreAnswered, Begun, Gathers, GathersAnswer, IsTaken}
 use Rattle.information_service.proofs.Fronts.{end_was_read, first_lines, first_of, front_after, front_all, front_longer}
+use Rattle.information_service.proofs.Gathering.{front-gathered, front-more-gathered, gathered-none, gathers-on, more-behind}
 use Rattle.information_service.proofs.OneMore.{taken-more, within_new}
 
 -- the same answer, by equal lines before it and an equal state
@@ -45,6 +46,20 @@ nothing-answered A t kept budget r left written new =
       output = Appends-nil written;
     })
 
+-- lines that were taken from the input and answered. Of the answers a front is written, and the rest is gathered
+pub record AreGathered {C : Type 0} (A : Answering C) (first : ServiceState) (kept : C) (now : ServiceState) (kept_now : C) (r : Reader) (left left_now written written_now : Option (List ℕ))
+    (gathered bytes : List ℕ) (lines : List Line) : Type 0 where
+  pub taken : IsTaken r left left_now bytes lines
+  pub shown : List ℕ
+  pub answers : AreAnsweredBy A first kept 0 lines shown now kept_now
+  pub output : Gathers written written_now shown gathered
+
+pub nothing-gathered : {C : Type 0} (A : Answering C) (t : ServiceState) (kept : C) (budget : ℕ) (r : Reader) (left written : Option (List ℕ)) (gathered : List ℕ)
+    → r ≡ fresh budget → gathered ≡ [] → AreGathered A t kept t kept r left left written written gathered [] []
+nothing-gathered A t kept budget r left written gathered new none =
+    let a = nothing-answered A t kept budget r left written new in
+    record { taken = a.taken; shown = []; answers = (refl, refl, refl); output = record { front = []; written = Appends-nil written; all = sym none } }
+
 module _ {C : Type 0} {A : Answering C} {first now : ServiceState} {kept kept_now : C} {old : Reader} {left left_old written written_old : Option (List ℕ)}
     {bytes : List ℕ} {lines : List Line} (a : AreAnswered A first kept now kept_now old left left_old written written_old bytes lines) where
   -- a call that answers no line, and how it leaves the reader
@@ -58,50 +73,77 @@ module _ {C : Type 0} {A : Answering C} {first now : ServiceState} {kept kept_no
         subst (λ (k : Next). LeavesNext k old new) is gives.1,
       )
 
+  -- lines that were answered have begun
+  pub begun-by : {Failed : Type 0} → (Failed → ⊥) → Begun Failed A first kept old left left_old written written_old bytes lines
+  begun-by no_fault = record {
+    taken = a.taken;
+    output = record {
+      first = lines;
+      later = [];
+      shown = a.shown;
+      split = append-nil lines;
+      is = record { now = now; kept_now = kept_now; answers = a.answers };
+      front = front_all no_fault written written_old a.shown a.output;
+    };
+  }
+
+module _ {C : Type 0} {A : Answering C} {first now : ServiceState} {kept kept_now : C} {old : Reader} {left left_old written written_old : Option (List ℕ)}
+    {gathered bytes : List ℕ} {lines : List Line} (a : AreGathered A first kept now kept_now old left left_old written written_old gathered bytes lines) where
+  -- where nothing is gathered, all answers are written
+  pub all-written : gathered ≡ [] → AreAnswered A first kept now kept_now old left left_old written written_old bytes lines
+  all-written none = record { taken = a.taken; shown = a.shown; answers = a.answers; output = gathered-none written written_old a.shown gathered none a.output }
+
+  -- of what was gathered more is written
+  pub written-more : {written_new : Option (List ℕ)} (gathered_new : List ℕ) → Gathers written_old written_new gathered gathered_new
+      → AreGathered A first kept now kept_now old left left_old written written_new gathered_new bytes lines
+  written-more {written_new} gathered_new one = record {
+    taken = a.taken;
+    shown = a.shown;
+    answers = a.answers;
+    output = gathers-on written written_old written_new a.shown gathered gathered gathered_new a.shown a.output one (λ front is. is);
+  }
+
+  -- a front of what was gathered is written
+  pub gathered-begun : {Failed : Type 0} {written_new : Option (List ℕ)} → AppendsFront Failed written_old written_new gathered
+      → Begun Failed A first kept old left left_old written written_new bytes lines
+  gathered-begun {written_new = written_new} front = record {
+    taken = a.taken;
+    output = record {
+      first = lines;
+      later = [];
+      shown = a.shown;
+      split = append-nil lines;
+      is = record { now = now; kept_now = kept_now; answers = a.answers };
+      front = front-gathered written written_old written_new a.shown gathered a.output front;
+    };
+  }
+
   -- a call that answers one line
-  pub line-more : {new : Reader} {left_new written_new : Option (List ℕ)} {next : ServiceState} {kept_next : C} (x : Line) (number : ℕ)
+  pub line-more : {new : Reader} {left_new written_new : Option (List ℕ)} {next : ServiceState} {kept_next : C} (gathered_new : List ℕ) (x : Line) (number : ℕ)
       → (old.ended ≡ true → left_new ≡ left_old) → GivesNext old new left_old left_new (x ∷ [])
-      → number ≡ length lines + 1 → AppendsAnswer A now kept_now number x next kept_next written_old written_new
-      → (all : List ℕ) × AreAnswered A first kept next kept_next new left left_new written written_new all (lines ++ x ∷ [])
-  line-more {written_new = written_new} {next = next} {kept_next = kept_next} x number same gives is one =
+      → number ≡ length lines + 1 → GathersAnswer A now kept_now number x next kept_next written_old written_new gathered gathered_new
+      → (all : List ℕ) × AreGathered A first kept next kept_next new left left_new written written_new gathered_new all (lines ++ x ∷ [])
+  line-more {written_new = written_new} {next = next} {kept_next = kept_next} gathered_new x number same gives is one =
       let more = taken-more a.taken same gives in (
         more.0,
         record {
           taken = more.1;
           shown = a.shown ++ one.text;
           answers = answers-more A first kept 0 lines x a.shown one.text now kept_now next kept_next a.answers (answer-moved A x one.text next kept_next refl refl (omega (arith, is)) one.is);
-          output = Appends-trans written written_old written_new a.shown one.text a.output one.written;
+          output = gathers-on written written_old written_new a.shown gathered (gathered ++ one.text) gathered_new (a.shown ++ one.text) a.output one.gathers (more-behind a.shown gathered one.text);
         },
       )
 
-  -- the answers to the lines so far, and to none of those behind them
-  pub first-answers : {Failed : Type 0} → (Failed → ⊥) → (later : List Line) → AppendsFirst Failed (AreFirstAnswers A first kept) (lines ++ later) written written_old
-  first-answers no_fault later = record {
-    first = lines;
-    later = later;
-    shown = a.shown;
-    split = refl;
-    is = record { now = now; kept_now = kept_now; answers = a.answers };
-    front = front_all no_fault written written_old a.shown a.output;
-  }
-
-  -- lines that were answered have begun
-  pub begun-by : {Failed : Type 0} → (Failed → ⊥) → Begun Failed A first kept old left left_old written written_old bytes lines
-  begun-by {Failed} no_fault = record {
-    taken = a.taken;
-    output = subst (λ (ls : List Line). AppendsFirst Failed (AreFirstAnswers A first kept) ls written written_old) (append-nil lines) (first-answers no_fault []);
-  }
-
-  -- a front of the answer to one line more
-  pub front-more : {Failed : Type 0} {written_new : Option (List ℕ)} (x : Line) (number : ℕ) → number ≡ length lines + 1 → AppendsAnswerFront Failed A now kept_now number x written_old written_new
+  -- a front of what was gathered and of the answer to one line more
+  front-more : {Failed : Type 0} {written_new : Option (List ℕ)} (x : Line) (number : ℕ) → number ≡ length lines + 1 → AppendsGatheredFront Failed A now kept_now number x written_old written_new gathered
       → AppendsFirst Failed (AreFirstAnswers A first kept) (lines ++ x ∷ []) written written_new
-  front-more {written_new = written_new} x number is (inl nothing) = record {
+  front-more {written_new = written_new} x number is (inl front) = record {
     first = lines;
     later = x ∷ [];
     shown = a.shown;
     split = refl;
     is = record { now = now; kept_now = kept_now; answers = a.answers };
-    front = front_all nothing.1 written written_new a.shown (subst (Appends written written_new) (append-nil a.shown) (Appends-trans written written_old written_new a.shown [] a.output nothing.0));
+    front = front-gathered written written_old written_new a.shown gathered a.output front;
   }
   front-more {written_new = written_new} x number is (inr (text, next, kept_next, one, front)) = record {
     first = lines ++ x ∷ [];
@@ -113,13 +155,13 @@ module _ {C : Type 0} {A : Answering C} {first now : ServiceState} {kept kept_no
       kept_now = kept_next;
       answers = answers-more A first kept 0 lines x a.shown text now kept_now next kept_next a.answers (answer-moved A x text next kept_next refl refl (omega (arith, is)) one);
     };
-    front = front_after written written_old written_new a.shown text a.output front;
+    front = front-more-gathered written written_old written_new a.shown gathered text a.output front;
   }
 
   -- a call that answers one line, of whose answer a front is written
   pub line-begun : {Failed : Type 0} {new : Reader} {left_new written_new : Option (List ℕ)} (x : Line) (number : ℕ)
       → (old.ended ≡ true → left_new ≡ left_old) → GivesNext old new left_old left_new (x ∷ [])
-      → number ≡ length lines + 1 → AppendsAnswerFront Failed A now kept_now number x written_old written_new
+      → number ≡ length lines + 1 → AppendsGatheredFront Failed A now kept_now number x written_old written_new gathered
       → (all : List ℕ) × (ls : List Line) × Begun Failed A first kept new left left_new written written_new all ls
   line-begun x number same gives is front =
       let more = taken-more a.taken same gives in

@@ -3,6 +3,7 @@ pub mod Answered
 pub mod Ends
 pub mod Behind
 pub mod Fronts
+pub mod Gathering
 pub mod InStep
 pub mod Networks
 pub mod OneMore

@@ -28,6 +28,12 @@ pub record AppendsFront (Failed : Type 0) (old new : Option (List ℕ))
   pub all : front ++ rest ≡ bytes
   pub not_all : Failed → 0 < length rest
 
+-- of these bytes a front was written, and the rest is gathered
+pub record Gathers (old new : Option (List ℕ)) (bytes gathered : List ℕ) : Type 0 where
+  pub front : List ℕ
+  pub written : Appends old new front
+  pub all : bytes ≡ front ++ gathered
+
 -- a front of replies to the first of these lines was written, however the later ones would be
 -- answered. `Are` says which bytes are replies to lines that begin an input
 pub record AppendsFirst (Failed : Type 0) (Are : List Line → List ℕ → Type 0) (lines : List Line)
@@ -107,17 +113,19 @@ pub record Begun {C : Type 0} (Failed : Type 0) (A : Answering C) (first : Servi
   pub taken : IsTaken r left left_now bytes lines
   pub output : AppendsFirst Failed (AreFirstAnswers A first kept) lines written written_now
 
--- an answer to a line was written
-pub record AppendsAnswer {C : Type 0} (A : Answering C) (t : ServiceState) (kept : C) (number : ℕ)
-    (x : Line) (now : ServiceState) (kept_now : C) (old new : Option (List ℕ)) : Type 0 where
+-- an answer to a line was written or gathered behind what was gathered
+pub record GathersAnswer {C : Type 0} (A : Answering C) (t : ServiceState) (kept : C) (number : ℕ)
+    (x : Line) (now : ServiceState) (kept_now : C) (old new : Option (List ℕ))
+    (gathered gathered_now : List ℕ) : Type 0 where
   pub text : List ℕ
   pub is : A t kept number x text now kept_now
-  pub written : Appends old new text
+  pub gathers : Gathers old new (gathered ++ text) gathered_now
 
--- a part of an answer to a line was written, or nothing, where no write has `Failed`
-abbrev pub AppendsAnswerFront : {C : Type 0} → Type 0 → Answering C → ServiceState → C → ℕ → Line
-    → Option (List ℕ) → Option (List ℕ) → Type 0
-AppendsAnswerFront {C = C} Failed A t kept number x old new =
-    (Appends old new [] × ¬ Failed)
+-- a front was written of what was gathered, or of that and an answer to a line. Where a write has
+-- `Failed`, it was not all of them
+abbrev pub AppendsGatheredFront : {C : Type 0} → Type 0 → Answering C → ServiceState → C → ℕ
+    → Line → Option (List ℕ) → Option (List ℕ) → List ℕ → Type 0
+AppendsGatheredFront {C = C} Failed A t kept number x old new gathered =
+    AppendsFront Failed old new gathered
     ⊎ ((text : List ℕ) × (now : ServiceState) × (kept_now : C) × A t kept number x text now kept_now
-    × AppendsFront Failed old new text)
+    × AppendsFront Failed old new (gathered ++ text))

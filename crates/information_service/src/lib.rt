@@ -6,6 +6,7 @@ mod answering;
 mod asking;
 mod fault;
 mod following;
+mod gathered;
 mod laws;
 mod lines;
 mod output;

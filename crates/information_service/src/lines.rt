@@ -1,4 +1,4 @@
-//! The lines of the input, each answered at once.
+//! The lines of the input, each answered before more of it is read.
 
 ghost use Rattle.std.specs.Prelude.{◌≡◌, ◌+◌, ◌-◌, ◌<◌, ◌≤◌, ◌^◌, List, ℕ, Some, false, OnOk, IfErr, IsErrOf};
 ghost use Rattle.mt_io.specs.Causes.{IsFull};
@@ -8,34 +8,37 @@ ghost use Rattle.mt_io.specs.Runs.{fresh};
 ghost use Rattle.information_service.specs.Answering.{given_line, HasFewBytes};
 ghost use Rattle.information_service.specs.Causes.{IsNotOfInput, WhereLinesStop, TookAll};
 ghost use Rattle.information_service.specs.Causes.{TookFewer, reads_failed, writes_failed};
-ghost use Rattle.information_service.specs.Fronts.{AppendsAnswer, AppendsAnswerFront, AreAnswered, Begun};
+ghost use Rattle.information_service.specs.Fronts.{AppendsGatheredFront, AreAnswered, Begun, GathersAnswer};
 
 use crate::answering::{AnswerLines, InputLine};
 use crate::fault::LinesFault;
+use crate::gathered::{GATHERED, gather, write_before_read, write_gathered};
 use crate::service::InformationService;
-use crate::writing::write_bytes;
 use mt_io::{LineReader, Next, Sink, Source};
 use std::alloc::Global;
 
-/// Writes the answer to a line of this number.
+/// Gathers the answer to a line of this number. Where there is no memory for it, what is gathered
+/// is written.
 fn answer_line<T: AnswerLines<C>, C, K: Sink>(
     alloc: Global,
     service: &mut InformationService,
     kept: &mut C,
     number: u64,
     line: &InputLine<'_>,
+    gathered: &mut Vec<u8>,
     out: &mut K,
 ) -> Result<(), LinesFault>
     requires count { service.old.count < 2 ^ 64 - 1 }
     requires few { HasFewBytes (given_line line.now) }
     requires fits { T.output.fits service.old kept.old }
 
-    // what is written
-    ensures ok { OnOk result (AppendsAnswer T.output.answers service.old kept.old number
-        (given_line line.now) service.new kept.new (K.written out.old) (K.written out.new)) }
-    ensures front { IfErr result (λ f. AppendsAnswerFront (f ≡ LinesFault.WriteFault)
+    // what is written or gathered
+    ensures ok { OnOk result (GathersAnswer T.output.answers service.old kept.old number
+        (given_line line.now) service.new kept.new (K.written out.old) (K.written out.new)
+        gathered.old.items gathered.new.items) }
+    ensures front { IfErr result (λ f. AppendsGatheredFront (f ≡ LinesFault.WriteFault)
         T.output.answers service.old kept.old number (given_line line.now) (K.written out.old)
-        (K.written out.new)) }
+        (K.written out.new) gathered.old.items) }
     ensures count { service.new.count ≤ service.old.count + 1 }
     ensures fits { OnOk result (T.output.fits service.new kept.new) }
 
@@ -45,15 +48,18 @@ fn answer_line<T: AnswerLines<C>, C, K: Sink>(
     ensures full { IsErrOf result LinesFault.WriteFault
         → IsFull (K.faults out.new) (K.written out.new) }
 {
-    let text = T::answer(alloc, service, kept, number, line)?;
-    write_bytes(text.as_slice(), out)
+    let Ok(text) = T::answer(alloc, service, kept, number, line) else {
+        write_gathered(gathered, out)?;
+        return Err(LinesFault::OutOfMemory);
+    };
+    gather(text.as_slice(), gathered, out)
 }
 
-/// Answers each line of the input, from line 1 on, and writes its answer before the next line is
-/// read, until the input is at its end, for a new reader. It fails with `ReadFault` or `TooLong`
-/// where the reader does, when all lines before are answered, with `WriteFault` where a write of
-/// the output failed, and with `OutOfMemory` where there was none; then the last line may have no
-/// answer, or a part of one.
+/// Answers each line of the input, from line 1 on, and writes its answer before more of the input
+/// is read, until the input is at its end, for a new reader. Answers to lines that the reader holds
+/// are gathered and written together. It fails with `ReadFault` or `TooLong` where the reader does,
+/// when all lines before are answered, with `WriteFault` where a write of the output failed, and
+/// with `OutOfMemory` where there was none; then the last line may have no answer, or a part of one.
 pub(crate) fn answer_lines<T: AnswerLines<C>, C, S: Source, K: Sink>(
     alloc: Global,
     service: &mut InformationService,
@@ -95,8 +101,10 @@ pub(crate) fn answer_lines<T: AnswerLines<C>, C, S: Source, K: Sink>(
     // the reader has its budget
     ensures budget { reader.new.budget ≡ reader.old.budget }
 {
+    let mut gathered = Vec::with_capacity(alloc, GATHERED)?;
     let mut before = 0;
     'lines: loop {
+        write_before_read(reader, &mut gathered, out)?;
         let line = match reader.next(input) {
             Next::Line(bytes) => InputLine::Short(bytes),
             Next::LongLine => InputLine::Long,
@@ -104,7 +112,7 @@ pub(crate) fn answer_lines<T: AnswerLines<C>, C, S: Source, K: Sink>(
             Next::ReadFault => return Err(LinesFault::ReadFault),
             Next::Budget => return Err(LinesFault::TooLong),
         };
-        answer_line::<T, C, K>(alloc, service, kept, before + 1, &line, out)?;
+        answer_line::<T, C, K>(alloc, service, kept, before + 1, &line, &mut gathered, out)?;
         before += 1;
     }
 }

@@ -36,12 +36,12 @@ fn write_beginning<T: AnswerLines<C>, C, K: Sink>(
     write_bytes(text.as_slice(), out)
 }
 
-/// Writes what a command says before the first line of the input, then the answer to each line at
-/// once, and at the end of the input what stands behind the last. It fails with `ReadFault` where a
-/// read of the input failed, and with `TooLong` where `budget` bytes of it were taken and no end
-/// was read; then the lines that are whole among the bytes taken are answered. It fails with
-/// `WriteFault` where a write of the output failed, and with `OutOfMemory` where there was none;
-/// then a front of an output is written. It takes no more than `budget` bytes.
+/// Writes what a command says before the first line of the input, then the answer to each line
+/// before more of the input is read, and at the end of the input what stands behind the last. It
+/// fails with `ReadFault` where a read of the input failed, and with `TooLong` where `budget` bytes
+/// of it were taken and no end was read; then the lines that are whole among the bytes taken are
+/// answered. It fails with `WriteFault` where a write of the output failed, and with `OutOfMemory`
+/// where there was none; then a front of an output is written. It takes no more than `budget` bytes.
 pub fn answer_input<T: AnswerLines<C>, C, S: Source, K: Sink>(
     alloc: Global,
     service: &mut InformationService,

@@ -8,9 +8,10 @@ ghost use Rattle.information_service.specs.Causes.{IsNotOfInput, writes_failed};
 ghost use Rattle.information_service.specs.Fronts.{AppendsFront};
 
 use crate::fault::LinesFault;
+use crate::gathered::{GATHERED, gather, write_gathered};
 use delay_report::{times_header, times_rows};
 use mt_base::numbers::TrainNo;
-use mt_io::{Sink, put};
+use mt_io::Sink;
 use schedule_build::Directory;
 use std::alloc::Global;
 use timetable::Timetable;
@@ -34,10 +35,11 @@ pub fn write_table<K: Sink>(
     ensures full { IsErrOf result LinesFault.WriteFault
         → IsFull (K.faults out.new) (K.written out.new) }
 {
-    put(out, times_header())?;
+    let mut gathered = Vec::with_capacity(alloc, GATHERED)?;
+    gather(times_header(), &mut gathered, out)?;
     for train in 0..timetable.graph().trains().count() {
         let rows = times_rows(alloc, timetable, directory, TrainNo::new(train))?;
-        put(out, rows.as_slice())?;
+        gather(rows.as_slice(), &mut gathered, out)?;
     }
-    Ok(())
+    write_gathered(&mut gathered, out)
 }

@@ -57,10 +57,10 @@ impl AnswerLines<()> for WriteReplies {
     fn networks_are_written_alike() {}
 }
 
-/// Answers each line of the input at once, and at its end writes the table of all times: for a
-/// service that has accepted no message. It fails with `ReadFault` where a read of the input
-/// failed, and with `TooLong` where `budget` bytes of it were taken and no end was read; then the
-/// lines that are whole among the bytes taken are answered. It fails with `WriteFault` where a
+/// Answers each line of the input before more of it is read, and at its end writes the table of all
+/// times: for a service that has accepted no message. It fails with `ReadFault` where a read of the
+/// input failed, and with `TooLong` where `budget` bytes of it were taken and no end was read; then
+/// the lines that are whole among the bytes taken are answered. It fails with `WriteFault` where a
 /// write of the output failed, and with `OutOfMemory` where there was none; then a front of an
 /// output is written. It takes no more than `budget` bytes.
 pub fn write_output<S: Source, K: Sink>(

@@ -1,8 +1,9 @@
 -- Lines by the first LF.
-use Rattle.std.proofs.Common.{◌≡◌, ◌≢◌, ◌⊎◌, inl, inr, ℕ, ◌<◌, ◌≤◌, List, [], ◌∷◌, ◌++◌, length, Bool, true, false, cond, refl, sym, ◌∙◌, ap, arith, append_assoc}
-use Rattle.std.proofs.lemmas.Bool.{cases_eq}
+use Rattle.std.proofs.Common.{◌≡◌, ◌≢◌, ◌⊎◌, inl, inr, ℕ, ◌+◌, ◌-◌, length-drop, Option, Some, None, take, drop, ◌<◌, ◌≤◌, List, [], ◌∷◌, ◌++◌, length, Bool, true, false, cond, refl, sym, ◌∙◌, ap, arith, append_assoc}
+use Rattle.std.specs.Prelude.{MatchOption, is_some}
+use Rattle.std.proofs.lemmas.Bool.{cases_eq, cases_lt}
 use Rattle.std.proofs.lemmas.Bool.Decides.{nat_tests}
-use Rattle.std.proofs.lemmas.List.{append-nil, length-append}
+use Rattle.std.proofs.lemmas.List.{append-nil, length-append, take_all}
 use Rattle.mt_io.specs.Lines.{Line, short, long, line_of, lines_of, lines_among, lines_past, last_counts, pieces, onto, before_lf, after_lf}
 use Rattle.mt_io.specs.Steps.{HasNoLf}
 
@@ -161,3 +162,62 @@ last_line held none some small =
 -- few bytes with no LF are no line, as long as the end was not read
 pub no_line : (held : List ℕ) → HasNoLf held → length held < 65536 → lines_of false held ≡ []
 no_line held none small = lines_one false held none ∙ ap (λ (b : Bool). cond b (line_of held ∷ []) []) (short_counts held small)
+
+-- bytes with an LF begin with a line, and so do 65,536 of them
+pub lf_is_line : (ended : Bool) (xs front back : List ℕ) → HasNoLf front → xs ≡ front ++ 10 ∷ back → ¬ (lines_of ended xs ≡ [])
+lf_is_line ended xs front back none split is =
+    let bad : [] ≡ line_of front ∷ lines_of ended back = sym is ∙ ap (lines_of ended) split ∙ lines_cut ended front back none in
+    absurd (omega (arith, ap length bad))
+
+pub many_are_line : (ended : Bool) (xs rest : List ℕ) → 65536 ≤ length xs → ¬ (lines_of ended (xs ++ rest) ≡ [])
+many_are_line ended xs rest many is = elim (split_lf xs) [
+  | inl found ↦ lf_is_line ended (xs ++ rest) found.0 (found.1 ++ rest) found.2 (ap (λ (l : List ℕ). l ++ rest) found.3 ∙ append_assoc found.0 (10 ∷ found.1) rest) is
+  | inr none ↦
+      let bad : [] ≡ long ∷ lines_past true ended rest = sym is ∙ lines_long ended xs rest none many in
+      absurd (omega (arith, ap length bad))
+]
+
+-- where bytes begin with no line, neither does a front of them
+front_no_line : (ended : Bool) (xs rest : List ℕ) → lines_of ended (xs ++ rest) ≡ [] → lines_of false xs ≡ []
+front_no_line ended xs rest is = elim (split_lf xs) [
+  | inl found ↦ absurd (lf_is_line ended (xs ++ rest) found.0 (found.1 ++ rest) found.2 (ap (λ (l : List ℕ). l ++ rest) found.3 ∙ append_assoc found.0 (10 ∷ found.1) rest) is)
+  | inr none ↦ elim (cases_lt (length xs) 65536) [
+    | inl small ↦ no_line xs none small
+    | inr many ↦ absurd (many_are_line ended xs rest many is)
+  ]
+]
+
+-- by where a search found the first LF, if at all
+pub found_is_line : (o : Option ℕ) (xs : List ℕ) → MatchOption o (HasNoLf xs) (λ i. (i < length xs) × HasNoLf (take i xs) × (xs ≡ take i xs ++ 10 ∷ drop (i + 1) xs))
+    → is_some o ≡ true → ¬ (lines_of false xs ≡ [])
+found_is_line None xs none is = absurd cc
+found_is_line (Some i) xs found is = lf_is_line false xs (take i xs) (drop (i + 1) xs) found.1 found.2
+
+pub none_is_no_line : (o : Option ℕ) (xs : List ℕ) → MatchOption o (HasNoLf xs) (λ i. (i < length xs) × HasNoLf (take i xs) × (xs ≡ take i xs ++ 10 ∷ drop (i + 1) xs))
+    → is_some o ≡ false → length xs < 65536 → lines_of false xs ≡ []
+none_is_no_line None xs none is small = no_line xs none small
+none_is_no_line (Some i) xs found is small = absurd cc
+
+-- behind a long line, by where its LF was found
+pub past_lf : (xs front back : List ℕ) → HasNoLf front → xs ≡ front ++ 10 ∷ back → lines_past true false xs ≡ lines_of false back
+past_lf xs front back none split = ap (λ (l : List ℕ). lines_of false (after_lf l)) split ∙ ap (lines_of false) (after_append front (10 ∷ back) none)
+
+pub past_found : (xs : List ℕ) (i : ℕ) → HasNoLf (take i xs) → xs ≡ take i xs ++ 10 ∷ drop (i + 1) xs → lines_past true false xs ≡ lines_of false (take (length xs - (i + 1)) (drop (i + 1) xs))
+past_found xs i none split =
+    past_lf xs (take i xs) (drop (i + 1) xs) none split ∙ ap (lines_of false) (sym (take_all (length xs - (i + 1)) (drop (i + 1) xs) (omega (arith, length-drop (i + 1) xs))))
+
+pub past_no_lf : (xs : List ℕ) → HasNoLf xs → lines_past true false xs ≡ []
+past_no_lf xs none = ap (lines_of false) (ap after_lf (sym (append-nil xs)) ∙ after_append xs [] none) ∙ none_of_none false
+
+pub front_none_past : (inside ended : Bool) (xs rest : List ℕ) → lines_past inside ended (xs ++ rest) ≡ [] → lines_past inside false xs ≡ []
+front_none_past false ended xs rest is = front_no_line ended xs rest is
+front_none_past true ended xs rest is = elim (split_lf xs) [
+  | inl found ↦
+      let front : List ℕ = found.0 in
+      let back : List ℕ = found.1 in
+      past_lf xs front back found.2 found.3
+      ∙ front_no_line ended back rest
+      (sym (ap (λ (l : List ℕ). lines_of ended (after_lf (l ++ rest))) found.3 ∙ ap (λ (l : List ℕ). lines_of ended (after_lf l)) (append_assoc front (10 ∷ back) rest)
+      ∙ ap (lines_of ended) (after_append front (10 ∷ back ++ rest) found.2)) ∙ is)
+  | inr none ↦ past_no_lf xs none
+]

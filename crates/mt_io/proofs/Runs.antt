@@ -1,12 +1,14 @@
 -- Whole runs of a line reader.
-use Rattle.std.proofs.Common.{◌≡◌, ◌++◌, ◌∷◌, ◌∙◌, ℕ, List, [], length, Bool, true, false, arith, ap, sym, refl, append_assoc}
+use Rattle.std.proofs.Common.{◌≡◌, ◌++◌, ◌∷◌, ◌∙◌, ℕ, List, [], length, Bool, Option, true, false, arith, ap, sym, refl, append_assoc}
 use Rattle.std.proofs.lemmas.List.{append-nil, length-append}
 use Rattle.mt_io.specs.Lines.{Line, short, long, lines_of, lines_past}
-use Rattle.mt_io.specs.Reader.{Reader, ahead}
+use Rattle.mt_io.specs.Answers.{next_lines, LeavesNext}
+use Rattle.mt_io.specs.Reader.{Reader, GivesNext, HoldsNoLine, ahead}
+use Rattle.mt_io.specs.declared.lines.Next.{Next}
 use Rattle.mt_io.specs.Runs.{BeginsWithNone, GoesOnWithEach, EndsWithAll, StopsWithAll, EndsExactly, SpendsExactly}
 use Rattle.mt_io.specs.declared.lines.Next.TheVariants as next
 use Rattle.mt_io.proofs.Gives.{open_ended}
-use Rattle.mt_io.proofs.LineFacts.{none_past}
+use Rattle.mt_io.proofs.LineFacts.{front_none_past, none_past}
 
 pub begins : BeginsWithNone
 begins budget = record { taken = refl; lines_ahead = λ rest ended can. refl }
@@ -52,3 +54,18 @@ spends_exactly old new left now bytes next.LongLine call leaves not_yet spent no
 spends_exactly old new left now bytes next.End call leaves not_yet spent none = open_ended new.ended not_yet leaves.ended
 spends_exactly old new left now bytes next.ReadFault call leaves not_yet spent none = absurd (omega (arith, leaves.taken, spent))
 spends_exactly old new left now bytes next.Budget call leaves not_yet spent none = refl
+
+-- a call that answers no line found none in what was held
+still_none : (old new : Reader) (left left_now : Option (List ℕ)) → GivesNext old new left left_now [] → new.ended ≡ false → HoldsNoLine new → HoldsNoLine old
+still_none old new left now call not_yet none =
+    front_none_past old.inside_long false old.held (call.0 ++ []) (call.1.lines_ahead [] false (λ is. open_ended new.ended not_yet is) ∙ ap (lines_past new.inside_long false) (append-nil new.held) ∙ none)
+
+pub none_was_held : (old new : Reader) (left left_now : Option (List ℕ)) (answer : Next) → GivesNext old new left left_now (next_lines answer) → LeavesNext answer old new
+    → next_lines answer ≡ [] → HoldsNoLine old
+none_was_held old new left now (next.Line line) call leaves is = absurd (omega (arith, ap length is))
+none_was_held old new left now next.LongLine call leaves is = absurd (omega (arith, ap length is))
+none_was_held old new left now next.End call leaves is =
+    front_none_past old.inside_long true old.held (call.0 ++ [])
+    (call.1.lines_ahead [] true (λ _. (refl, refl)) ∙ (λ k. lines_past new.inside_long true (leaves.held k ++ [])) ∙ none_past new.inside_long true)
+none_was_held old new left now next.ReadFault call leaves is = still_none old new left now call leaves.ended leaves.none
+none_was_held old new left now next.Budget call leaves is = still_none old new left now call leaves.ended leaves.none

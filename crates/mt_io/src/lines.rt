@@ -2,6 +2,7 @@
 ghost use Rattle.std.specs.Prelude.{◌≡◌, ◌≢◌, ◌<◌, ◌≤◌, ◌+◌, ◌-◌, ◌++◌, ◌∷◌, [], List, ℕ, Bool, true, false, length, take, drop, Some, IfSome, IfNone, IfOk, OnOk, OnErr, MatchOption, MatchResult, slice_range, vec_len};
 ghost use Rattle.std.specs.Io.KnownBytes.{Consumes, IsAtEnd, Keeps};
 ghost use Rattle.mt_io.specs.Causes.{HasCause, counted};
+ghost use Rattle.mt_io.specs.Lines.{lines_of};
 ghost use Rattle.mt_io.specs.Reader.{Reader, HoldsNoLine, Gives, GivesNext, ahead, work};
 ghost use Rattle.mt_io.specs.Steps.{Buffer, HasNoLf, Waits, SameCounts, Takes, TookNothing};
 
@@ -127,6 +128,21 @@ impl LineReader {
             Found::End => Next::End,
             Found::ReadFault => Next::ReadFault,
             Found::Budget => Next::Budget,
+        }
+    }
+
+    /// Whether a whole line is held, so that the next call answers it and reads nothing.
+    pub fn holds_line(&self) -> bool
+        ensures held { result ≡ true → ¬ (HoldsNoLine self.now) }
+        ensures none { result ≡ false → HoldsNoLine self.now }
+    {
+        let held = &self.buf[self.start..self.end];
+        if !self.inside_long {
+            return has_line(held, self.searched - self.start);
+        }
+        match next_lf(held, 0) {
+            None => false,
+            Some(i) => has_line(&held[i + 1..], 0),
         }
     }
 
@@ -350,6 +366,16 @@ fn read_at<S: Source>(
     ensures cause { HasCause (S.faults source.old) (S.faults source.new) result }
 {
     source.read(&mut bytes[at..at + room])
+}
+
+// Whether bytes begin with a whole line, if no LF stands before the place `from`.
+fn has_line(bytes: &[u8], from: usize) -> bool
+    requires within { from ≤ length bytes.now }
+    requires searched { HasNoLf (take from bytes.now) }
+    ensures held { result ≡ true → ¬ (lines_of false bytes.now ≡ []) }
+    ensures none { result ≡ false → lines_of false bytes.now ≡ [] }
+{
+    bytes.len() >= LONG || next_lf(bytes, from).is_some()
 }
 
 // Where the first LF stands, if none stands before the place `from`.
